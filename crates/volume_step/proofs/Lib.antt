@@ -12,6 +12,7 @@ pub mod KeptEntries
 pub mod KeptFirst
 pub mod KeptLinks
 pub mod Linked
+pub mod Loaded
 pub mod MetNow
 pub mod Putting
 pub mod Ready

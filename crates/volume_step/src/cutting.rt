@@ -14,6 +14,7 @@ ghost use Rattle.volume_base.specs.Service.{IsInService};
 ghost use Rattle.volume_space.specs.Standing.{HoldsOn};
 ghost use Rattle.volume_base.specs.Standing.{IsSettled, StandsOver, own_sectors};
 ghost use Rattle.volume_base.specs.Touching.{Touches};
+ghost use Rattle.volume_step.specs.Loads.{TakesItsLoad};
 ghost use Rattle.volume_step.specs.Steps.{KeepsJournal, ShrinksAs, StepsTo, data_end, data_path, outcome_of};
 
 use crate::answering::refusal;
@@ -102,6 +103,7 @@ fn cut_up_to<P: SectorSpace>(
     ensures capacity { capacity_of volume.new ≡ capacity_of volume.old }
     ensures shrunk { IsTrue (P.SectorView.space space.old).tells → IfOk result (λ outcome. ShrinksAs outcome command.now (P.SectorView.space space.old).content (shrunk_of volume.old) (shrunk_of volume.new)) }
     ensures touches { (committed : Content) → Touches committed (λ s. Contains (own_sectors volume.old) s) (P.SectorView.space space.old) (P.SectorView.space space.new) }
+    ensures loads { IsTrue (P.SectorView.space space.old).tells → IfOk result (λ it. TakesItsLoad it command.now volume.old (P.SectorView.space space.old) (P.SectorView.space space.new)) }
     ensures below { P.SectorView.follows space.old space.new }
     ensures cause { HasTroubleCause (P.SectorView.space space.old).faults (P.SectorView.space space.new).faults result }
 {
@@ -144,6 +146,7 @@ pub(crate) fn cut_first<P: SectorSpace>(
     ensures capacity { capacity_of volume.new ≡ capacity_of volume.old }
     ensures shrunk { IsTrue (P.SectorView.space space.old).tells → IfOk result (λ outcome. ShrinksAs outcome command.now (P.SectorView.space space.old).content (shrunk_of volume.old) (shrunk_of volume.new)) }
     ensures touches { (committed : Content) → Touches committed (λ s. Contains (own_sectors volume.old) s) (P.SectorView.space space.old) (P.SectorView.space space.new) }
+    ensures loads { IsTrue (P.SectorView.space space.old).tells → IfOk result (λ it. TakesItsLoad it command.now volume.old (P.SectorView.space space.old) (P.SectorView.space space.new)) }
     ensures below { P.SectorView.follows space.old space.new }
     ensures cause { HasTroubleCause (P.SectorView.space space.old).faults (P.SectorView.space space.new).faults result }
 {

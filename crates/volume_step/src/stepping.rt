@@ -16,6 +16,8 @@ ghost use Rattle.volume_space.specs.Standing.{HoldsOn};
 ghost use Rattle.volume_base.specs.Standing.{IsSettled, StandsOver};
 ghost use Rattle.volume_base.specs.Touching.{Touches};
 ghost use Rattle.volume_step.specs.Anew.{FitsAnew, IsAnew, IsReadyAlike};
+ghost use Rattle.volume_step.specs.Loads.{IsWithinLoad, TakesItsLoad, leaves_links};
+ghost use Rattle.volume_space.specs.Writing.{IsFilled};
 ghost use Rattle.volume_step.specs.Steps.{Affords, FitsNow, IsDoneOk, IsMet, IsReady, KeepsJournal, OwnOf, PutsNow, ShrinksAs, StepsTo};
 ghost use Rattle.volume_step.specs.declared.outcome.Outcome.TheVariants as outcome;
 
@@ -61,6 +63,7 @@ fn perform_without_data<P: SectorSpace>(
     ensures capacity { capacity_of volume.new ≡ capacity_of volume.old }
     ensures shrunk { IsTrue (P.SectorView.space space.old).tells → IfOk result (λ outcome. ShrinksAs outcome command.now (P.SectorView.space space.old).content (shrunk_of volume.old) (shrunk_of volume.new)) }
     ensures touches { (committed : Content) → Touches committed (OwnOf volume.old volume.new) (P.SectorView.space space.old) (P.SectorView.space space.new) }
+    ensures loads { IsTrue (P.SectorView.space space.old).tells → leaves_links command.now ≡ true → IsWithinLoad command.now volume.old (P.SectorView.space space.old) (P.SectorView.space space.new) }
     ensures below { P.SectorView.follows space.old space.new }
     ensures cause { HasTroubleCause (P.SectorView.space space.old).faults (P.SectorView.space space.new).faults result }
 {
@@ -117,6 +120,7 @@ fn perform<P: SectorSpace>(
     ensures shrunk { IsTrue (P.SectorView.space space.old).tells → IfOk result (λ outcome. ShrinksAs outcome command.now (P.SectorView.space space.old).content (shrunk_of volume.old) (shrunk_of volume.new)) }
     ensures touches { (committed : Content) → HoldsOn committed volume.old → IsLaidOutAs committed volume.old → Touches committed (OwnOf volume.old volume.new) (P.SectorView.space space.old) (P.SectorView.space space.new) }
     ensures same { SameSpace (P.SectorView.space space.old) (P.SectorView.space space.new) }
+    ensures loads { IsTrue (P.SectorView.space space.old).tells → leaves_links command.now ≡ true → IsFilled command.now (P.SectorView.space space.old).content → IsWithinLoad command.now volume.old (P.SectorView.space space.old) (P.SectorView.space space.new) }
     ensures below { P.SectorView.follows space.old space.new }
     ensures cause { HasTroubleCause (P.SectorView.space space.old).faults (P.SectorView.space space.new).faults result }
 {
@@ -157,6 +161,7 @@ fn change<P: SectorSpace>(
     ensures shrunk { IsTrue (P.SectorView.space space.old).tells → IfOk result (λ outcome. ShrinksAs outcome command.now (P.SectorView.space space.old).content (shrunk_of volume.old) (shrunk_of volume.new)) }
     ensures touches { (committed : Content) → HoldsOn committed volume.old → IsLaidOutAs committed volume.old → Touches committed (OwnOf volume.old volume.new) (P.SectorView.space space.old) (P.SectorView.space space.new) }
     ensures same { SameSpace (P.SectorView.space space.old) (P.SectorView.space space.new) }
+    ensures loads { IsTrue (P.SectorView.space space.old).tells → leaves_links command.now ≡ true → IsFilled command.now (P.SectorView.space space.old).content → IfOk result (λ it. TakesItsLoad it command.now volume.old (P.SectorView.space space.old) (P.SectorView.space space.new)) }
     ensures below { P.SectorView.follows space.old space.new }
     ensures cause { HasTroubleCause (P.SectorView.space space.old).faults (P.SectorView.space space.new).faults result }
 {
@@ -208,6 +213,9 @@ pub fn step<P: SectorSpace>(
     // of a content with the volume's blocks.
     ensures touches { (committed : Content) → HoldsOn committed volume.old → IsLaidOutAs committed volume.old → Touches committed (OwnOf volume.old volume.new) (P.SectorView.space space.old) (P.SectorView.space space.new) }
     ensures same { SameSpace (P.SectorView.space space.old) (P.SectorView.space space.new) }
+    // Answered, it takes no more room for puts than its load names, of the blocks that may be taken; of a file that data is put into each overflow
+    // record has an extent in use. What `rm` and `ln` take isn't told.
+    ensures loads { IsTrue (P.SectorView.space space.old).tells → leaves_links command.now ≡ true → IsFilled command.now (P.SectorView.space space.old).content → IfOk result (λ it. TakesItsLoad it command.now volume.old (P.SectorView.space space.old) (P.SectorView.space space.new)) }
     ensures below { P.SectorView.follows space.old space.new }
     ensures cause { HasTroubleCause (P.SectorView.space space.old).faults (P.SectorView.space space.new).faults result }
 {

@@ -1,4 +1,4 @@
-use Rattle.std.proofs.Common.{◌≡◌, subst}
+use Rattle.std.proofs.Common.{◌≡◌, subst, arith}
 use Rattle.std.specs.Prelude.{IfSome, Option, Ok}
 use Rattle.hfs_language.specs.declared.reply.Reply.{Reply}
 use Rattle.volume_runs.specs.Run.{reply_to}
@@ -22,3 +22,12 @@ returns-in-Some-clause-touches g c committed = touches_looks committed _ (g.P.Se
 
 pub returns-in_err-reply-clause-touches : goal.returns-in_err-reply-clause-touches
 returns-in_err-reply-clause-touches g c committed = touches_looks committed _ (g.P.SectorView.space c.args.space.now) (g.P.SectorView.space c.tell.new.space) c.tell.ensures.reads.looks
+
+pub returns-in-Some-clause-spent : goal.returns-in-Some-clause-spent
+returns-in-Some-clause-spent g c = omega (arith, c.tell.ensures.reads.looks.spare)
+
+pub returns-in-None-clause-spent : goal.returns-in-None-clause-spent
+returns-in-None-clause-spent g c = omega (arith, c.tell.ensures.reads.looks.spare)
+
+pub returns-in_err-reply-clause-spent : goal.returns-in_err-reply-clause-spent
+returns-in_err-reply-clause-spent g c = omega (arith, c.tell.ensures.reads.looks.spare)

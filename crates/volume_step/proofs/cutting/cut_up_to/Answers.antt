@@ -2,9 +2,11 @@ use Rattle.std.proofs.Common.{[], sym, ◌∙◌, subst}
 use Rattle.volume_base.specs.Keeping.{shrunk_of}
 use Rattle.volume_base.specs.Room.{capacity_of}
 use Rattle.volume_space.proofs.Sounding.{sound_here}
-use Rattle.volume_step.specs.Steps.{StepsTo}
+use Rattle.volume_step.specs.Steps.{StepsTo, data_path}
 use Rattle.volume_step.specs.declared.outcome.Outcome.{Outcome}
 use Rattle.volume_step.proofs.CutSteps.{cut_shrinks, place_by, steps_by}
+use Rattle.volume_step.specs.Loads.{TakesItsLoad}
+use Rattle.volume_step.proofs.Loaded.{cut_within}
 use Rattle.volume_step.proofs.cutting.cut_up_to.Goals as goal
 
 pub returns-clause-answered : goal.returns-clause-answered
@@ -33,3 +35,8 @@ returns-clause-holds g c committed was = c.cut_for.ensures.used.holds committed 
 
 pub returns-clause-capacity : goal.returns-clause-capacity
 returns-clause-capacity g c = c.cut_for.ensures.used.capacity
+
+pub returns-clause-loads : goal.returns-clause-loads
+returns-clause-loads g c tells =
+    subst (λ (o : Outcome). TakesItsLoad o c.args.command.now c.args.volume.now (g.P.SectorView.space c.args.space.now) (g.P.SectorView.space c.cut_for.new.space)) (sym c.outcome_of.ensures)
+    (cut_within c.in_ok-came.came c.args.command.now c.args.volume.now (g.P.SectorView.space c.args.space.now) (g.P.SectorView.space c.cut_for.new.space) (data_path c.args.command.now) c.args.end c.requires.changes (c.requires.waits tells) (c.in_ok-came.ensures.came tells))

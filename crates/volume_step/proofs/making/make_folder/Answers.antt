@@ -17,6 +17,7 @@ use Rattle.volume_step.specs.Steps.{Affords, KeepsJournal, StepsTo}
 use Rattle.volume_step.specs.declared.outcome.Outcome.TheVariants as outcome
 use Rattle.volume_step.proofs.Done.{mkdir_place, mkdir_steps, holds_kept}
 use Rattle.volume_step.proofs.MetNow.{replied, met_still}
+use Rattle.volume_step.proofs.Loaded.{within, within_reads}
 use Rattle.volume_step.proofs.making.make_folder.Goals as goal
 
 pub returns-clause-answered : goal.returns-clause-answered
@@ -80,3 +81,15 @@ returns-then-not-fits_make-clause-done g c tells met =
 
 pub returns-in_err-reply-clause-below : goal.returns-in_err-reply-clause-below
 returns-in_err-reply-clause-below g c = g.met.P.SectorView.follows_trans c.args.space.now c.change_made.new.space c.mkdir.new.space c.change_made.ensures.below c.mkdir.ensures.below
+
+pub returns-clause-loads : goal.returns-clause-loads
+returns-clause-loads g c tells = within (command.Mkdir c.args.path.now) c.args.volume.now c.change_made.new.self (g.P.SectorView.space c.args.space.now) (g.P.SectorView.space c.change_made.new.space) (g.P.SectorView.space c.mkdir.new.space) c.change_made.ensures.reads tells refl refl (c.requires.affords tells) (c.mkdir.ensures.loads (c.change_made.ensures.reads.looks.same.tells ∙ tells))
+
+pub returns-in_err-reply-clause-loads : goal.returns-in_err-reply-clause-loads
+returns-in_err-reply-clause-loads g c tells = within (command.Mkdir c.args.path.now) c.args.volume.now c.change_made.new.self (g.P.SectorView.space c.args.space.now) (g.P.SectorView.space c.change_made.new.space) (g.P.SectorView.space c.mkdir.new.space) c.change_made.ensures.reads tells refl refl (c.requires.affords tells) (c.mkdir.ensures.loads (c.change_made.ensures.reads.looks.same.tells ∙ tells))
+
+pub returns-in_err-changes-clause-loads : goal.returns-in_err-changes-clause-loads
+returns-in_err-changes-clause-loads g c tells = within_reads (command.Mkdir c.args.path.now) c.args.volume.now c.change_made.new.self (g.P.SectorView.space c.args.space.now) (g.P.SectorView.space c.change_made.new.space) c.change_made.ensures.reads
+
+pub returns-then-not-fits_make-clause-loads : goal.returns-then-not-fits_make-clause-loads
+returns-then-not-fits_make-clause-loads g c tells = within_reads (command.Mkdir c.args.path.now) c.args.volume.now c.change_made.new.self (g.P.SectorView.space c.args.space.now) (g.P.SectorView.space c.change_made.new.space) c.change_made.ensures.reads

@@ -15,6 +15,7 @@ use Rattle.volume_step.specs.Steps.{Affords, KeepsJournal, StepsTo}
 use Rattle.volume_step.specs.declared.outcome.Outcome.TheVariants as outcome
 use Rattle.volume_step.proofs.Done.{move_place, move_steps, holds_kept}
 use Rattle.volume_step.proofs.MetNow.{replied, met_still}
+use Rattle.volume_step.proofs.Loaded.{within, within_reads}
 use Rattle.volume_step.proofs.making.move_entry.Goals as goal
 
 pub returns-clause-answered : goal.returns-clause-answered
@@ -78,3 +79,15 @@ returns-then-not-fits_move-clause-done g c tells met =
 
 pub returns-in_err-reply-clause-below : goal.returns-in_err-reply-clause-below
 returns-in_err-reply-clause-below g c = g.met.P.SectorView.follows_trans c.args.space.now c.change_moved.new.space c.mv.new.space c.change_moved.ensures.below c.mv.ensures.below
+
+pub returns-clause-loads : goal.returns-clause-loads
+returns-clause-loads g c tells = within (command.Mv c.args.from.now c.args.to.now) c.args.volume.now c.change_moved.new.self (g.P.SectorView.space c.args.space.now) (g.P.SectorView.space c.change_moved.new.space) (g.P.SectorView.space c.mv.new.space) c.change_moved.ensures.reads tells refl refl (c.requires.affords tells) (c.mv.ensures.loads (c.change_moved.ensures.reads.looks.same.tells ∙ tells))
+
+pub returns-in_err-reply-clause-loads : goal.returns-in_err-reply-clause-loads
+returns-in_err-reply-clause-loads g c tells = within (command.Mv c.args.from.now c.args.to.now) c.args.volume.now c.change_moved.new.self (g.P.SectorView.space c.args.space.now) (g.P.SectorView.space c.change_moved.new.space) (g.P.SectorView.space c.mv.new.space) c.change_moved.ensures.reads tells refl refl (c.requires.affords tells) (c.mv.ensures.loads (c.change_moved.ensures.reads.looks.same.tells ∙ tells))
+
+pub returns-in_err-changes-clause-loads : goal.returns-in_err-changes-clause-loads
+returns-in_err-changes-clause-loads g c tells = within_reads (command.Mv c.args.from.now c.args.to.now) c.args.volume.now c.change_moved.new.self (g.P.SectorView.space c.args.space.now) (g.P.SectorView.space c.change_moved.new.space) c.change_moved.ensures.reads
+
+pub returns-then-not-fits_move-clause-loads : goal.returns-then-not-fits_move-clause-loads
+returns-then-not-fits_move-clause-loads g c tells = within_reads (command.Mv c.args.from.now c.args.to.now) c.args.volume.now c.change_moved.new.self (g.P.SectorView.space c.args.space.now) (g.P.SectorView.space c.change_moved.new.space) c.change_moved.ensures.reads

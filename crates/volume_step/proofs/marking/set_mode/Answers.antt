@@ -15,6 +15,7 @@ use Rattle.volume_step.specs.declared.outcome.Outcome.TheVariants as outcome
 use Rattle.volume_step.proofs.Done.{chmod_place, chmod_steps, holds_kept}
 use Rattle.volume_step.proofs.MetNow.{replied}
 use Rattle.volume_step.proofs.Ready.{update_fits}
+use Rattle.volume_step.proofs.Loaded.{within, within_reads}
 use Rattle.volume_step.proofs.marking.set_mode.Goals as goal
 
 pub returns-clause-answered : goal.returns-clause-answered
@@ -65,3 +66,15 @@ returns-clause-done g c tells met =
 pub returns-then-not-fits_update-clause-done : goal.returns-then-not-fits_update-clause-done
 returns-then-not-fits_update-clause-done g c tells met =
     absurd (true≢false (sym (c.fits_update.ensures.met (update_fits (command.Chmod c.args.path.now c.args.rights) c.args.volume.now c.change_at.new.self (g.P.SectorView.space c.args.space.now) (g.P.SectorView.space c.change_at.new.space) c.change_at.ensures.reads tells (c.change_at.ensures.settled tells) refl met)) ∙ c.if-not-fits_update.true))
+
+pub returns-clause-loads : goal.returns-clause-loads
+returns-clause-loads g c tells = within (command.Chmod c.args.path.now c.args.rights) c.args.volume.now c.change_at.new.self (g.P.SectorView.space c.args.space.now) (g.P.SectorView.space c.change_at.new.space) (g.P.SectorView.space c.chmod.new.space) c.change_at.ensures.reads tells refl refl (c.requires.affords tells) (c.chmod.ensures.loads (c.change_at.ensures.reads.looks.same.tells ∙ tells))
+
+pub returns-in_err-reply-clause-loads : goal.returns-in_err-reply-clause-loads
+returns-in_err-reply-clause-loads g c tells = within (command.Chmod c.args.path.now c.args.rights) c.args.volume.now c.change_at.new.self (g.P.SectorView.space c.args.space.now) (g.P.SectorView.space c.change_at.new.space) (g.P.SectorView.space c.chmod.new.space) c.change_at.ensures.reads tells refl refl (c.requires.affords tells) (c.chmod.ensures.loads (c.change_at.ensures.reads.looks.same.tells ∙ tells))
+
+pub returns-in_err-changes-clause-loads : goal.returns-in_err-changes-clause-loads
+returns-in_err-changes-clause-loads g c tells = within_reads (command.Chmod c.args.path.now c.args.rights) c.args.volume.now c.change_at.new.self (g.P.SectorView.space c.args.space.now) (g.P.SectorView.space c.change_at.new.space) c.change_at.ensures.reads
+
+pub returns-then-not-fits_update-clause-loads : goal.returns-then-not-fits_update-clause-loads
+returns-then-not-fits_update-clause-loads g c tells = within_reads (command.Chmod c.args.path.now c.args.rights) c.args.volume.now c.change_at.new.self (g.P.SectorView.space c.args.space.now) (g.P.SectorView.space c.change_at.new.space) c.change_at.ensures.reads

@@ -15,6 +15,7 @@ use Rattle.volume_step.specs.Steps.{Affords, KeepsJournal, StepsTo}
 use Rattle.volume_step.specs.declared.outcome.Outcome.TheVariants as outcome
 use Rattle.volume_step.proofs.Done.{delete_place, delete_steps, holds_kept}
 use Rattle.volume_step.proofs.MetNow.{replied, met_still}
+use Rattle.volume_step.proofs.Loaded.{within, within_reads}
 use Rattle.volume_step.proofs.owning.delete_attribute.Goals as goal
 
 pub returns-clause-answered : goal.returns-clause-answered
@@ -66,3 +67,15 @@ returns-clause-done g c tells met =
 pub returns-then-not-fits_delattr-clause-done : goal.returns-then-not-fits_delattr-clause-done
 returns-then-not-fits_delattr-clause-done g c tells met =
     absurd (true≢false (sym (c.fits_delattr.ensures.met (c.change_at.ensures.reads.looks.same.tells ∙ tells) (met_still c.args.volume.now c.change_at.new.self (g.P.SectorView.space c.args.space.now) (g.P.SectorView.space c.change_at.new.space) c.change_at.ensures.reads tells (edits 0 0 1 1) met)) ∙ c.if-not-fits_delattr.true))
+
+pub returns-clause-loads : goal.returns-clause-loads
+returns-clause-loads g c tells = within (command.DelAttr c.args.path.now c.args.name.now) c.args.volume.now c.change_at.new.self (g.P.SectorView.space c.args.space.now) (g.P.SectorView.space c.change_at.new.space) (g.P.SectorView.space c.delattr.new.space) c.change_at.ensures.reads tells refl refl (c.requires.affords tells) (c.delattr.ensures.loads (c.change_at.ensures.reads.looks.same.tells ∙ tells))
+
+pub returns-in_err-reply-clause-loads : goal.returns-in_err-reply-clause-loads
+returns-in_err-reply-clause-loads g c tells = within (command.DelAttr c.args.path.now c.args.name.now) c.args.volume.now c.change_at.new.self (g.P.SectorView.space c.args.space.now) (g.P.SectorView.space c.change_at.new.space) (g.P.SectorView.space c.delattr.new.space) c.change_at.ensures.reads tells refl refl (c.requires.affords tells) (c.delattr.ensures.loads (c.change_at.ensures.reads.looks.same.tells ∙ tells))
+
+pub returns-in_err-changes-clause-loads : goal.returns-in_err-changes-clause-loads
+returns-in_err-changes-clause-loads g c tells = within_reads (command.DelAttr c.args.path.now c.args.name.now) c.args.volume.now c.change_at.new.self (g.P.SectorView.space c.args.space.now) (g.P.SectorView.space c.change_at.new.space) c.change_at.ensures.reads
+
+pub returns-then-not-fits_delattr-clause-loads : goal.returns-then-not-fits_delattr-clause-loads
+returns-then-not-fits_delattr-clause-loads g c tells = within_reads (command.DelAttr c.args.path.now c.args.name.now) c.args.volume.now c.change_at.new.self (g.P.SectorView.space c.args.space.now) (g.P.SectorView.space c.change_at.new.space) c.change_at.ensures.reads

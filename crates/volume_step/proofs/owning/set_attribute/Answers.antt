@@ -15,6 +15,7 @@ use Rattle.volume_step.specs.Steps.{Affords, KeepsJournal, StepsTo}
 use Rattle.volume_step.specs.declared.outcome.Outcome.TheVariants as outcome
 use Rattle.volume_step.proofs.Done.{set_place, set_steps, holds_kept}
 use Rattle.volume_step.proofs.MetNow.{done_ok, met_still, set_fine}
+use Rattle.volume_step.proofs.Loaded.{within, within_reads}
 use Rattle.volume_step.proofs.owning.set_attribute.Goals as goal
 
 pub returns-clause-answered : goal.returns-clause-answered
@@ -68,3 +69,15 @@ returns-clause-done g c tells met =
 pub returns-then-not-fits_setattr-clause-done : goal.returns-then-not-fits_setattr-clause-done
 returns-then-not-fits_setattr-clause-done g c tells met =
     absurd (true≢false (sym (c.fits_setattr.ensures.met (c.change_at.ensures.reads.looks.same.tells ∙ tells) (met_still c.args.volume.now c.change_at.new.self (g.P.SectorView.space c.args.space.now) (g.P.SectorView.space c.change_at.new.space) c.change_at.ensures.reads tells (edits 0 0 2 1) met)) ∙ c.if-not-fits_setattr.true))
+
+pub returns-clause-loads : goal.returns-clause-loads
+returns-clause-loads g c tells = within (command.SetAttr c.args.path.now c.args.name.now c.args.value.now) c.args.volume.now c.change_at.new.self (g.P.SectorView.space c.args.space.now) (g.P.SectorView.space c.change_at.new.space) (g.P.SectorView.space c.setattr.new.space) c.change_at.ensures.reads tells refl refl (c.requires.affords tells) (c.setattr.ensures.loads (c.change_at.ensures.reads.looks.same.tells ∙ tells))
+
+pub returns-in_err-reply-clause-loads : goal.returns-in_err-reply-clause-loads
+returns-in_err-reply-clause-loads g c tells = within (command.SetAttr c.args.path.now c.args.name.now c.args.value.now) c.args.volume.now c.change_at.new.self (g.P.SectorView.space c.args.space.now) (g.P.SectorView.space c.change_at.new.space) (g.P.SectorView.space c.setattr.new.space) c.change_at.ensures.reads tells refl refl (c.requires.affords tells) (c.setattr.ensures.loads (c.change_at.ensures.reads.looks.same.tells ∙ tells))
+
+pub returns-in_err-changes-clause-loads : goal.returns-in_err-changes-clause-loads
+returns-in_err-changes-clause-loads g c tells = within_reads (command.SetAttr c.args.path.now c.args.name.now c.args.value.now) c.args.volume.now c.change_at.new.self (g.P.SectorView.space c.args.space.now) (g.P.SectorView.space c.change_at.new.space) c.change_at.ensures.reads
+
+pub returns-then-not-fits_setattr-clause-loads : goal.returns-then-not-fits_setattr-clause-loads
+returns-then-not-fits_setattr-clause-loads g c tells = within_reads (command.SetAttr c.args.path.now c.args.name.now c.args.value.now) c.args.volume.now c.change_at.new.self (g.P.SectorView.space c.args.space.now) (g.P.SectorView.space c.change_at.new.space) c.change_at.ensures.reads

@@ -15,6 +15,7 @@ use Rattle.hfs_volume.specs.TreeOf.{tree_of}
 use Rattle.hfs_volume.specs.Weight.{Edits, edits}
 use Rattle.volume_base.specs.Fitting.{AreMet}
 use Rattle.volume_step.proofs.MetNow.{met_still, removal_edits, removes_one}
+use Rattle.volume_step.proofs.Loaded.{within_behind, within_reads}
 use Rattle.volume_step.proofs.removing.remove_folder.Goals as goal
 
 pub remove_with-requires-clause-affords : goal.remove_with-requires-clause-affords
@@ -51,3 +52,10 @@ returns-clause-done g c tells met =
     c.remove_with.ensures.done (c.bare_count.ensures.reads.looks.same.tells ∙ tells)
     (met_still c.args.volume.now c.bare_count.new.volume (g.P.SectorView.space c.args.space.now) (g.P.SectorView.space c.bare_count.new.space) c.bare_count.ensures.reads tells (edits 0 2 c.in_ok-many.many 1) (subst (λ (e : Edits). AreMet e c.args.volume.now (g.P.SectorView.space c.args.space.now)) (removal_edits tree c.args.path.now one.0 one.1 ∙ (λ i. edits 0 2 (sym many i) 1)) met))
     (λ lacks. c.in_ok-many.ensures.none tells (sym (ap (λ (l : VolumeState). has_attributes l.head) (c.requires.settled tells).lists) ∙ ap (λ (k : Content). has_attributes (volume_of k).head) (sym (c.bare_count.ensures.reads.looks.content tells)) ∙ lacks))
+
+pub returns-clause-loads : goal.returns-clause-loads
+returns-clause-loads g c tells =
+    within_behind (command.Rmdir c.args.path.now) c.args.volume.now c.bare_count.new.volume (g.P.SectorView.space c.args.space.now) (g.P.SectorView.space c.bare_count.new.space) (g.P.SectorView.space c.remove_with.new.space) c.bare_count.ensures.reads tells (c.remove_with.ensures.loads (c.bare_count.ensures.reads.looks.same.tells ∙ tells))
+
+pub returns-in_err-many-clause-loads : goal.returns-in_err-many-clause-loads
+returns-in_err-many-clause-loads g c tells = within_reads (command.Rmdir c.args.path.now) c.args.volume.now c.bare_count.new.volume (g.P.SectorView.space c.args.space.now) (g.P.SectorView.space c.bare_count.new.space) c.bare_count.ensures.reads

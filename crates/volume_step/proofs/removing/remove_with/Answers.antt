@@ -17,6 +17,7 @@ use Rattle.hfs_volume.specs.Content.{VolumeState, has_attributes}
 use Rattle.hfs_volume.specs.Weight.{edits}
 use Rattle.volume_header.specs.declared.header.VolumeHeader.{VolumeHeader}
 use Rattle.volume_step.proofs.MetNow.{bare_fewer, fewer_are, met_still, replied}
+use Rattle.volume_step.proofs.Loaded.{within, within_reads}
 use Rattle.volume_step.proofs.removing.remove_with.Goals as goal
 
 pub returns-clause-answered : goal.returns-clause-answered
@@ -92,3 +93,18 @@ returns-then-not-fits_bare-clause-done g c tells met none =
     (λ lacks. none (ap (λ (l : VolumeState). has_attributes l.head) (c.requires.settled tells).lists ∙ sym (ap (λ (h : VolumeHeader). has_attributes h) c.change_at.ensures.reads.keeps.header) ∙ lacks))
     (met_still c.args.volume.now c.change_at.new.self (g.P.SectorView.space c.args.space.now) (g.P.SectorView.space c.change_at.new.space) c.change_at.ensures.reads tells (edits 0 2 c.args.many 1) met))
     ∙ c.if-not-fits_bare.true))
+
+pub returns-clause-loads : goal.returns-clause-loads
+returns-clause-loads g c tells = within (command.Rmdir c.args.path.now) c.args.volume.now c.change_at.new.self (g.P.SectorView.space c.args.space.now) (g.P.SectorView.space c.change_at.new.space) (g.P.SectorView.space c.rmdir.new.space) c.change_at.ensures.reads tells refl refl (c.requires.affords tells) (c.rmdir.ensures.loads (c.change_at.ensures.reads.looks.same.tells ∙ tells))
+
+pub returns-in_err-reply-clause-loads : goal.returns-in_err-reply-clause-loads
+returns-in_err-reply-clause-loads g c tells = within (command.Rmdir c.args.path.now) c.args.volume.now c.change_at.new.self (g.P.SectorView.space c.args.space.now) (g.P.SectorView.space c.change_at.new.space) (g.P.SectorView.space c.rmdir.new.space) c.change_at.ensures.reads tells refl refl (c.requires.affords tells) (c.rmdir.ensures.loads (c.change_at.ensures.reads.looks.same.tells ∙ tells))
+
+pub returns-in_err-changes-clause-loads : goal.returns-in_err-changes-clause-loads
+returns-in_err-changes-clause-loads g c tells = within_reads (command.Rmdir c.args.path.now) c.args.volume.now c.change_at.new.self (g.P.SectorView.space c.args.space.now) (g.P.SectorView.space c.change_at.new.space) c.change_at.ensures.reads
+
+pub returns-then-not-fits_remove-clause-loads : goal.returns-then-not-fits_remove-clause-loads
+returns-then-not-fits_remove-clause-loads g c tells = within_reads (command.Rmdir c.args.path.now) c.args.volume.now c.change_at.new.self (g.P.SectorView.space c.args.space.now) (g.P.SectorView.space c.change_at.new.space) c.change_at.ensures.reads
+
+pub returns-then-not-fits_bare-clause-loads : goal.returns-then-not-fits_bare-clause-loads
+returns-then-not-fits_bare-clause-loads g c tells = within_reads (command.Rmdir c.args.path.now) c.args.volume.now c.change_at.new.self (g.P.SectorView.space c.args.space.now) (g.P.SectorView.space c.change_at.new.space) c.change_at.ensures.reads

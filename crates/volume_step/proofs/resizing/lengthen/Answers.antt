@@ -19,6 +19,8 @@ use Rattle.volume_step.proofs.Done.{holds_kept, same_place}
 use Rattle.volume_step.proofs.Putting.{size_place, size_steps}
 use Rattle.volume_step.proofs.Widening.{laid_still}
 use Rattle.volume_step.proofs.ReadyData.{data_still, put_none}
+use Rattle.volume_space.specs.Writing.{IsFilled}
+use Rattle.volume_step.proofs.Loaded.{within_behind, within_reads}
 use Rattle.volume_step.proofs.resizing.lengthen.Goals as goal
 
 pub lengthen-requires-clause-closed : goal.lengthen-requires-clause-closed
@@ -98,3 +100,21 @@ pub returns-in-None-clause-puts : goal.returns-in-None-clause-puts
 returns-in-None-clause-puts g c tells met =
     absurd (put_none c.in_ok-reply.field-0 _ c.in-None.is (c.in_ok-reply.ensures.met (c.change_at.ensures.reads.looks.same.tells ∙ tells))
     (data_still (command.Trunc c.args.path.now c.args.size) c.args.volume.now c.change_at.new.self (g.P.SectorView.space c.args.space.now) (g.P.SectorView.space c.change_at.new.space) c.change_at.ensures.reads tells met))
+
+pub returns-in-Some-clause-loads : goal.returns-in-Some-clause-loads
+returns-in-Some-clause-loads g c tells filled =
+    within_behind (command.Trunc c.args.path.now c.args.size) c.args.volume.now c.change_at.new.self (g.P.SectorView.space c.args.space.now) (g.P.SectorView.space c.change_at.new.space) (g.P.SectorView.space c.lengthen.new.space) c.change_at.ensures.reads tells
+    (λ load grow is. c.lengthen.ensures.loads (c.change_at.ensures.reads.looks.same.tells ∙ tells) (subst (λ (k : Content). IsFilled (command.Trunc c.args.path.now c.args.size) k) (sym (c.change_at.ensures.reads.looks.content tells)) filled) load grow is)
+
+pub returns-in-None-clause-loads : goal.returns-in-None-clause-loads
+returns-in-None-clause-loads g c tells filled =
+    within_behind (command.Trunc c.args.path.now c.args.size) c.args.volume.now c.change_at.new.self (g.P.SectorView.space c.args.space.now) (g.P.SectorView.space c.change_at.new.space) (g.P.SectorView.space c.lengthen.new.space) c.change_at.ensures.reads tells
+    (λ load grow is. c.lengthen.ensures.loads (c.change_at.ensures.reads.looks.same.tells ∙ tells) (subst (λ (k : Content). IsFilled (command.Trunc c.args.path.now c.args.size) k) (sym (c.change_at.ensures.reads.looks.content tells)) filled) load grow is)
+
+pub returns-in_err-reply-clause-loads : goal.returns-in_err-reply-clause-loads
+returns-in_err-reply-clause-loads g c tells filled =
+    within_behind (command.Trunc c.args.path.now c.args.size) c.args.volume.now c.change_at.new.self (g.P.SectorView.space c.args.space.now) (g.P.SectorView.space c.change_at.new.space) (g.P.SectorView.space c.lengthen.new.space) c.change_at.ensures.reads tells
+    (λ load grow is. c.lengthen.ensures.loads (c.change_at.ensures.reads.looks.same.tells ∙ tells) (subst (λ (k : Content). IsFilled (command.Trunc c.args.path.now c.args.size) k) (sym (c.change_at.ensures.reads.looks.content tells)) filled) load grow is)
+
+pub returns-in_err-changes-clause-loads : goal.returns-in_err-changes-clause-loads
+returns-in_err-changes-clause-loads g c tells filled = within_reads (command.Trunc c.args.path.now c.args.size) c.args.volume.now c.change_at.new.self (g.P.SectorView.space c.args.space.now) (g.P.SectorView.space c.change_at.new.space) c.change_at.ensures.reads

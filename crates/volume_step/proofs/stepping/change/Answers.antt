@@ -17,6 +17,8 @@ use Rattle.volume_step.proofs.GrowthThere.{growth_there}
 use Rattle.volume_step.proofs.Ready.{now_still, wants_now}
 use Rattle.volume_step.proofs.ReadyData.{puts_still}
 use Rattle.volume_step.proofs.AnewReady.{fits_alike, wants_alike}
+use Rattle.volume_space.specs.Writing.{IsFilled}
+use Rattle.volume_step.proofs.Loaded.{takes_any, takes_behind, takes_one, within_behind, within_reads}
 use Rattle.volume_step.proofs.stepping.change.Goals as goal
 
 pub perform-requires-clause-closed : goal.perform-requires-clause-closed
@@ -208,3 +210,20 @@ returns-in-Fits-clause-alike g c tells it =
       | inl now ↦ c.perform.ensures.ready later c.requires.changes now.0 now.1
       | inr puts ↦ c.perform.ensures.puts later puts
     ]
+
+pub returns-in-Fits-clause-loads : goal.returns-in-Fits-clause-loads
+returns-in-Fits-clause-loads g c tells leaves filled =
+    takes_any c.perform.result c.args.command.now c.args.volume.now (g.P.SectorView.space c.args.space.now) (g.P.SectorView.space c.perform.new.space)
+    (within_behind c.args.command.now c.args.volume.now c.judge.new.volume (g.P.SectorView.space c.args.space.now) (g.P.SectorView.space c.judge.new.space) (g.P.SectorView.space c.perform.new.space) c.judge.ensures.reads tells
+    (c.perform.ensures.loads (c.judge.ensures.reads.looks.same.tells ∙ tells) leaves (subst (λ (k : Content). IsFilled c.args.command.now k) (sym (c.judge.ensures.reads.looks.content tells)) filled)))
+
+pub returns-in-Refused-clause-loads : goal.returns-in-Refused-clause-loads
+returns-in-Refused-clause-loads g c tells leaves filled = takes_one c.refusal.result c.args.command.now c.args.volume.now (g.P.SectorView.space c.args.space.now) (g.P.SectorView.space c.judge.new.space) (within_reads c.args.command.now c.args.volume.now c.judge.new.volume (g.P.SectorView.space c.args.space.now) (g.P.SectorView.space c.judge.new.space) c.judge.ensures.reads)
+
+pub returns-in-CutFirst-clause-loads : goal.returns-in-CutFirst-clause-loads
+returns-in-CutFirst-clause-loads g c tells leaves filled =
+    takes_behind c.cut_first.result c.args.command.now c.args.volume.now c.judge.new.volume (g.P.SectorView.space c.args.space.now) (g.P.SectorView.space c.judge.new.space) (g.P.SectorView.space c.cut_first.new.space) c.judge.ensures.reads tells (c.cut_first.ensures.loads (c.judge.ensures.reads.looks.same.tells ∙ tells))
+
+pub returns-in-Grows-clause-loads : goal.returns-in-Grows-clause-loads
+returns-in-Grows-clause-loads g c tells leaves filled =
+    takes_behind c.grow_first.result c.args.command.now c.args.volume.now c.judge.new.volume (g.P.SectorView.space c.args.space.now) (g.P.SectorView.space c.judge.new.space) (g.P.SectorView.space c.grow_first.new.space) c.judge.ensures.reads tells c.grow_first.ensures.loads

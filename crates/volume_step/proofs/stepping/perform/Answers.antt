@@ -1,4 +1,4 @@
-use Rattle.std.proofs.Common.{rules, ◌≡◌, true, [], ap, subst, sym}
+use Rattle.std.proofs.Common.{rules, ◌≡◌, true, [], ap, subst, sym, ℕ, List}
 use Rattle.std.specs.Prelude.{IfOk, None, Ok}
 use Rattle.hfs_language.specs.declared.command.Command.{Command}
 use Rattle.volume_runs.specs.Run.{shrunk_by}
@@ -6,11 +6,13 @@ use Rattle.hfs_volume.specs.Content.{volume_of}
 use Rattle.hfs_volume.specs.TreeOf.{tree_of}
 use Rattle.volume_base.specs.Keeping.{shrunk_of}
 use Rattle.hfs_volume.specs.Weight.{data_of}
-use Rattle.volume_space.specs.Writing.{is_data_met}
+use Rattle.volume_space.specs.Writing.{is_data_met, IsFilled}
 use Rattle.volume_step.specs.Steps.{IsMet, ShrinksAs}
 use Rattle.volume_step.proofs.Widening.{keeps_shrunk, touches_own}
 use Rattle.volume_step.proofs.Ready.{done_now, met_now}
 use Rattle.volume_step.proofs.ReadyData.{puts_data_now}
+use Rattle.volume_step.specs.Loads.{IsWithinLoad}
+use Rattle.hfs_language.specs.declared.command.Command.TheVariants as command
 use Rattle.volume_step.proofs.stepping.perform.Goals as goal
 
 pub returns-in-Trunc-clause-shrunk : goal.returns-in-Trunc-clause-shrunk
@@ -54,3 +56,16 @@ returns-in-Write-clause-puts g c tells puts = c.write_value.ensures.puts tells (
 pub returns-in_default-clause-puts : goal.returns-in_default-clause-puts
 returns-in_default-clause-puts g c tells puts =
     puts_data_now c.args.volume.now (g.P.SectorView.space c.args.space.now) c.args.command.now puts c.perform_without_data.result c.perform_without_data.ensures.plain
+
+pub returns-in-Trunc-clause-loads : goal.returns-in-Trunc-clause-loads
+returns-in-Trunc-clause-loads g c tells leaves filled =
+    subst (λ (k : Command). IsWithinLoad k c.args.volume.now (g.P.SectorView.space c.args.space.now) (g.P.SectorView.space c.resize.new.space)) (sym c.in-Trunc.is) (c.resize.ensures.loads tells (subst (λ (k : Command). IsFilled k (g.P.SectorView.space c.args.space.now).content) c.in-Trunc.is filled))
+
+pub returns-in-Write-clause-loads : goal.returns-in-Write-clause-loads
+returns-in-Write-clause-loads g c tells leaves filled =
+    subst (λ (k : Command). IsWithinLoad k c.args.volume.now (g.P.SectorView.space c.args.space.now) (g.P.SectorView.space c.write_value.new.space)) (sym c.in-Write.is)
+    (subst (λ (l : List ℕ). IsWithinLoad (command.Write c.in-Write.path c.in-Write.from l) c.args.volume.now (g.P.SectorView.space c.args.space.now) (g.P.SectorView.space c.write_value.new.space)) c.as_slice.ensures
+    (c.write_value.ensures.loads tells (subst (λ (l : List ℕ). IsFilled (command.Write c.in-Write.path c.in-Write.from l) (g.P.SectorView.space c.args.space.now).content) (sym c.as_slice.ensures) (subst (λ (k : Command). IsFilled k (g.P.SectorView.space c.args.space.now).content) c.in-Write.is filled))))
+
+pub returns-in_default-clause-loads : goal.returns-in_default-clause-loads
+returns-in_default-clause-loads g c tells leaves filled = c.perform_without_data.ensures.loads tells leaves

@@ -1,4 +1,4 @@
-use Rattle.std.proofs.Common.{ap}
+use Rattle.std.proofs.Common.{ap, sym, ◌∙◌, subst, ℕ, List}
 use Rattle.std.specs.Prelude.{Ok}
 use Rattle.hfs_language.specs.declared.command.Command.{Command}
 use Rattle.volume_runs.specs.Run.{shrunk_by}
@@ -7,6 +7,9 @@ use Rattle.hfs_volume.specs.Weight.{data_of}
 use Rattle.volume_base.specs.Keeping.{shrunk_of}
 use Rattle.volume_step.proofs.Widening.{keeps_shrunk, touches_own}
 use Rattle.volume_step.proofs.ReadyData.{any_ok}
+use Rattle.std.proofs.lemmas.Bool.{true≢false}
+use Rattle.volume_step.specs.Loads.{leaves_links, IsWithinLoad}
+use Rattle.hfs_language.specs.declared.command.Command.TheVariants as command
 use Rattle.volume_step.proofs.stepping.perform_without_data.Goals as goal
 
 pub returns-in-At-clause-shrunk : goal.returns-in-At-clause-shrunk
@@ -100,3 +103,33 @@ returns-in-Rm-clause-plain g c = any_ok c.remove_file.result (λ tree. ap (λ (k
 
 pub returns-in-Ln-clause-plain : goal.returns-in-Ln-clause-plain
 returns-in-Ln-clause-plain g c = any_ok c.link_file.result (λ tree. ap (λ (k : Command). data_of tree k) c.in-Ln.is)
+
+pub returns-in-Rm-clause-loads : goal.returns-in-Rm-clause-loads
+returns-in-Rm-clause-loads g c tells leaves = absurd (true≢false (sym leaves ∙ ap leaves_links c.in-Rm.is))
+
+pub returns-in-Ln-clause-loads : goal.returns-in-Ln-clause-loads
+returns-in-Ln-clause-loads g c tells leaves = absurd (true≢false (sym leaves ∙ ap leaves_links c.in-Ln.is))
+
+pub returns-in-At-clause-loads : goal.returns-in-At-clause-loads
+returns-in-At-clause-loads g c tells leaves = subst (λ (k : Command). IsWithinLoad k c.args.volume.now (g.P.SectorView.space c.args.space.now) (g.P.SectorView.space c.date.new.space)) (sym c.in-At.is) (c.date.ensures.loads tells)
+
+pub returns-in-Chmod-clause-loads : goal.returns-in-Chmod-clause-loads
+returns-in-Chmod-clause-loads g c tells leaves = subst (λ (k : Command). IsWithinLoad k c.args.volume.now (g.P.SectorView.space c.args.space.now) (g.P.SectorView.space c.set_mode.new.space)) (sym c.in-Chmod.is) (c.set_mode.ensures.loads tells)
+
+pub returns-in-SetAttr-clause-loads : goal.returns-in-SetAttr-clause-loads
+returns-in-SetAttr-clause-loads g c tells leaves = subst (λ (k : Command). IsWithinLoad k c.args.volume.now (g.P.SectorView.space c.args.space.now) (g.P.SectorView.space c.set_attribute.new.space)) (sym c.in-SetAttr.is) (subst (λ (l : List ℕ). IsWithinLoad (command.SetAttr c.in-SetAttr.path c.in-SetAttr.name l) c.args.volume.now (g.P.SectorView.space c.args.space.now) (g.P.SectorView.space c.set_attribute.new.space)) c.as_slice.ensures (c.set_attribute.ensures.loads tells))
+
+pub returns-in-DelAttr-clause-loads : goal.returns-in-DelAttr-clause-loads
+returns-in-DelAttr-clause-loads g c tells leaves = subst (λ (k : Command). IsWithinLoad k c.args.volume.now (g.P.SectorView.space c.args.space.now) (g.P.SectorView.space c.delete_attribute.new.space)) (sym c.in-DelAttr.is) (c.delete_attribute.ensures.loads tells)
+
+pub returns-in-Mkdir-clause-loads : goal.returns-in-Mkdir-clause-loads
+returns-in-Mkdir-clause-loads g c tells leaves = subst (λ (k : Command). IsWithinLoad k c.args.volume.now (g.P.SectorView.space c.args.space.now) (g.P.SectorView.space c.make_folder.new.space)) (sym c.in-Mkdir.is) (c.make_folder.ensures.loads tells)
+
+pub returns-in-Create-clause-loads : goal.returns-in-Create-clause-loads
+returns-in-Create-clause-loads g c tells leaves = subst (λ (k : Command). IsWithinLoad k c.args.volume.now (g.P.SectorView.space c.args.space.now) (g.P.SectorView.space c.make_file.new.space)) (sym c.in-Create.is) (c.make_file.ensures.loads tells)
+
+pub returns-in-Mv-clause-loads : goal.returns-in-Mv-clause-loads
+returns-in-Mv-clause-loads g c tells leaves = subst (λ (k : Command). IsWithinLoad k c.args.volume.now (g.P.SectorView.space c.args.space.now) (g.P.SectorView.space c.move_entry.new.space)) (sym c.in-Mv.is) (c.move_entry.ensures.loads tells)
+
+pub returns-in-Rmdir-clause-loads : goal.returns-in-Rmdir-clause-loads
+returns-in-Rmdir-clause-loads g c tells leaves = subst (λ (k : Command). IsWithinLoad k c.args.volume.now (g.P.SectorView.space c.args.space.now) (g.P.SectorView.space c.remove_folder.new.space)) (sym c.in-Rmdir.is) (c.remove_folder.ensures.loads tells)

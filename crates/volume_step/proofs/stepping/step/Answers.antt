@@ -4,6 +4,7 @@ use Rattle.hfs_volume.specs.TreeOf.{tree_of}
 use Rattle.volume_base.specs.Keeping.{shrunk_of}
 use Rattle.volume_step.proofs.AnewReady.{ready_alike}
 use Rattle.volume_step.proofs.Widening.{keeps_shrunk, reads_shrink_none, touches_own}
+use Rattle.volume_step.proofs.Loaded.{takes_any, within_none}
 use Rattle.volume_step.proofs.stepping.step.Goals as goal
 
 pub returns-then-only_reads-clause-shrunk : goal.returns-then-only_reads-clause-shrunk
@@ -29,3 +30,6 @@ returns-clause-ready g c tells ready = elim ready [
 pub returns-clause-anew : goal.returns-clause-anew
 returns-clause-anew g c tells anew fits =
     c.change.ensures.alike tells (ready_alike c.args.volume.now (g.P.SectorView.space c.args.space.now) (c.requires.settled tells) anew c.args.command.now (sym c.only_reads.ensures ∙ c.if-only_reads.false) fits)
+
+pub returns-then-only_reads-clause-loads : goal.returns-then-only_reads-clause-loads
+returns-then-only_reads-clause-loads g c tells leaves filled = takes_any c.answer.result c.args.command.now c.args.volume.now (g.P.SectorView.space c.args.space.now) (g.P.SectorView.space c.answer.new.space) (within_none c.args.command.now c.args.volume.now (g.P.SectorView.space c.args.space.now) (g.P.SectorView.space c.answer.new.space) c.answer.ensures.spent)
