@@ -12,10 +12,11 @@ pub mod CutCalls
 pub mod CutDone
 pub mod CutKept
 pub mod CutSettled
+pub mod CutShort
 pub mod CutShrunk
 pub mod CutWhole
-pub mod EmptyRecords
 pub mod EditsTaken
+pub mod EmptyRecords
 pub mod ExtentRoom
 pub mod ExtentsEdited
 pub mod ExtentsGrownCalls

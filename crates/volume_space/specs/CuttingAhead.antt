@@ -1,15 +1,18 @@
 -- A cut of blocks past a file's size, ahead of data that makes the file longer.
-use Rattle.std.specs.Prelude.{◌≡◌, ℕ, ◌==◌, ◌&&◌, nat_lt, Bool, true, false, List, length, Some, Ok}
+use Rattle.std.specs.Prelude.{◌≡◌, ◌⊎◌, ◌<◌, ℕ, ◌==◌, ◌&&◌, nat_lt, IsTrue, Bool, true, false, List, length, Some, Ok}
 use Rattle.sector_disk.specs.Lists.{Content}
 use Rattle.cat_records.specs.declared.record.CatRecord.{CatRecord}
 use Rattle.cat_records.specs.declared.record.CatRecord.TheVariants.{Folder, File, Thread}
 use Rattle.hfs_model.specs.Step.{to_file}
 use Rattle.hfs_model.specs.declared.plain.PlainNode.{PlainNode}
 use Rattle.hfs_volume.specs.Content.{VolumeState, volume_of}
+use Rattle.hfs_volume.specs.Forks.{data_kind}
 use Rattle.hfs_volume.specs.Reclaim.{CutShrunk, next_reclaim}
 use Rattle.hfs_volume.specs.TreeOf.{tree_of}
 use Rattle.hfs_volume.specs.Weight.{cut_cost, free_blocks, has_surplus, room_with}
 use Rattle.hfs_volume.specs.declared.cost.Cost.TheVariants as cost
+use Rattle.volume_runs.specs.Rest.{cut_puts, has_empty_record, is_tight}
+use Rattle.volume_space.specs.Cutting.{changes_in}
 use Rattle.volume_space.specs.Orphans.{HasMade}
 use Rattle.volume_space.specs.declared.cutting_ahead.CutAhead.{CutAhead}
 use Rattle.volume_space.specs.declared.cutting_ahead.CutAhead.TheVariants as ahead
@@ -48,3 +51,14 @@ CutsAs came capacity id first before after = (first ≡ true) × CutsSome came c
 abbrev pub CutsAhead : CutAhead → ℕ → List (List ℕ) → ℕ → Content → Content → Type 0
 CutsAhead came capacity path end before after =
     (node : PlainNode) × (to_file (tree_of before) path ≡ Ok node) × CutsAs came capacity node.id (cuts_first (volume_of before) node.id (length node.bytes) end) before after
+
+-- There is too little room to cut a file's data fork: fewer sectors may be put than the cut puts at most, or a transaction holds fewer than the two
+-- changes of the extents overflow file put that it makes.
+abbrev pub LacksCutRoom : ℕ → ℕ → ℕ → VolumeState → Type 0
+LacksCutRoom capacity spare id volume =
+    (spare < cut_puts (changes_in (has_empty_record volume id data_kind)) (room_with capacity (free_blocks volume) volume)) ⊎ IsTrue (is_tight capacity volume (CutShrunk id))
+
+-- a commit comes first only where there is too little room for the cut
+abbrev pub IsShortCut : CutAhead → ℕ → ℕ → ℕ → VolumeState → Type 0
+IsShortCut ahead.CommitFirst capacity spare id volume = LacksCutRoom capacity spare id volume
+IsShortCut _ capacity spare id volume = Unit {0}

@@ -1,5 +1,5 @@
 //! A cut of blocks past a file's size, ahead of data that makes the file longer.
-ghost use Rattle.std.specs.Prelude.{◌≡◌, ◌≤◌, ◌==◌, ◌&&◌, nat_lt, Some, Ok, true, false, IsTrue, IfOk, IfSome, OnOk, length};
+ghost use Rattle.std.specs.Prelude.{◌≡◌, ◌≤◌, ◌==◌, ◌&&◌, nat_lt, Some, Ok, true, false, IsTrue, IfNone, IfOk, IfSome, OnOk, length};
 ghost use Rattle.std.specs.List.{Contains};
 ghost use Rattle.sector_disk.specs.Lists.{Content};
 ghost use Rattle.btree_edit.specs.Causes.{HasTroubleCause};
@@ -7,14 +7,16 @@ ghost use Rattle.cat_records.specs.Fits.{FitsRecord};
 ghost use Rattle.catalog.specs.Pairs.{value_at};
 ghost use Rattle.hfs_language.specs.Written.{FitsPath};
 ghost use Rattle.hfs_language.specs.declared.command.Command.TheVariants as command;
-ghost use Rattle.hfs_model.specs.Step.{step_line};
+ghost use Rattle.hfs_language.specs.declared.refusal.Refusal.{Refusal};
+ghost use Rattle.hfs_model.specs.Step.{step_line, to_file};
+ghost use Rattle.hfs_model.specs.declared.plain.PlainNode.{PlainNode};
 ghost use Rattle.hfs_volume.specs.Content.{volume_of};
 ghost use Rattle.hfs_volume.specs.Records.{is_thread};
 ghost use Rattle.hfs_volume.specs.TreeOf.{tree_of};
 ghost use Rattle.hfs_volume.specs.Weight.{cut_cost, free_blocks, has_surplus, room_with};
 ghost use Rattle.hfs_volume.specs.declared.cost.Cost.TheVariants as cost;
 ghost use Rattle.volume_space.specs.Cutting.{KeepsUsed, surplus_in};
-ghost use Rattle.volume_space.specs.CuttingAhead.{CutsAhead, CutsAs, CutsSome, is_sized_file};
+ghost use Rattle.volume_space.specs.CuttingAhead.{CutsAhead, CutsAs, CutsSome, IsShortCut, is_sized_file};
 ghost use Rattle.volume_base.specs.Keeping.{shrunk_of};
 ghost use Rattle.volume_base.specs.Lists.{lists_of};
 ghost use Rattle.volume_base.specs.Refusing.{facts_or};
@@ -67,7 +69,8 @@ fn is_longer(size: u64, end: u128) -> bool
 
 /// The refusal that a cost is.
 fn refusal_in(found: Cost) -> Option<Refusal>
-    ensures { IfSome result (λ why. found ≡ cost.Refused why) }
+    ensures some { IfSome result (λ why. found ≡ cost.Refused why) }
+    ensures none { IfNone result ((why : Refusal) → found ≡ cost.Refused why → ⊥) }
 {
     match found {
         Cost::Refused(why) => Some(why),
@@ -77,7 +80,8 @@ fn refusal_in(found: Cost) -> Option<Refusal>
 
 /// Why the journal has no room for a cut.
 fn refused_cut(volume: &Volume) -> Option<Refusal>
-    ensures { (content : Content) → IsSettled volume.now content → IfSome result (λ why. cut_cost (room_with (capacity_of volume.now) (free_blocks (volume_of content)) (volume_of content)) ≡ cost.Refused why) }
+    ensures some { (content : Content) → IsSettled volume.now content → IfSome result (λ why. cut_cost (room_with (capacity_of volume.now) (free_blocks (volume_of content)) (volume_of content)) ≡ cost.Refused why) }
+    ensures none { (content : Content) → IsSettled volume.now content → IfNone result ((why : Refusal) → cut_cost (room_with (capacity_of volume.now) (free_blocks (volume_of content)) (volume_of content)) ≡ cost.Refused why → ⊥) }
 {
     refusal_in(cut_cost(&volume.room(FreeBlocks::All)))
 }
@@ -101,6 +105,7 @@ fn cut_past<P: SectorSpace>(
     requires shrunk { shrunk_of volume.old ≡ Some id }
     requires some { Some surplus ≡ surplus_in volume.old.header.block_size entry.now.rec }
     ensures came { IsTrue (P.SectorView.space space.old).tells → IfOk result (λ came. CutsSome came (capacity_of volume.old) id (P.SectorView.space space.old).content (P.SectorView.space space.new).content) }
+    ensures short { IsTrue (P.SectorView.space space.old).tells → IfOk result (λ came. IsShortCut came (capacity_of volume.old) (P.SectorView.space space.old).spare id (volume_of (P.SectorView.space space.old).content)) }
     ensures stands { OnOk result (StandsOver volume.new (P.SectorView.space space.new)) }
     ensures settled { IsTrue (P.SectorView.space space.old).tells → OnOk result (IsSettled volume.new (P.SectorView.space space.new).content) }
     ensures service { IsInService volume.new (P.SectorView.space space.new) }
@@ -135,6 +140,7 @@ fn cut_entry<P: SectorSpace>(
     requires fits { is_thread entry.now.rec ≡ false → FitsRecord entry.now.rec }
     requires shrunk { shrunk_of volume.old ≡ Some id }
     ensures came { IsTrue (P.SectorView.space space.old).tells → IfOk result (λ came. CutsAs came (capacity_of volume.old) id (has_surplus (volume_of (P.SectorView.space space.old).content) id size) (P.SectorView.space space.old).content (P.SectorView.space space.new).content) }
+    ensures short { IsTrue (P.SectorView.space space.old).tells → IfOk result (λ came. IsShortCut came (capacity_of volume.old) (P.SectorView.space space.old).spare id (volume_of (P.SectorView.space space.old).content)) }
     ensures stands { OnOk result (StandsOver volume.new (P.SectorView.space space.new)) }
     ensures settled { IsTrue (P.SectorView.space space.old).tells → OnOk result (IsSettled volume.new (P.SectorView.space space.new).content) }
     ensures service { IsInService volume.new (P.SectorView.space space.new) }
@@ -164,6 +170,7 @@ fn cut_there<P: SectorSpace>(
     requires settled { IsTrue (P.SectorView.space space.old).tells → IsSettled volume.old (P.SectorView.space space.old).content }
     requires shrunk { shrunk_of volume.old ≡ Some id }
     ensures came { IsTrue (P.SectorView.space space.old).tells → IfOk result (λ came. CutsAs came (capacity_of volume.old) id (has_surplus (volume_of (P.SectorView.space space.old).content) id size) (P.SectorView.space space.old).content (P.SectorView.space space.new).content) }
+    ensures short { IsTrue (P.SectorView.space space.old).tells → IfOk result (λ came. IsShortCut came (capacity_of volume.old) (P.SectorView.space space.old).spare id (volume_of (P.SectorView.space space.old).content)) }
     ensures stands { OnOk result (StandsOver volume.new (P.SectorView.space space.new)) }
     ensures settled { IsTrue (P.SectorView.space space.old).tells → OnOk result (IsSettled volume.new (P.SectorView.space space.new).content) }
     ensures service { IsInService volume.new (P.SectorView.space space.new) }
@@ -189,6 +196,7 @@ fn cut_file<P: SectorSpace>(
     requires stands { StandsOver volume.old (P.SectorView.space space.old) }
     requires settled { IsTrue (P.SectorView.space space.old).tells → IsSettled volume.old (P.SectorView.space space.old).content }
     ensures came { IsTrue (P.SectorView.space space.old).tells → IfOk result (λ came. CutsAs came (capacity_of volume.old) id (has_surplus (volume_of (P.SectorView.space space.old).content) id size) (P.SectorView.space space.old).content (P.SectorView.space space.new).content) }
+    ensures short { IsTrue (P.SectorView.space space.old).tells → IfOk result (λ came. IsShortCut came (capacity_of volume.old) (P.SectorView.space space.old).spare id (volume_of (P.SectorView.space space.old).content)) }
     ensures stands { OnOk result (StandsOver volume.new (P.SectorView.space space.new)) }
     ensures settled { IsTrue (P.SectorView.space space.old).tells → OnOk result (IsSettled volume.new (P.SectorView.space space.new).content) }
     ensures service { IsInService volume.new (P.SectorView.space space.new) }
@@ -217,6 +225,7 @@ fn cut_told<P: SectorSpace>(
     requires settled { IsTrue (P.SectorView.space space.old).tells → IsSettled volume.old (P.SectorView.space space.old).content }
     requires told { IsTrue (P.SectorView.space space.old).tells → Ok told.now ≡ facts_or (step_line (tree_of (P.SectorView.space space.old).content) (Ok (command.Stat _path.now))).0 }
     ensures came { IsTrue (P.SectorView.space space.old).tells → IfOk result (λ came. CutsAhead came (capacity_of volume.old) _path.now end (P.SectorView.space space.old).content (P.SectorView.space space.new).content) }
+    ensures short { IsTrue (P.SectorView.space space.old).tells → (node : PlainNode) → to_file (tree_of (P.SectorView.space space.old).content) _path.now ≡ Ok node → IfOk result (λ came. IsShortCut came (capacity_of volume.old) (P.SectorView.space space.old).spare node.id (volume_of (P.SectorView.space space.old).content)) }
     ensures stands { OnOk result (StandsOver volume.new (P.SectorView.space space.new)) }
     ensures settled { IsTrue (P.SectorView.space space.old).tells → OnOk result (IsSettled volume.new (P.SectorView.space space.new).content) }
     ensures service { IsInService volume.new (P.SectorView.space space.new) }
@@ -249,6 +258,8 @@ pub fn cut_ahead<P: SectorSpace>(
     requires fits { FitsPath path.now }
     // Told, a cut was made where one goes first, or nothing was changed.
     ensures came { IsTrue (P.SectorView.space space.old).tells → IfOk result (λ came. CutsAhead came (capacity_of volume.old) path.now end (P.SectorView.space space.old).content (P.SectorView.space space.new).content) }
+    // A commit comes first only where there is too little room for the cut.
+    ensures short { IsTrue (P.SectorView.space space.old).tells → (node : PlainNode) → to_file (tree_of (P.SectorView.space space.old).content) path.now ≡ Ok node → IfOk result (λ came. IsShortCut came (capacity_of volume.old) (P.SectorView.space space.old).spare node.id (volume_of (P.SectorView.space space.old).content)) }
     ensures stands { OnOk result (StandsOver volume.new (P.SectorView.space space.new)) }
     ensures settled { IsTrue (P.SectorView.space space.old).tells → OnOk result (IsSettled volume.new (P.SectorView.space space.new).content) }
     ensures service { IsInService volume.new (P.SectorView.space space.new) }

@@ -11,6 +11,7 @@ use Rattle.volume_base.specs.Touching.{Touches}
 use Rattle.volume_base.specs.declared.entries.Entry.{Entry}
 use Rattle.volume_base.proofs.Commanding.{touches_both, touches_looks}
 use Rattle.volume_base.proofs.FoundEntry.{settled_spelled}
+use Rattle.volume_space.proofs.CutShort.{short_behind}
 use Rattle.volume_space.proofs.KeptUsed.{used_both, used_read}
 use Rattle.volume_space.proofs.NextCut.{there_by}
 use Rattle.volume_space.proofs.PastSizes.{cuts_behind}
@@ -79,3 +80,8 @@ returns-in_err-entry-clause-used g c = used_read c.args.volume.now c.entry.new.s
 
 pub returns-in_err-entry-clause-service : goal.returns-in_err-entry-clause-service
 returns-in_err-entry-clause-service g c = c.entry.ensures.stands.service
+
+pub returns-in-Some-clause-short : goal.returns-in-Some-clause-short
+returns-in-Some-clause-short g c tells =
+    short_behind c.cut_entry.result c.args.id (capacity_of c.entry.new.self) (capacity_of c.args.volume.now) (g.P.SectorView.space c.entry.new.space).spare (g.P.SectorView.space c.args.space.now).spare (g.P.SectorView.space c.entry.new.space).content (g.P.SectorView.space c.args.space.now).content
+    (c.entry.ensures.reads.looks.content tells) c.entry.ensures.reads.keeps.capacity c.entry.ensures.reads.looks.spare (c.cut_entry.ensures.short (c.entry.ensures.reads.looks.same.tells ∙ tells))

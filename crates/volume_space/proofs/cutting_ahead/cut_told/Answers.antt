@@ -6,6 +6,9 @@ use Rattle.hfs_volume.specs.TreeOf.{tree_of}
 use Rattle.hfs_volume.specs.Weight.{has_surplus}
 use Rattle.volume_base.specs.Room.{capacity_of}
 use Rattle.volume_base.proofs.Commanding.{touches_none}
+use Rattle.hfs_model.specs.Step.{to_file}
+use Rattle.hfs_model.specs.declared.plain.PlainNode.{PlainNode}
+use Rattle.volume_space.proofs.CutShort.{one_node, short_named}
 use Rattle.volume_space.proofs.KeptUsed.{used_none}
 use Rattle.volume_space.proofs.PastSizes.{cuts_longer, cuts_path, cuts_sized}
 use Rattle.volume_base.proofs.ToldFile.{about, told_node}
@@ -35,3 +38,11 @@ returns-then-not-is_longer-clause-used g c = used_none c.args.volume.now
 
 pub returns-then-not-is_longer-clause-service : goal.returns-then-not-is_longer-clause-service
 returns-then-not-is_longer-clause-service g c = c.requires.stands.service
+
+pub returns-clause-short : goal.returns-clause-short
+returns-clause-short g c tells node is =
+    let a = (g.P.SectorView.space c.args.space.now).content in
+    let it = told_node (tree_of a) c.args._path.now c.args.told.now (c.requires.told tells) in
+    let file = about (tree_of a) c.args._path.now c.args.told.now it (sym (ap (λ (f : Facts). f.folder) it.facts) ∙ c.if-told.false) in
+    let same = one_node it.node node (to_file (tree_of a) c.args._path.now) file.file is in
+    short_named c.cut_file.result c.args.told.now.id node.id (capacity_of c.args.volume.now) (g.P.SectorView.space c.args.space.now).spare (volume_of a) (sym file.id ∙ ap (λ (n : PlainNode). n.id) same) (c.cut_file.ensures.short tells)
