@@ -1,3 +1,4 @@
+pub mod AheadLoads
 pub mod AnewReady
 pub mod CutSteps
 pub mod Done

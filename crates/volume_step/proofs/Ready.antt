@@ -298,6 +298,12 @@ wants_now asked v w a b reads tells unread now tree more some first there each =
       short = inr (filled_still v w a b reads tells tree each, refl);
     }
 
+-- with its load
+pub wants_load : (asked : Command) (v w : Volume) (a b : Space) → (reads : ReadsVolume v w a b) (tells : IsTrue a.tells) (unread : only_reads asked ≡ false) (now : FitsNow asked v a) → (tree : WhichTree) (more : ℕ) (some : 0 < more) (first : first_growth now.grow ≡ alone tree more) (there : IsThere tree v.header) (each : HasFilledRecords tree v a.content)
+    → (wants_now asked v w a b reads tells unread now tree more some first there each).load ≡ now.load
+unfolding now_still wants_now
+wants_load asked v w a b reads tells unread now tree more some first there each = refl
+
 -- ---- `write`
 
 -- data that a step doesn't refuse, and that is none, has no byte

@@ -1,5 +1,5 @@
 //! A command on a volume in service, weighed and done.
-ghost use Rattle.std.specs.Prelude.{◌≡◌, ◌≢◌, ◌⊎◌, ℕ, [], ◌∷◌, true, false, None, IsTrue, IfOk, OnOk};
+ghost use Rattle.std.specs.Prelude.{◌≡◌, ◌≢◌, ◌≤◌, ◌⊎◌, ◌+◌, ℕ, [], ◌∷◌, true, false, None, IsTrue, IfOk, OnOk};
 ghost use Rattle.sector_disk.specs.Lists.{Content};
 ghost use Rattle.sector_disk.specs.Space.{SameSpace};
 ghost use Rattle.btree_edit.specs.Causes.{HasTroubleCause};
@@ -152,6 +152,8 @@ fn change<P: SectorSpace>(
     ensures puts { IsTrue (P.SectorView.space space.old).tells → PutsNow command.now volume.old (P.SectorView.space space.old) → IfOk result (λ it. it ≢ outcome.CommitFirst) }
     // Where it costs the same of all free blocks as of those that may be taken, none does either.
     ensures alike { IsTrue (P.SectorView.space space.old).tells → IsReadyAlike command.now volume.old (P.SectorView.space space.old) → IfOk result (λ it. it ≢ outcome.CommitFirst) }
+    // What goes ahead of it then puts no more than its load.
+    ensures ahead { IsTrue (P.SectorView.space space.old).tells → (ready : IsReady command.now volume.old (P.SectorView.space space.old)) → IfOk result (λ it. it ≡ outcome.Again → (P.SectorView.space space.old).spare ≤ (P.SectorView.space space.new).spare + ready.now.load) }
     ensures place { IsTrue (P.SectorView.space space.old).tells → OnOk result (KeepsJournal (P.SectorView.space space.old).content (P.SectorView.space space.new).content) }
     ensures stands { OnOk result (StandsOver volume.new (P.SectorView.space space.new)) }
     ensures settled { IsTrue (P.SectorView.space space.old).tells → OnOk result (IsSettled volume.new (P.SectorView.space space.new).content) }
@@ -199,6 +201,8 @@ pub fn step<P: SectorSpace>(
     ensures ready { IsTrue (P.SectorView.space space.old).tells → (only_reads command.now ≡ true) ⊎ (IsReady command.now volume.old (P.SectorView.space space.old) ⊎ PutsNow command.now volume.old (P.SectorView.space space.old)) → IfOk result (λ it. it ≢ outcome.CommitFirst) }
     // On a transaction to which nothing was put none comes first where nothing is missing for the command, and no cut goes ahead of it.
     ensures anew { IsTrue (P.SectorView.space space.old).tells → IsAnew volume.old (P.SectorView.space space.old) → FitsAnew command.now volume.old (P.SectorView.space space.old).content → IfOk result (λ it. it ≢ outcome.CommitFirst) }
+    // The growth of a tree that goes ahead of a command that is ready puts no more than the load of the command.
+    ensures ahead { IsTrue (P.SectorView.space space.old).tells → (ready : IsReady command.now volume.old (P.SectorView.space space.old)) → IfOk result (λ it. it ≡ outcome.Again → (P.SectorView.space space.old).spare ≤ (P.SectorView.space space.new).spare + ready.now.load) }
     // The journal lies where it lay, and the header is one of the same volume.
     ensures place { IsTrue (P.SectorView.space space.old).tells → OnOk result (KeepsJournal (P.SectorView.space space.old).content (P.SectorView.space space.new).content) }
     ensures stands { OnOk result (StandsOver volume.new (P.SectorView.space space.new)) }

@@ -37,3 +37,9 @@ returns-clause-ready g c tells fits = grown_now c.in_ok-went.went c.grown.result
 
 pub returns-clause-loads : goal.returns-clause-loads
 returns-clause-loads g c = growth_takes c.in_ok-went.went c.grown.result c.args._command.now c.args.volume.now (g.P.SectorView.space c.args.space.now) (g.P.SectorView.space c.grow_tree.new.space) c.grown.ensures
+
+pub returns-clause-spent : goal.returns-clause-spent
+returns-clause-spent g c tells wants = c.grow_tree.ensures.loads tells wants
+
+pub returns-in_err-went-clause-spent : goal.returns-in_err-went-clause-spent
+returns-in_err-went-clause-spent g c tells wants = c.grow_tree.ensures.loads tells wants

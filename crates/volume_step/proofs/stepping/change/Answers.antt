@@ -1,4 +1,4 @@
-use Rattle.std.proofs.Common.{ℕ, [], inl, inr, sym, ◌∙◌, subst}
+use Rattle.std.proofs.Common.{◌≤◌, ◌+◌, ℕ, [], inl, inr, sym, ◌∙◌, subst, arith}
 use Rattle.std.specs.Prelude.{IfOk, OnOk, Option}
 use Rattle.sector_disk.specs.Lists.{Content}
 use Rattle.sector_disk.proofs.SpaceLaws.{space_both}
@@ -13,8 +13,9 @@ use Rattle.volume_step.specs.declared.judging.Verdict.{Verdict}
 use Rattle.volume_step.specs.declared.outcome.Outcome.{Outcome}
 use Rattle.volume_step.proofs.Done.{holds_kept, refused_steps, same_place}
 use Rattle.volume_step.proofs.Widening.{laid_still, own_or_free_still, refused_shrinks, touches_behind, touches_looked, touches_own}
+use Rattle.volume_step.proofs.AheadLoads.{again_so, never_again, none_ahead, refused_never}
 use Rattle.volume_step.proofs.GrowthThere.{growth_there}
-use Rattle.volume_step.proofs.Ready.{now_still, wants_now}
+use Rattle.volume_step.proofs.Ready.{now_still, wants_load, wants_now}
 use Rattle.volume_step.proofs.ReadyData.{puts_still}
 use Rattle.volume_step.proofs.AnewReady.{fits_alike, wants_alike}
 use Rattle.volume_space.specs.Writing.{IsFilled}
@@ -227,3 +228,34 @@ returns-in-CutFirst-clause-loads g c tells leaves filled =
 pub returns-in-Grows-clause-loads : goal.returns-in-Grows-clause-loads
 returns-in-Grows-clause-loads g c tells leaves filled =
     takes_behind c.grow_first.result c.args.command.now c.args.volume.now c.judge.new.volume (g.P.SectorView.space c.args.space.now) (g.P.SectorView.space c.judge.new.space) (g.P.SectorView.space c.grow_first.new.space) c.judge.ensures.reads tells c.grow_first.ensures.loads
+
+-- ---- what goes ahead of what is ready
+
+pub returns-in-Refused-clause-ahead : goal.returns-in-Refused-clause-ahead
+returns-in-Refused-clause-ahead g c tells ready same = absurd (refused_never c.refusal.result _ c.refusal.ensures same)
+
+pub returns-in-CommitFirst-clause-ahead : goal.returns-in-CommitFirst-clause-ahead
+returns-in-CommitFirst-clause-ahead g c tells ready same = absurd (subst (λ (v : Verdict). IsTaken v ready.now.grow) c.in-CommitFirst.is (c.in_ok-why.ensures.taken tells ready.now))
+
+pub returns-in-CutFirst-clause-ahead : goal.returns-in-CutFirst-clause-ahead
+returns-in-CutFirst-clause-ahead g c tells ready = absurd (subst (λ (v : Verdict). IsTaken v ready.now.grow) c.in-CutFirst.is (c.in_ok-why.ensures.taken tells ready.now))
+
+pub returns-in-Fits-clause-ahead : goal.returns-in-Fits-clause-ahead
+returns-in-Fits-clause-ahead g c tells ready =
+    let affords : Affords (capacity_of c.args.volume.now) c.args.command.now (g.P.SectorView.space c.args.space.now).content =
+    subst (λ (v : Verdict). IsJudged v (capacity_of c.args.volume.now) c.args.command.now (g.P.SectorView.space c.args.space.now).content) c.in-Fits.is (c.in_ok-why.ensures.judged tells) in
+    never_again c.perform.result (λ (o : Outcome). StepsTo o (capacity_of c.args.volume.now) c.args.number c.args.command.now (g.P.SectorView.space c.args.space.now).content (g.P.SectorView.space c.perform.new.space).content) _
+    (none_ahead (capacity_of c.args.volume.now) c.args.number c.args.command.now (g.P.SectorView.space c.args.space.now).content (g.P.SectorView.space c.perform.new.space).content ready.now.no_data affords.load affords.affords) (returns-in-Fits-clause-answered g c tells)
+
+pub returns-in-Grows-clause-ahead : goal.returns-in-Grows-clause-ahead
+returns-in-Grows-clause-ahead g c tells ready =
+    let first = subst (λ (v : Verdict). IsTaken v ready.now.grow) c.in-Grows.is (c.in_ok-why.ensures.taken tells ready.now) in
+    let waits : WaitsForGrowth c.in-Grows.tree c.in-Grows.more (capacity_of c.args.volume.now) c.args.command.now (g.P.SectorView.space c.args.space.now).content =
+    subst (λ (v : Verdict). IsJudged v (capacity_of c.args.volume.now) c.args.command.now (g.P.SectorView.space c.args.space.now).content) c.in-Grows.is (c.in_ok-why.ensures.judged tells) in
+    let there = growth_there c.args.volume.now (g.P.SectorView.space c.args.space.now).content (c.requires.settled tells) c.args.command.now c.requires.changes ready.now.no_data waits.no_refusal (capacity_of c.args.volume.now) (takable_of c.args.volume.now)
+    ready.now.load ready.now.grow ready.now.costs c.in-Grows.tree c.in-Grows.more first.0 first.1 in
+    let records = ready.records c.in-Grows.tree c.in-Grows.more first.0 first.1 in
+    let spent = c.grow_first.ensures.spent (c.judge.ensures.reads.looks.same.tells ∙ tells)
+    (wants_now c.args.command.now c.args.volume.now c.judge.new.volume (g.P.SectorView.space c.args.space.now) (g.P.SectorView.space c.judge.new.space) c.judge.ensures.reads tells c.requires.changes ready.now c.in-Grows.tree c.in-Grows.more first.0 first.1 there records) in
+    let load = wants_load c.args.command.now c.args.volume.now c.judge.new.volume (g.P.SectorView.space c.args.space.now) (g.P.SectorView.space c.judge.new.space) c.judge.ensures.reads tells c.requires.changes ready.now c.in-Grows.tree c.in-Grows.more first.0 first.1 there records in
+    again_so c.grow_first.result ((g.P.SectorView.space c.args.space.now).spare ≤ (g.P.SectorView.space c.grow_first.new.space).spare + ready.now.load) (omega (arith, spent, load, c.judge.ensures.reads.looks.spare))
