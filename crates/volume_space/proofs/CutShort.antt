@@ -18,7 +18,7 @@ use Rattle.volume_base.specs.Room.{capacity_of, room_on}
 use Rattle.volume_base.specs.Standing.{IsSettled}
 use Rattle.volume_base.specs.declared.room.FreeBlocks.TheVariants as blocks
 use Rattle.volume_base.specs.declared.volume.Volume.{Volume}
-use Rattle.volume_space.specs.CuttingAhead.{IsShortCut, LacksCutRoom}
+use Rattle.volume_space.specs.CuttingAhead.{IsShortAhead, IsShortCut, LacksCutRoom}
 use Rattle.volume_space.specs.Orphans.{IsNextShort, IsShort}
 use Rattle.volume_space.specs.declared.cutting_ahead.CutAhead.{CutAhead}
 use Rattle.volume_space.proofs.Affording.{cut_cost_is}
@@ -60,3 +60,13 @@ short_named r told_id id capacity spare volume same was = subst (λ n. IfOk r (�
 -- a path stands for one file
 pub one_node : {E : Type 0} (one other : PlainNode) (r : Result PlainNode E) → r ≡ Ok one → r ≡ Ok other → one ≡ other
 one_node {E} one other r first second = let same : Ok one ≡ Ok other = sym first ∙ second in cc same
+
+pub short_any : (r : Result CutAhead Trouble) (capacity spare : ℕ) (path : List (List ℕ)) (content : Content) → ((node : PlainNode) → to_file (tree_of content) path ≡ Ok node → IfOk r (λ came. IsShortCut came capacity spare node.id (volume_of content)))
+    → IfOk r (λ came. IsShortAhead came capacity spare path content)
+short_any (Ok came) capacity spare path content was = λ node is. was node is
+short_any (Err why) capacity spare path content was = tt
+
+pub path_behind : (r : Result CutAhead Trouble) (path : List (List ℕ)) (first_capacity capacity left spare : ℕ) (between before : Content) → between ≡ before → first_capacity ≡ capacity → left ≡ spare
+    → IfOk r (λ came. IsShortAhead came first_capacity left path between) → IfOk r (λ came. IsShortAhead came capacity spare path before)
+path_behind r path first_capacity capacity left spare between before same one two was =
+    subst (λ (k : ℕ × ℕ × Content). IfOk r (λ (came : CutAhead). IsShortAhead came k.0 k.1 path k.2)) {x = (first_capacity, left, between)} {y = (capacity, spare, before)} (λ i. (one i, two i, same i)) was

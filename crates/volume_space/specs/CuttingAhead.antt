@@ -62,3 +62,7 @@ LacksCutRoom capacity spare id volume =
 abbrev pub IsShortCut : CutAhead → ℕ → ℕ → ℕ → VolumeState → Type 0
 IsShortCut ahead.CommitFirst capacity spare id volume = LacksCutRoom capacity spare id volume
 IsShortCut _ capacity spare id volume = Unit {0}
+
+-- the same of the file that a path stands for
+abbrev pub IsShortAhead : CutAhead → ℕ → ℕ → List (List ℕ) → Content → Type 0
+IsShortAhead came capacity spare path content = (node : PlainNode) → to_file (tree_of content) path ≡ Ok node → IsShortCut came capacity spare node.id (volume_of content)

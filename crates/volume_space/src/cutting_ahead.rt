@@ -8,15 +8,14 @@ ghost use Rattle.catalog.specs.Pairs.{value_at};
 ghost use Rattle.hfs_language.specs.Written.{FitsPath};
 ghost use Rattle.hfs_language.specs.declared.command.Command.TheVariants as command;
 ghost use Rattle.hfs_language.specs.declared.refusal.Refusal.{Refusal};
-ghost use Rattle.hfs_model.specs.Step.{step_line, to_file};
-ghost use Rattle.hfs_model.specs.declared.plain.PlainNode.{PlainNode};
+ghost use Rattle.hfs_model.specs.Step.{step_line};
 ghost use Rattle.hfs_volume.specs.Content.{volume_of};
 ghost use Rattle.hfs_volume.specs.Records.{is_thread};
 ghost use Rattle.hfs_volume.specs.TreeOf.{tree_of};
 ghost use Rattle.hfs_volume.specs.Weight.{cut_cost, free_blocks, has_surplus, room_with};
 ghost use Rattle.hfs_volume.specs.declared.cost.Cost.TheVariants as cost;
 ghost use Rattle.volume_space.specs.Cutting.{KeepsUsed, surplus_in};
-ghost use Rattle.volume_space.specs.CuttingAhead.{CutsAhead, CutsAs, CutsSome, IsShortCut, is_sized_file};
+ghost use Rattle.volume_space.specs.CuttingAhead.{CutsAhead, CutsAs, CutsSome, IsShortAhead, IsShortCut, is_sized_file};
 ghost use Rattle.volume_base.specs.Keeping.{shrunk_of};
 ghost use Rattle.volume_base.specs.Lists.{lists_of};
 ghost use Rattle.volume_base.specs.Refusing.{facts_or};
@@ -43,7 +42,7 @@ pub enum CutAhead {
     NotNeeded,
     /// Blocks past its size were cut.
     Made,
-    /// It wants a commit before it, or a transaction may be too small for it. Nothing was changed.
+    /// There is too little room for it, or a transaction may be too small for it. Nothing was changed.
     CommitFirst,
     /// The journal has no room for a cut. Nothing was changed.
     Refused(Refusal),
@@ -225,7 +224,7 @@ fn cut_told<P: SectorSpace>(
     requires settled { IsTrue (P.SectorView.space space.old).tells → IsSettled volume.old (P.SectorView.space space.old).content }
     requires told { IsTrue (P.SectorView.space space.old).tells → Ok told.now ≡ facts_or (step_line (tree_of (P.SectorView.space space.old).content) (Ok (command.Stat _path.now))).0 }
     ensures came { IsTrue (P.SectorView.space space.old).tells → IfOk result (λ came. CutsAhead came (capacity_of volume.old) _path.now end (P.SectorView.space space.old).content (P.SectorView.space space.new).content) }
-    ensures short { IsTrue (P.SectorView.space space.old).tells → (node : PlainNode) → to_file (tree_of (P.SectorView.space space.old).content) _path.now ≡ Ok node → IfOk result (λ came. IsShortCut came (capacity_of volume.old) (P.SectorView.space space.old).spare node.id (volume_of (P.SectorView.space space.old).content)) }
+    ensures short { IsTrue (P.SectorView.space space.old).tells → IfOk result (λ came. IsShortAhead came (capacity_of volume.old) (P.SectorView.space space.old).spare _path.now (P.SectorView.space space.old).content) }
     ensures stands { OnOk result (StandsOver volume.new (P.SectorView.space space.new)) }
     ensures settled { IsTrue (P.SectorView.space space.old).tells → OnOk result (IsSettled volume.new (P.SectorView.space space.new).content) }
     ensures service { IsInService volume.new (P.SectorView.space space.new) }
@@ -259,7 +258,7 @@ pub fn cut_ahead<P: SectorSpace>(
     // Told, a cut was made where one goes first, or nothing was changed.
     ensures came { IsTrue (P.SectorView.space space.old).tells → IfOk result (λ came. CutsAhead came (capacity_of volume.old) path.now end (P.SectorView.space space.old).content (P.SectorView.space space.new).content) }
     // A commit comes first only where there is too little room for the cut.
-    ensures short { IsTrue (P.SectorView.space space.old).tells → (node : PlainNode) → to_file (tree_of (P.SectorView.space space.old).content) path.now ≡ Ok node → IfOk result (λ came. IsShortCut came (capacity_of volume.old) (P.SectorView.space space.old).spare node.id (volume_of (P.SectorView.space space.old).content)) }
+    ensures short { IsTrue (P.SectorView.space space.old).tells → IfOk result (λ came. IsShortAhead came (capacity_of volume.old) (P.SectorView.space space.old).spare path.now (P.SectorView.space space.old).content) }
     ensures stands { OnOk result (StandsOver volume.new (P.SectorView.space space.new)) }
     ensures settled { IsTrue (P.SectorView.space space.old).tells → OnOk result (IsSettled volume.new (P.SectorView.space space.new).content) }
     ensures service { IsInService volume.new (P.SectorView.space space.new) }

@@ -1,12 +1,9 @@
-use Rattle.std.proofs.Common.{ℕ, List, ◌∙◌, ap, subst}
+use Rattle.std.proofs.Common.{ℕ, List, ◌∙◌, subst}
 use Rattle.std.specs.List.{Contains}
 use Rattle.volume_base.specs.Room.{capacity_of}
 use Rattle.volume_base.specs.Touching.{Touches}
 use Rattle.volume_base.proofs.Commanding.{touches_both, touches_looks}
-use Rattle.sector_disk.specs.Lists.{Content}
-use Rattle.hfs_model.specs.Step.{to_file}
-use Rattle.hfs_volume.specs.TreeOf.{tree_of}
-use Rattle.volume_space.proofs.CutShort.{short_behind}
+use Rattle.volume_space.proofs.CutShort.{path_behind}
 use Rattle.volume_space.proofs.KeptUsed.{used_both, used_read}
 use Rattle.volume_space.proofs.PastSizes.{ahead_behind}
 use Rattle.volume_base.proofs.Still.{own_still}
@@ -39,7 +36,6 @@ pub returns-in_err-told-clause-used : goal.returns-in_err-told-clause-used
 returns-in_err-told-clause-used g c = used_read c.args.volume.now c.facts.new.self (g.P.SectorView.space c.args.space.now) (g.P.SectorView.space c.facts.new.space) c.facts.ensures.reads
 
 pub returns-in-Ok-clause-short : goal.returns-in-Ok-clause-short
-returns-in-Ok-clause-short g c tells node is =
-    let content = c.facts.ensures.reads.looks.content tells in
-    short_behind c.cut_told.result node.id (capacity_of c.facts.new.self) (capacity_of c.args.volume.now) (g.P.SectorView.space c.facts.new.space).spare (g.P.SectorView.space c.args.space.now).spare (g.P.SectorView.space c.facts.new.space).content (g.P.SectorView.space c.args.space.now).content
-    content c.facts.ensures.reads.keeps.capacity c.facts.ensures.reads.looks.spare (c.cut_told.ensures.short (c.facts.ensures.reads.looks.same.tells ∙ tells) node (ap (λ (k : Content). to_file (tree_of k) c.args.path.now) content ∙ is))
+returns-in-Ok-clause-short g c tells =
+    path_behind c.cut_told.result c.args.path.now (capacity_of c.facts.new.self) (capacity_of c.args.volume.now) (g.P.SectorView.space c.facts.new.space).spare (g.P.SectorView.space c.args.space.now).spare (g.P.SectorView.space c.facts.new.space).content (g.P.SectorView.space c.args.space.now).content
+    (c.facts.ensures.reads.looks.content tells) c.facts.ensures.reads.keeps.capacity c.facts.ensures.reads.looks.spare (c.cut_told.ensures.short (c.facts.ensures.reads.looks.same.tells ∙ tells))
