@@ -50,7 +50,7 @@ use Rattle.volume_step.specs.Anew.{FitsAnew, IsAnew, IsReadyAlike}
 use Rattle.volume_step.specs.Steps.{FitsNow, IsTaken, PutsNow, verdict_of}
 use Rattle.volume_step.specs.declared.judging.Verdict.TheVariants as verdict
 use Rattle.volume_step.proofs.Judged.{three}
-use Rattle.volume_step.proofs.Ready.{edits_load, filled_still, now_still, of_cost, there_still, wants_now}
+use Rattle.volume_step.proofs.Ready.{edits_load, filled_still, now_still, of_cost, there_still, wants_now, wants_load}
 use Rattle.volume_step.proofs.ReadyData.{data_weight, puts_still}
 
 -- ---- blocks
@@ -225,25 +225,35 @@ module _ (asked : Command) (v w : Volume) (a b : Space) (settled : IsSettled v a
   fits_now is = record { no_data = is; load = it.now.load; grow = it.now.grow; costs = it.now.costs; within = it.now.within }
 
   -- the first growth is wanted still
-  pub wants_alike : refuses (tree_of a.content) (Ok asked) ≡ false → (tree : WhichTree) (more : ℕ) → 0 < more → first_growth it.now.grow ≡ alone tree more → WantsFirst tree more w b
-  wants_alike fine tree more some first = by (data_of (tree_of a.content) asked) refl
+  pub wants_so : refuses (tree_of a.content) (Ok asked) ≡ false → (tree : WhichTree) (more : ℕ) → 0 < more → first_growth it.now.grow ≡ alone tree more → (wants : WantsFirst tree more w b) × (wants.load ≡ it.now.load)
+  wants_so fine tree more some first = by (data_of (tree_of a.content) asked) refl
     where
-      by : (d : Option Data) → data_of (tree_of a.content) asked ≡ d → WantsFirst tree more w b
-      by None is = wants_now asked v w a b reads tells unread (fits_now is) tree more some first
-          (growth_there v a.content settled asked unread is fine (capacity_of v) (takable_of v) it.now.load it.now.grow it.now.costs tree more some first) (it.records tree more some first)
-      by (Some put) is = record {
-        needs = needs_data (takable_of v) (volume_of a.content) put;
-        capacity = capacity_of w;
-        load = it.now.load;
-        grow = it.now.grow;
-        costs = subst (λ (k : ℕ × Bitmap × Content). cost_of (needs_data (takable_of v) (volume_of a.content) put) (room_with k.0 (takable_in k.1) (volume_of k.2)) ≡ cost.Load it.now.load it.now.grow) {x = (capacity_of v, v.map, a.content)} {y = (capacity_of w, w.map, b.content)}
-            (λ i. (sym reads.keeps.capacity i, sym reads.keeps.map i, sym (reads.looks.content tells) i)) (data_cost v a asked unread it.now.load it.now.grow it.now.costs it.now.no_cut put is);
-        within = omega (arith, it.now.within, reads.looks.spare);
-        some = some;
-        first = first;
-        there = there_still v w reads.keeps.header tree (data_there v (needs_data (takable_of v) (volume_of a.content) put) (room_with (capacity_of v) (takable_of v) (volume_of a.content)) it.now.load it.now.grow (data_cost v a asked unread it.now.load it.now.grow it.now.costs it.now.no_cut put is) refl tree more some first);
-        short = inr (filled_still v w a b reads tells tree (it.records tree more some first), refl);
-      }
+      by : (d : Option Data) → data_of (tree_of a.content) asked ≡ d → (wants : WantsFirst tree more w b) × (wants.load ≡ it.now.load)
+      by None is = (
+        wants_now asked v w a b reads tells unread (fits_now is) tree more some first
+            (growth_there v a.content settled asked unread is fine (capacity_of v) (takable_of v) it.now.load it.now.grow it.now.costs tree more some first) (it.records tree more some first),
+        wants_load asked v w a b reads tells unread (fits_now is) tree more some first
+            (growth_there v a.content settled asked unread is fine (capacity_of v) (takable_of v) it.now.load it.now.grow it.now.costs tree more some first) (it.records tree more some first),
+      )
+      by (Some put) is = (
+        record {
+          needs = needs_data (takable_of v) (volume_of a.content) put;
+          capacity = capacity_of w;
+          load = it.now.load;
+          grow = it.now.grow;
+          costs = subst (λ (k : ℕ × Bitmap × Content). cost_of (needs_data (takable_of v) (volume_of a.content) put) (room_with k.0 (takable_in k.1) (volume_of k.2)) ≡ cost.Load it.now.load it.now.grow) {x = (capacity_of v, v.map, a.content)} {y = (capacity_of w, w.map, b.content)}
+              (λ i. (sym reads.keeps.capacity i, sym reads.keeps.map i, sym (reads.looks.content tells) i)) (data_cost v a asked unread it.now.load it.now.grow it.now.costs it.now.no_cut put is);
+          within = omega (arith, it.now.within, reads.looks.spare);
+          some = some;
+          first = first;
+          there = there_still v w reads.keeps.header tree (data_there v (needs_data (takable_of v) (volume_of a.content) put) (room_with (capacity_of v) (takable_of v) (volume_of a.content)) it.now.load it.now.grow (data_cost v a asked unread it.now.load it.now.grow it.now.costs it.now.no_cut put is) refl tree more some first);
+          short = inr (filled_still v w a b reads tells tree (it.records tree more some first), refl);
+        },
+        refl,
+      )
+
+  pub wants_alike : refuses (tree_of a.content) (Ok asked) ≡ false → (tree : WhichTree) (more : ℕ) → 0 < more → first_growth it.now.grow ≡ alone tree more → WantsFirst tree more w b
+  wants_alike fine tree more some first = (wants_so fine tree more some first).0
 
   -- where no tree grows it fits now, or its data is put now
   pub fits_alike : it.now.grow ≡ 0 ∷ 0 ∷ 0 ∷ [] → ((now : FitsNow asked w b) × (now.grow ≡ 0 ∷ 0 ∷ 0 ∷ [])) ⊎ PutsNow asked w b

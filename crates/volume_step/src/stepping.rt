@@ -164,6 +164,7 @@ fn change<P: SectorSpace>(
     ensures touches { (committed : Content) → HoldsOn committed volume.old → IsLaidOutAs committed volume.old → Touches committed (OwnOf volume.old volume.new) (P.SectorView.space space.old) (P.SectorView.space space.new) }
     ensures same { SameSpace (P.SectorView.space space.old) (P.SectorView.space space.new) }
     ensures loads { IsTrue (P.SectorView.space space.old).tells → leaves_links command.now ≡ true → IsFilled command.now (P.SectorView.space space.old).content → IfOk result (λ it. TakesItsLoad it command.now volume.old (P.SectorView.space space.old) (P.SectorView.space space.new)) }
+    ensures within { IsTrue (P.SectorView.space space.old).tells → leaves_links command.now ≡ true → (ready : IsReadyAlike command.now volume.old (P.SectorView.space space.old)) → (P.SectorView.space space.old).spare ≤ (P.SectorView.space space.new).spare + ready.now.load }
     ensures below { P.SectorView.follows space.old space.new }
     ensures cause { HasTroubleCause (P.SectorView.space space.old).faults (P.SectorView.space space.new).faults result }
 {
@@ -220,6 +221,9 @@ pub fn step<P: SectorSpace>(
     // Answered, it takes no more room for puts than its load names, of the blocks that may be taken; of a file that data is put into each overflow
     // record has an extent in use. What `rm` and `ln` take isn't told.
     ensures loads { IsTrue (P.SectorView.space space.old).tells → leaves_links command.now ≡ true → IsFilled command.now (P.SectorView.space space.old).content → IfOk result (λ it. TakesItsLoad it command.now volume.old (P.SectorView.space space.old) (P.SectorView.space space.new)) }
+    // Where it costs the same load of all free blocks and of those that may be taken, which the room suffices for, and no cut goes ahead of it, it takes no more than
+    // that whatever it comes to: on a fault too, and where a tree grows ahead of it. Each overflow record of that tree and of the file has an extent in use.
+    ensures within { IsTrue (P.SectorView.space space.old).tells → leaves_links command.now ≡ true → (ready : IsReadyAlike command.now volume.old (P.SectorView.space space.old)) → (P.SectorView.space space.old).spare ≤ (P.SectorView.space space.new).spare + ready.now.load }
     ensures below { P.SectorView.follows space.old space.new }
     ensures cause { HasTroubleCause (P.SectorView.space space.old).faults (P.SectorView.space space.new).faults result }
 {

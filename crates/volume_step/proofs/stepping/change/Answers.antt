@@ -17,7 +17,7 @@ use Rattle.volume_step.proofs.AheadLoads.{again_so, never_again, none_ahead, ref
 use Rattle.volume_step.proofs.GrowthThere.{growth_there}
 use Rattle.volume_step.proofs.Ready.{now_still, wants_load, wants_now}
 use Rattle.volume_step.proofs.ReadyData.{puts_still}
-use Rattle.volume_step.proofs.AnewReady.{fits_alike, wants_alike}
+use Rattle.volume_step.proofs.AnewReady.{fits_alike, wants_alike, wants_so}
 use Rattle.volume_space.specs.Writing.{IsFilled}
 use Rattle.volume_step.proofs.Loaded.{takes_any, takes_behind, takes_one, within_behind, within_reads}
 use Rattle.volume_step.proofs.stepping.change.Goals as goal
@@ -259,3 +259,28 @@ returns-in-Grows-clause-ahead g c tells ready =
     (wants_now c.args.command.now c.args.volume.now c.judge.new.volume (g.P.SectorView.space c.args.space.now) (g.P.SectorView.space c.judge.new.space) c.judge.ensures.reads tells c.requires.changes ready.now c.in-Grows.tree c.in-Grows.more first.0 first.1 there records) in
     let load = wants_load c.args.command.now c.args.volume.now c.judge.new.volume (g.P.SectorView.space c.args.space.now) (g.P.SectorView.space c.judge.new.space) c.judge.ensures.reads tells c.requires.changes ready.now c.in-Grows.tree c.in-Grows.more first.0 first.1 there records in
     again_so c.grow_first.result ((g.P.SectorView.space c.args.space.now).spare ≤ (g.P.SectorView.space c.grow_first.new.space).spare + ready.now.load) (omega (arith, spent, load, c.judge.ensures.reads.looks.spare))
+
+pub returns-in_err-why-clause-within : goal.returns-in_err-why-clause-within
+returns-in_err-why-clause-within g c tells leaves it = omega (arith, c.judge.ensures.reads.looks.spare)
+
+pub returns-in-Refused-clause-within : goal.returns-in-Refused-clause-within
+returns-in-Refused-clause-within g c tells leaves it = omega (arith, c.judge.ensures.reads.looks.spare)
+
+pub returns-in-CommitFirst-clause-within : goal.returns-in-CommitFirst-clause-within
+returns-in-CommitFirst-clause-within g c tells leaves it = omega (arith, c.judge.ensures.reads.looks.spare)
+
+pub returns-in-CutFirst-clause-within : goal.returns-in-CutFirst-clause-within
+returns-in-CutFirst-clause-within g c tells leaves it = absurd (subst (λ (v : Verdict). IsTaken v it.now.grow) c.in-CutFirst.is (c.in_ok-why.ensures.alike tells it.now))
+
+pub returns-in-Grows-clause-within : goal.returns-in-Grows-clause-within
+returns-in-Grows-clause-within g c tells leaves it =
+    let first = subst (λ (v : Verdict). IsTaken v it.now.grow) c.in-Grows.is (c.in_ok-why.ensures.alike tells it.now) in
+    let waits : WaitsForGrowth c.in-Grows.tree c.in-Grows.more (capacity_of c.args.volume.now) c.args.command.now (g.P.SectorView.space c.args.space.now).content =
+    subst (λ (v : Verdict). IsJudged v (capacity_of c.args.volume.now) c.args.command.now (g.P.SectorView.space c.args.space.now).content) c.in-Grows.is (c.in_ok-why.ensures.judged tells) in
+    let wants = wants_so c.args.command.now c.args.volume.now c.judge.new.volume (g.P.SectorView.space c.args.space.now) (g.P.SectorView.space c.judge.new.space) (c.requires.settled tells) c.judge.ensures.reads tells c.requires.changes it waits.no_refusal c.in-Grows.tree c.in-Grows.more first.0 first.1 in
+    omega (arith, c.judge.ensures.reads.looks.spare, c.grow_first.ensures.spent (c.judge.ensures.reads.looks.same.tells ∙ tells) wants.0, wants.1)
+
+pub returns-in-Fits-clause-within : goal.returns-in-Fits-clause-within
+returns-in-Fits-clause-within g c tells leaves it =
+    within_behind c.args.command.now c.args.volume.now c.judge.new.volume (g.P.SectorView.space c.args.space.now) (g.P.SectorView.space c.judge.new.space) (g.P.SectorView.space c.perform.new.space) c.judge.ensures.reads tells
+    (c.perform.ensures.loads (c.judge.ensures.reads.looks.same.tells ∙ tells) leaves (subst (λ (k : Content). IsFilled c.args.command.now k) (sym (c.judge.ensures.reads.looks.content tells)) it.filled)) it.now.load it.now.grow it.now.costs

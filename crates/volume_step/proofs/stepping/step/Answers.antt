@@ -1,4 +1,4 @@
-use Rattle.std.proofs.Common.{[], inl, inr, sym, ◌∙◌}
+use Rattle.std.proofs.Common.{[], inl, inr, sym, ◌∙◌, arith}
 use Rattle.std.proofs.lemmas.Bool.{true≢false}
 use Rattle.hfs_volume.specs.TreeOf.{tree_of}
 use Rattle.hfs_volume.specs.Content.{volume_of}
@@ -47,3 +47,6 @@ returns-then-only_reads-clause-ahead g c tells ready =
 
 pub returns-clause-ahead : goal.returns-clause-ahead
 returns-clause-ahead g c tells ready = c.change.ensures.ahead tells ready
+
+pub returns-then-only_reads-clause-within : goal.returns-then-only_reads-clause-within
+returns-then-only_reads-clause-within g c tells leaves it = omega (arith, c.answer.ensures.spent)
