@@ -34,6 +34,6 @@ pub record IsPlayed (seed count : ℕ) (played : Played) : Type 0 where
   pub refused : played.refused ≡ number_refused run
   pub clean : played.clean ≡ true
 
--- A line of such a stream was told, with this status.
-abbrev pub ToldPlayed : (seed count : ℕ) → Status → State → State → Type 0
-ToldPlayed seed count result old new = (played : Played) × IsPlayed seed count played × (result ≡ verdict_of played) × (new.told ≡ old.told ++ played_text seed count played)
+-- A line of such a stream was told.
+abbrev pub ToldPlayed : (seed count : ℕ) → State → State → Type 0
+ToldPlayed seed count old new = (played : Played) × IsPlayed seed count played × (new.told ≡ old.told ++ played_text seed count played)

@@ -3,9 +3,8 @@ use Rattle.std.specs.Prelude.{◌≡◌, ℕ, ◌+◌, ◌==◌, ◌&&◌, zero,
 use Rattle.sector_disk.specs.Cause.{next_count}
 use Rattle.jnl_format.specs.Recovery.{Content}
 use Rattle.hfs_language.specs.Lines.{lines}
-use Rattle.hfs_language.specs.declared.reply.Reply.{Reply}
-use Rattle.hfs_language.specs.declared.reply.Reply.TheVariants as reply
 use Rattle.hfs_model.specs.Plain.{fresh_tree}
+use Rattle.hfs_model.specs.Step.{is_refusal}
 use Rattle.hfs_model.specs.declared.plain.PlainTree.{PlainTree}
 use Rattle.hfs_volume.specs.Mount.{MountsTo}
 use Rattle.hfs_volume.specs.TreeOf.{tree_of}
@@ -26,11 +25,6 @@ abbrev pub stream_of : (seed count : ℕ) → List (List ℕ)
 stream_of seed count = stream_from seed 0 count
 
 -- ---- what they are answered
-
--- a line was refused
-abbrev pub is_refusal : Reply → Bool
-is_refusal (reply.No why) = true
-is_refusal _ = false
 
 -- how many entries of a run were done
 unfoldable pub number_done : List Entry → ℕ

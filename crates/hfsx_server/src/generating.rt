@@ -63,15 +63,14 @@ struct Found {
 }
 
 /// Plays so many lines of the stream of a seed on a volume of 65,536 sectors in memory, and tells on one line what was answered and what
-/// the volume holds: `gen SEED COUNT ok A no B folders C names D files E bytes F sum G clean`, or `unsound` in place of `clean`.
-/// The disk of `rig` is left alone.
+/// the volume holds: `gen SEED COUNT ok A no B folders C names D files E bytes F sum G clean`. The disk of `rig` is left alone.
 ///
 /// The numbers of done and refused lines are those of runs of the stream's lines from an empty volume. A volume that was played on is sound, so that
-/// `unsound`, and the status for it, are never told.
+/// `unsound`, which would stand for one that isn't, and the status for it, are never told.
 pub fn generate<R: Rig>(alloc: Global, rig: &mut R, seed: u64, count: u64) -> Status
-    ensures told { IsTrue (R.state rig.old).tells → (result ≡ Status.Done) ⊎ (result ≡ Status.Refused) → ToldPlayed seed count result (R.state rig.old) (R.state rig.new) }
+    ensures told { IsTrue (R.state rig.old).tells → result ≡ Status.Done → ToldPlayed seed count (R.state rig.old) (R.state rig.new) }
     ensures sound { result ≢ Status.Refused }
-    ensures kinds { (result ≡ Status.Done) ⊎ ((result ≡ Status.Refused) ⊎ ((result ≡ Status.Sink) ⊎ (result ≡ Status.Memory))) }
+    ensures kinds { (result ≡ Status.Done) ⊎ ((result ≡ Status.Sink) ⊎ (result ≡ Status.Memory)) }
     ensures unwritten { (R.state rig.new).candidates ≡ (R.state rig.old).candidates }
     ensures barriers { (R.state rig.new).barriers ≡ (R.state rig.old).barriers }
     ensures sink { result ≡ Status.Sink → Rose (R.state rig.old).sink_faults (R.state rig.new).sink_faults }

@@ -94,7 +94,7 @@ pub fn hfsx<R: Rig, S: Source, W: Watcher>(
 
     // `gen`: with status 0 its line was told, with the numbers of the stream's lines that were done and refused in runs from an empty volume, and that the
     // volume in memory is sound. Status 1 doesn't stand. Nothing is written.
-    ensures gen_told { (seed count : ℕ) → AreGen (texts words.now) seed count → IsTrue (R.state rig.old).tells → (result ≡ Status.Done) ⊎ (result ≡ Status.Refused) → ToldPlayed seed count result (R.state rig.old) (R.state rig.new) }
+    ensures gen_told { (seed count : ℕ) → AreGen (texts words.now) seed count → IsTrue (R.state rig.old).tells → result ≡ Status.Done → ToldPlayed seed count (R.state rig.old) (R.state rig.new) }
     ensures gen_sound { (seed count : ℕ) → AreGen (texts words.now) seed count → result ≢ Status.Refused }
     ensures gen_unwritten { (seed count : ℕ) → AreGen (texts words.now) seed count → ((R.state rig.new).candidates ≡ (R.state rig.old).candidates) × ((R.state rig.new).barriers ≡ (R.state rig.old).barriers) }
 

@@ -223,7 +223,7 @@ pub returns-in-Ok-Gen-clause-format_made : goal.returns-in-Ok-Gen-clause-format_
 returns-in-Ok-Gen-clause-format_made g c format tells is = absurd (no_format_of_gen (texts c.args.words.now) _ _ _ format (named (texts c.args.words.now) _ _ c.in-Ok-Gen.field-0-is c.in-Ok-Gen.ensures.work))
 
 pub returns-in-Ok-Run-clause-gen_told : goal.returns-in-Ok-Run-clause-gen_told
-returns-in-Ok-Run-clause-gen_told g c seed count gen tells either = absurd (no_run_of_gen (texts c.args.words.now) seed count (named (texts c.args.words.now) _ _ c.in-Ok-Run.field-0-is c.in-Ok-Run.ensures.work) gen)
+returns-in-Ok-Run-clause-gen_told g c seed count gen tells done = absurd (no_run_of_gen (texts c.args.words.now) seed count (named (texts c.args.words.now) _ _ c.in-Ok-Run.field-0-is c.in-Ok-Run.ensures.work) gen)
 
 pub returns-in-Ok-Run-clause-gen_unwritten : goal.returns-in-Ok-Run-clause-gen_unwritten
 returns-in-Ok-Run-clause-gen_unwritten g c seed count gen = absurd (no_run_of_gen (texts c.args.words.now) seed count (named (texts c.args.words.now) _ _ c.in-Ok-Run.field-0-is c.in-Ok-Run.ensures.work) gen)
@@ -232,7 +232,7 @@ pub returns-in-Ok-Run-clause-gen_sound : goal.returns-in-Ok-Run-clause-gen_sound
 returns-in-Ok-Run-clause-gen_sound g c seed count gen = absurd (no_run_of_gen (texts c.args.words.now) seed count (named (texts c.args.words.now) _ _ c.in-Ok-Run.field-0-is c.in-Ok-Run.ensures.work) gen)
 
 pub returns-in-Ok-Check-clause-gen_told : goal.returns-in-Ok-Check-clause-gen_told
-returns-in-Ok-Check-clause-gen_told g c seed count gen tells either = absurd (no_check_of_gen (texts c.args.words.now) seed count (named (texts c.args.words.now) _ _ c.in-Ok-Check.field-0-is c.in-Ok-Check.ensures.work) gen)
+returns-in-Ok-Check-clause-gen_told g c seed count gen tells done = absurd (no_check_of_gen (texts c.args.words.now) seed count (named (texts c.args.words.now) _ _ c.in-Ok-Check.field-0-is c.in-Ok-Check.ensures.work) gen)
 
 pub returns-in-Ok-Check-clause-gen_unwritten : goal.returns-in-Ok-Check-clause-gen_unwritten
 returns-in-Ok-Check-clause-gen_unwritten g c seed count gen = absurd (no_check_of_gen (texts c.args.words.now) seed count (named (texts c.args.words.now) _ _ c.in-Ok-Check.field-0-is c.in-Ok-Check.ensures.work) gen)
@@ -241,7 +241,7 @@ pub returns-in-Ok-Check-clause-gen_sound : goal.returns-in-Ok-Check-clause-gen_s
 returns-in-Ok-Check-clause-gen_sound g c seed count gen = absurd (no_check_of_gen (texts c.args.words.now) seed count (named (texts c.args.words.now) _ _ c.in-Ok-Check.field-0-is c.in-Ok-Check.ensures.work) gen)
 
 pub returns-then-sectors-clause-gen_told : goal.returns-then-sectors-clause-gen_told
-returns-then-sectors-clause-gen_told g c seed count gen tells either = absurd (no_format_of_gen (texts c.args.words.now) _ seed count (named (texts c.args.words.now) _ _ c.in-Ok-Format.field-0-is c.in-Ok-Format.ensures.work) gen)
+returns-then-sectors-clause-gen_told g c seed count gen tells done = absurd (no_format_of_gen (texts c.args.words.now) _ seed count (named (texts c.args.words.now) _ _ c.in-Ok-Format.field-0-is c.in-Ok-Format.ensures.work) gen)
 
 pub returns-then-sectors-clause-gen_unwritten : goal.returns-then-sectors-clause-gen_unwritten
 returns-then-sectors-clause-gen_unwritten g c seed count gen = absurd (no_format_of_gen (texts c.args.words.now) _ seed count (named (texts c.args.words.now) _ _ c.in-Ok-Format.field-0-is c.in-Ok-Format.ensures.work) gen)
@@ -250,7 +250,7 @@ pub returns-then-sectors-clause-gen_sound : goal.returns-then-sectors-clause-gen
 returns-then-sectors-clause-gen_sound g c seed count gen = absurd (no_format_of_gen (texts c.args.words.now) _ seed count (named (texts c.args.words.now) _ _ c.in-Ok-Format.field-0-is c.in-Ok-Format.ensures.work) gen)
 
 pub returns-else-sectors-clause-gen_told : goal.returns-else-sectors-clause-gen_told
-returns-else-sectors-clause-gen_told g c seed count gen tells either = absurd (no_format_of_gen (texts c.args.words.now) _ seed count (named (texts c.args.words.now) _ _ c.in-Ok-Format.field-0-is c.in-Ok-Format.ensures.work) gen)
+returns-else-sectors-clause-gen_told g c seed count gen tells done = absurd (no_format_of_gen (texts c.args.words.now) _ seed count (named (texts c.args.words.now) _ _ c.in-Ok-Format.field-0-is c.in-Ok-Format.ensures.work) gen)
 
 pub returns-else-sectors-clause-gen_unwritten : goal.returns-else-sectors-clause-gen_unwritten
 returns-else-sectors-clause-gen_unwritten g c seed count gen = absurd (no_format_of_gen (texts c.args.words.now) _ seed count (named (texts c.args.words.now) _ _ c.in-Ok-Format.field-0-is c.in-Ok-Format.ensures.work) gen)
@@ -259,7 +259,7 @@ pub returns-else-sectors-clause-gen_sound : goal.returns-else-sectors-clause-gen
 returns-else-sectors-clause-gen_sound g c seed count gen = absurd (no_format_of_gen (texts c.args.words.now) _ seed count (named (texts c.args.words.now) _ _ c.in-Ok-Format.field-0-is c.in-Ok-Format.ensures.work) gen)
 
 pub returns-in-Ok-Wrong-clause-gen_told : goal.returns-in-Ok-Wrong-clause-gen_told
-returns-in-Ok-Wrong-clause-gen_told g c seed count gen tells either = absurd ((named (texts c.args.words.now) _ _ c.in-Ok-Wrong.field-0-is c.in-Ok-Wrong.ensures.work).3 seed count gen)
+returns-in-Ok-Wrong-clause-gen_told g c seed count gen tells done = absurd ((named (texts c.args.words.now) _ _ c.in-Ok-Wrong.field-0-is c.in-Ok-Wrong.ensures.work).3 seed count gen)
 
 pub returns-in-Ok-Wrong-clause-gen_unwritten : goal.returns-in-Ok-Wrong-clause-gen_unwritten
 returns-in-Ok-Wrong-clause-gen_unwritten g c seed count gen = absurd ((named (texts c.args.words.now) _ _ c.in-Ok-Wrong.field-0-is c.in-Ok-Wrong.ensures.work).3 seed count gen)
@@ -268,7 +268,7 @@ pub returns-in-Ok-Wrong-clause-gen_sound : goal.returns-in-Ok-Wrong-clause-gen_s
 returns-in-Ok-Wrong-clause-gen_sound g c seed count gen = absurd ((named (texts c.args.words.now) _ _ c.in-Ok-Wrong.field-0-is c.in-Ok-Wrong.ensures.work).3 seed count gen)
 
 pub returns-in-Ok-Gen-clause-gen_told : goal.returns-in-Ok-Gen-clause-gen_told
-returns-in-Ok-Gen-clause-gen_told g c seed count gen tells either = subst (λ (n : ℕ). ToldPlayed n count c.generate.result (g.R.SectorDisk.state c.args.rig.now) (g.R.SectorDisk.state c.generate.new.rig)) (same_seed (texts c.args.words.now) c.in-Ok-Gen.seed seed c.in-Ok-Gen.count count (named (texts c.args.words.now) _ _ c.in-Ok-Gen.field-0-is c.in-Ok-Gen.ensures.work) gen) (subst (λ (n : ℕ). ToldPlayed c.in-Ok-Gen.seed n c.generate.result (g.R.SectorDisk.state c.args.rig.now) (g.R.SectorDisk.state c.generate.new.rig)) (same_count (texts c.args.words.now) c.in-Ok-Gen.seed seed c.in-Ok-Gen.count count (named (texts c.args.words.now) _ _ c.in-Ok-Gen.field-0-is c.in-Ok-Gen.ensures.work) gen) (c.generate.ensures.told tells either))
+returns-in-Ok-Gen-clause-gen_told g c seed count gen tells done = subst (λ (n : ℕ). ToldPlayed n count (g.R.SectorDisk.state c.args.rig.now) (g.R.SectorDisk.state c.generate.new.rig)) (same_seed (texts c.args.words.now) c.in-Ok-Gen.seed seed c.in-Ok-Gen.count count (named (texts c.args.words.now) _ _ c.in-Ok-Gen.field-0-is c.in-Ok-Gen.ensures.work) gen) (subst (λ (n : ℕ). ToldPlayed c.in-Ok-Gen.seed n (g.R.SectorDisk.state c.args.rig.now) (g.R.SectorDisk.state c.generate.new.rig)) (same_count (texts c.args.words.now) c.in-Ok-Gen.seed seed c.in-Ok-Gen.count count (named (texts c.args.words.now) _ _ c.in-Ok-Gen.field-0-is c.in-Ok-Gen.ensures.work) gen) (c.generate.ensures.told tells done))
 
 pub returns-in-Ok-Gen-clause-gen_unwritten : goal.returns-in-Ok-Gen-clause-gen_unwritten
 returns-in-Ok-Gen-clause-gen_unwritten g c seed count gen = (c.generate.ensures.unwritten, c.generate.ensures.barriers)
