@@ -4,7 +4,7 @@ use Rattle.std.proofs.lemmas.List.{append-nil, append_cancel_right}
 use Rattle.std.proofs.lemmas.List.Elements.{All-head, All-tail}
 use Rattle.sector_disk.specs.Source.{Stream}
 use Rattle.hfs_language.specs.Lines.{HasNoNewline}
-use Rattle.line_source.specs.Input.{ahead, TakesNoMore}
+use Rattle.line_source.specs.Input.{most_taken, ahead, TakesNoMore}
 
 -- bytes had to be taken, since the line didn't end in those taken before
 pub record Fetched (taken : List ℕ) (old : Stream) (text : List ℕ) (taken_now : List ℕ) (now : Stream) : Type 0 where
@@ -12,7 +12,7 @@ pub record Fetched (taken : List ℕ) (old : Stream) (text : List ℕ) (taken_no
   pub left : old.left ≡ came ++ now.left
   pub needed : HasNoNewline taken
   pub bytes : text ++ taken_now ≡ taken ++ came
-  pub few : length taken_now ≤ 4194304
+  pub few : length taken_now ≤ most_taken
 
 -- the text came of the bytes taken before alone, or more had to be taken
 abbrev pub Fetches : List ℕ → Stream → List ℕ → List ℕ → Stream → Type 0
@@ -47,7 +47,7 @@ module _ (taken : List ℕ) (old : Stream) (text : List ℕ) where
   }
 
   -- one byte more
-  pub fetches_byte : (taken_now taken_new : List ℕ) (now new : Stream) (byte : ℕ) → ((taken_now ≡ [] → ⊥) → new ≡ now) → length taken_new ≤ 4194304 → ahead taken_now now ≡ byte ∷ ahead taken_new new
+  pub fetches_byte : (taken_now taken_new : List ℕ) (now new : Stream) (byte : ℕ) → ((taken_now ≡ [] → ⊥) → new ≡ now) → length taken_new ≤ most_taken → ahead taken_now now ≡ byte ∷ ahead taken_new new
       → HasNoNewline text → Fetches taken old text taken_now now → Fetches taken old (text ++ byte ∷ []) taken_new new
   fetches_byte [] taken_new now new byte still few came none (inl same) = inr (record {
     came = byte ∷ taken_new;
@@ -98,7 +98,7 @@ module _ (taken : List ℕ) (old : Stream) (text : List ℕ) where
   })
 
   -- bytes were taken of the source where none were left of those taken before
-  pub fetches_on : (taken_now taken_new : List ℕ) (now new : Stream) → ((taken_now ≡ [] → ⊥) → (new ≡ now) × (taken_new ≡ taken_now)) → length taken_new ≤ 4194304 → ahead taken_new new ≡ ahead taken_now now
+  pub fetches_on : (taken_now taken_new : List ℕ) (now new : Stream) → ((taken_now ≡ [] → ⊥) → (new ≡ now) × (taken_new ≡ taken_now)) → length taken_new ≤ most_taken → ahead taken_new new ≡ ahead taken_now now
       → HasNoNewline text → Fetches taken old text taken_now now → Fetches taken old text taken_new new
   fetches_on [] taken_new now new still few came none (inl same) = inr (record {
     came = taken_new;

@@ -8,7 +8,7 @@ use Rattle.sector_disk.specs.Source.{Stream}
 use Rattle.hfs_language.specs.Lines.{lines, HasNoNewline}
 use Rattle.hfs_language.proofs.Lines.{lines_ended, lines_last}
 use Rattle.line_source.specs.Cutting.{Cuts}
-use Rattle.line_source.specs.Input.{ahead, weight, IsLine, SameSource, TakesLines, TakesNoMore}
+use Rattle.line_source.specs.Input.{most_taken, ahead, weight, IsLine, SameSource, TakesLines, TakesNoMore}
 use Rattle.line_source.proofs.Fetching.{Fetches, fetches_byte, fetches_none, fetches_on, fetches_piece, no_more}
 
 -- some bytes of a line have come so far
@@ -28,7 +28,7 @@ module _ (limit : ℕ) (taken : List ℕ) (old : Stream) (taken_now : List ℕ) 
 
   -- bytes were taken of the source where none were left of those taken before
   pub reads_on : (taken_new : List ℕ) (new : Stream) → (IsTrue now.tells → ahead taken_new new ≡ ahead taken_now now) → weight taken_new new ≤ weight taken_now now → SameSource now new → now.faults ≤ new.faults
-      → ((taken_now ≡ [] → ⊥) → (new ≡ now) × (taken_new ≡ taken_now)) → length taken_new ≤ 4194304 → Reads limit taken old taken_new new line
+      → ((taken_now ≡ [] → ⊥) → (new ≡ now) × (taken_new ≡ taken_now)) → length taken_new ≤ most_taken → Reads limit taken old taken_new new line
   reads_on taken_new new came heavy same later still_there few = record {
     text = reads.text;
     no_newline = reads.no_newline;
@@ -84,7 +84,7 @@ module _ (limit : ℕ) (taken : List ℕ) (old : Stream) (taken_now : List ℕ) 
   )
 
   -- no more was taken than the line needs, where one byte more was read, and where none was
-  pub reads_few_byte : (taken_new : List ℕ) (new : Stream) (byte : ℕ) → ((taken_now ≡ [] → ⊥) → new ≡ now) → length taken_new ≤ 4194304 → (IsTrue now.tells → ahead taken_now now ≡ byte ∷ ahead taken_new new) → IsTrue old.tells → TakesNoMore taken old new
+  pub reads_few_byte : (taken_new : List ℕ) (new : Stream) (byte : ℕ) → ((taken_now ≡ [] → ⊥) → new ≡ now) → length taken_new ≤ most_taken → (IsTrue now.tells → ahead taken_now now ≡ byte ∷ ahead taken_new new) → IsTrue old.tells → TakesNoMore taken old new
   reads_few_byte taken_new new byte still_there few came tells =
       no_more taken old reads.text (byte ∷ []) taken_new new reads.no_newline (omega arith) (fetches_byte taken old reads.text taken_now taken_new now new byte still_there few (came (still tells)) reads.no_newline (reads.fetches tells))
 
@@ -135,10 +135,10 @@ module _ (limit : ℕ) (taken : List ℕ) (old : Stream) (taken_now : List ℕ) 
     pub gone : IsTrue old.tells → (gone : List ℕ) × (ahead taken old ≡ gone ++ now.left)
     pub nearer : weight taken_new now < weight taken old
 
-  pub cut_ended : (taken_new line_new : List ℕ) (ended : Bool) → length taken_now ≤ 4194304 → Cuts limit taken_now line ended taken_new line_new → ended ≡ true → EndsLine taken_new line_new
+  pub cut_ended : (taken_new line_new : List ℕ) (ended : Bool) → length taken_now ≤ most_taken → Cuts limit taken_now line ended taken_new line_new → ended ≡ true → EndsLine taken_new line_new
   cut_ended taken_new line_new ended few cuts is =
       let whole = reads_piece limit taken old taken_now now line reads cuts.piece (10 ∷ taken_new) line_new (cuts.at_newline is) cuts.no_newline (cuts.joins reads.text reads.line_is) in
-      let left : length taken_new ≤ 4194304 = omega (arith, few, ap (λ (l : List ℕ). length l) (cuts.at_newline is), length-append cuts.piece (10 ∷ taken_new)) in
+      let left : length taken_new ≤ most_taken = omega (arith, few, ap (λ (l : List ℕ). length l) (cuts.at_newline is), length-append cuts.piece (10 ∷ taken_new)) in
       record {
         text = whole.text;
         line_is = whole.line_is;

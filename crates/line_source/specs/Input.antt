@@ -7,9 +7,13 @@ use Rattle.hfs_language.specs.Lines.{lines, HasNoNewline}
 abbrev pub ahead : List ℕ → Stream → List ℕ
 ahead taken source = taken ++ source.left
 
+-- how many bytes are taken of a source at once, at most: four mebibytes
+abbrev pub most_taken : ℕ
+most_taken = 4194304
+
 -- how many bytes may still come, at most
 abbrev pub weight : List ℕ → Stream → ℕ
-weight taken source = source.takes * 4194304 + length taken
+weight taken source = source.takes * most_taken + length taken
 
 -- what is held of a line: all of it, but of one that is longer than the limit the bytes up to the first that is too many
 abbrev pub IsLine : ℕ → List ℕ → List ℕ → Type 0
@@ -36,4 +40,4 @@ pub record TakesNoMore (taken : List ℕ) (source source_new : Stream) : Type 0 
   pub needed : (source_new ≡ source) ⊎ HasNoNewline taken
   pub came : List ℕ
   pub bytes : source.left ≡ came ++ source_new.left
-  pub few : (before behind : List ℕ) → came ≡ before ++ 10 ∷ behind → length behind ≤ 4194304
+  pub few : (before behind : List ℕ) → came ≡ before ++ 10 ∷ behind → length behind ≤ most_taken

@@ -5,7 +5,7 @@ ghost use Rattle.hfs_language.specs.Lines.{HasNoNewline};
 ghost use Rattle.line_source.specs.Cause.{IsCause};
 ghost use Rattle.line_source.specs.Batch.{has_newline};
 ghost use Rattle.line_source.specs.Cutting.{Cuts};
-ghost use Rattle.line_source.specs.Input.{ahead, weight, IsLine, SameSource, TakesLines, TakesNoMore};
+ghost use Rattle.line_source.specs.Input.{ahead, weight, IsLine, SameSource, TakesLines, TakesNoMore, most_taken};
 
 use hx_bytes::{Bytes, Failed, OutOfMemory};
 use memchr::memchr;
@@ -26,12 +26,13 @@ pub struct Input {
 
 impl Model for Input {
     ghost use Rattle.std.specs.Prelude.{ℕ, List, ◌≡◌, ◌≤◌, ◌-◌, length, take, drop};
+    ghost use Rattle.line_source.specs.Input.{most_taken};
 
     ghost Value = { List ℕ };
 
     ghost view = { λ input. take (input.end - input.start) (drop input.start input.buffer.items) };
 
-    ghost invariant = { λ input. (input.start ≤ input.end) × (input.end ≤ 4194304) × (length input.buffer.items ≡ 4194304) };
+    ghost invariant = { λ input. (input.start ≤ input.end) × (input.end ≤ most_taken) × (length input.buffer.items ≡ most_taken) };
 }
 
 /// Why no line was read.
@@ -142,7 +143,7 @@ impl Input {
         ensures end { IsTrue (S.stream source.old).tells → IfOk result (λ some. some ≡ false → (ahead self.old (S.stream source.old) ≡ []) × (ahead self.new (S.stream source.new) ≡ [])) }
         ensures kept { OnErr result (((S.stream source.new).left ≡ (S.stream source.old).left) × (self.old ≡ [])) }
         ensures still { self.old ≢ [] → (S.stream source.new ≡ S.stream source.old) × (self.new ≡ self.old) }
-        ensures few { length self.new ≤ 4194304 }
+        ensures few { length self.new ≤ most_taken }
         ensures no_more { weight self.new (S.stream source.new) ≤ weight self.old (S.stream source.old) }
         ensures same { SameSource (S.stream source.old) (S.stream source.new) }
         ensures cause { HasCause (S.stream source.old).faults (S.stream source.new).faults result }
@@ -156,7 +157,7 @@ impl Input {
 
     fn is_empty(&self) -> bool
         ensures none { IsTrue result ↔ (self.now ≡ []) }
-        ensures few { length self.now ≤ 4194304 }
+        ensures few { length self.now ≤ most_taken }
     {
         self.start == self.end
     }
@@ -166,7 +167,7 @@ impl Input {
         requires { self.old ≡ [] }
         ensures filled { IsTrue (S.stream source.old).tells → OnOk result ((S.stream source.old).left ≡ self.new ++ (S.stream source.new).left) }
         ensures end { IsTrue (S.stream source.old).tells → OnOk result (self.new ≡ [] → (S.stream source.old).left ≡ []) }
-        ensures few { length self.new ≤ 4194304 }
+        ensures few { length self.new ≤ most_taken }
         ensures kept { OnErr result ((S.stream source.new).left ≡ (S.stream source.old).left) }
         ensures no_more { weight self.new (S.stream source.new) ≤ weight self.old (S.stream source.old) }
         ensures same { SameSource (S.stream source.old) (S.stream source.new) }
