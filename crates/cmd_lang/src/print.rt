@@ -42,6 +42,7 @@ pub(crate) fn push_bytes(text: &mut Vec<u8>, value: &[u8]) -> Result<(), AllocEr
 pub(crate) fn are_plain(bytes: &[u8]) -> bool
     ensures { result ≡ list_all spec.is_plain bytes.now }
 {
+    // Without a branch for each byte the compiler looks at many of them at once.
     let mut plain = true;
     for byte in bytes {
         plain &= is_plain(*byte);

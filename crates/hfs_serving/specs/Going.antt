@@ -143,8 +143,8 @@ abbrev pub line_if : Bool → List ℕ → List (List ℕ)
 line_if true line = line ∷ []
 line_if false line = []
 
--- A line was served, or was left because a commit is wanted before it, and then nothing was done for it; housekeeping went on before that. `before`
--- and `after` are what is to be told.
+-- A line was served, or was left, with nothing done for it: a commit is wanted before it, or housekeeping didn't come to rest. Housekeeping went on
+-- before that. `before` and `after` are what is to be told.
 pub record ServesLine (answered : Bool) (capacity : ℕ) (knows : Knowing) (committed now : Content) (shrunk : Option ℕ) (old : Outside) (number : ℕ) (line : List ℕ) (before after : ToTell) (space : Space) (new : Outside) : Type 0 where
   pub said : ToTell
   pub told : after ≡ joined before said

@@ -13,7 +13,7 @@ use hx_bytes::{Bytes, Trouble};
 pub const MOST_LINES: usize = 32;
 
 /// Serves a line, before which housekeeping comes to rest. Where the line isn't the first of its batch and wants a commit before anything is done for
-/// it, it is left for the next batch. Answers whether it was served.
+/// it, it is left for the next batch. Answers whether it was served. `Memory` comes too where the line's steps are used up, `Disk` where a device failed.
 pub fn serve_line<V: Volume, G: Ground>(
     volume: &mut V,
     base: &mut G,
@@ -48,7 +48,7 @@ pub fn serve_line<V: Volume, G: Ground>(
         make_room(volume, base, step == Step::CommitFirst)?;
         may_wait = false;
     }
-    // (a line isn't left with something done for it)
+    // Its steps are used up; something was done for it, so it isn't left.
     Err(Trouble::Memory)
 }
 

@@ -25,7 +25,7 @@ const SECTORS: u64 = 65_536;
 /// made anew behind so many.
 const PART: u64 = 4_096;
 
-/// How many bytes the program takes of its lines at once.
+/// How many bytes the source gives at once, at most.
 const PIECE: u64 = 65_536;
 
 /// A volume in memory, and what its lines were answered.
@@ -43,7 +43,9 @@ pub(crate) struct Stage {
 struct Tally {
     /// Whether a line begins with the next byte.
     begins: bool,
+    /// How many lines were done.
     done: u64,
+    /// How many were refused.
     refused: u64,
 }
 
@@ -140,7 +142,7 @@ pub(crate) fn serve(
     }
 }
 
-// The numbers of replies with these that are told.
+// The numbers so far, and those of the replies in these bytes.
 fn tally_of(told: &[u8], done: u64, refused: u64) -> Tally
     ensures { result ≡ tallied (record { begins = true; done = done; refused = refused }) told.now }
 {

@@ -47,7 +47,7 @@ fn with_two_made(head: &VolumeHeader) -> VolumeHeader
     made
 }
 
-/// The CNID behind this one.
+/// The CNID behind this one, or the same where it is the last.
 fn id_behind(id: u32) -> u32
     ensures { id + 1 < 2 ^ 32 → result ≡ id + 1 }
 {
