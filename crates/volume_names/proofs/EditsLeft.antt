@@ -266,6 +266,16 @@ ready_still v w a b large reads had =
           (omega (arith, to_put_still a b (reads.looks.still_put 2), same)) (it.told tells_now);
     }
 
+-- beside any other sectors
+pub ready_beside : (beside : ℕ) (v w : Volume) (a b : Space) → (IsTrue a.tells → 4096 ≤ v.catalog.file.shape.node_size) → ReadsVolume v w a b → HasEditsLeft 7 (to_put_header a + beside) v a → HasEditsLeft 7 (to_put_header b + beside) w b
+ready_beside beside v w a b large reads had =
+    let it = left_still v w a b 7 (to_put_header a + beside) large reads had in
+    record {
+      told = λ tells_now.
+          let tells : IsTrue a.tells = sym reads.looks.same.tells ∙ tells_now in
+          leaves_less 7 (to_put_header a + beside) (to_put_header b + beside) w.catalog.file b (omega (arith, large tells, ap (λ (s : TreeShape). s.node_size) reads.keeps.catalog.file.shape)) (omega (arith, to_put_still a b (reads.looks.still_put 2))) (it.told tells_now);
+    }
+
 -- behind the private folder, whose making put the header
 pub ready_behind : (v w : Volume) (b : Space) → (IsTrue b.tells → IsTrue (b.put 2)) → (IsTrue b.tells → catalog_node w ≡ catalog_node v) → HasEditsLeft 7 (3 * catalog_node v) w b → FirstLinkFits w b
 ready_behind v w b put same =

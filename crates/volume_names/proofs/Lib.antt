@@ -14,6 +14,7 @@ pub mod LastFile
 pub mod LastLost
 pub mod LastRoom
 pub mod LinkAnew
+pub mod LinkLoads
 pub mod LinkLost
 pub mod LinkMade
 pub mod Made

@@ -2,6 +2,7 @@ pub mod Changing
 pub mod Dropping
 pub mod EditsLeft
 pub mod Entering
+pub mod LinkLoads
 pub mod Linking
 pub mod Losing
 pub mod Making

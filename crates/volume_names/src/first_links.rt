@@ -1,5 +1,5 @@
 //! `ln` of a file with one name: what is done in the catalog, and the private folder made where there is none.
-ghost use Rattle.std.specs.Prelude.{◌≡◌, ◌≤◌, ◌<◌, ◌+◌, ◌^◌, ℕ, List, None, Some, IsTrue, length, OnOk};
+ghost use Rattle.std.specs.Prelude.{◌≡◌, ◌≤◌, ◌<◌, ◌+◌, ◌*◌, ◌^◌, ℕ, List, None, Some, IsTrue, length, OnOk};
 ghost use Rattle.std.specs.List.{Contains};
 ghost use Rattle.sector_disk.specs.Lists.{Content};
 ghost use Rattle.btree_edit.specs.Causes.{HasTroubleCause};
@@ -12,14 +12,15 @@ ghost use Rattle.hfs_volume.specs.Links.{node_name};
 ghost use Rattle.hfs_volume.specs.Naming.{LinksFirst};
 ghost use Rattle.hfs_volume.specs.Records.{placed_in, record_at};
 ghost use Rattle.hfs_volume.specs.TreeOf.{tree_of};
-ghost use Rattle.volume_base.specs.Changing.{KeepsBlocks};
+ghost use Rattle.volume_names.specs.LinkLoads.{SpendsLink, SpendsOn};
+ghost use Rattle.volume_base.specs.Changing.{KeepsBlocks, catalog_node};
 ghost use Rattle.volume_base.specs.Linking.{IsLinking};
 ghost use Rattle.volume_names.specs.Linking.{LinksAnew};
 ghost use Rattle.volume_base.specs.Lists.{lists_of};
 ghost use Rattle.volume_base.specs.Losing.{IsOnlyName};
 ghost use Rattle.volume_base.specs.Making.{HasRoomToMake, free_place};
 ghost use Rattle.volume_base.specs.Service.{IsInService};
-ghost use Rattle.volume_names.specs.EditsLeft.{FirstLinkFits, IsReadyToShare};
+ghost use Rattle.volume_names.specs.EditsLeft.{FirstLinkFits, HasEditsLeft, IsReadyToShare, to_put_header};
 ghost use Rattle.volume_base.specs.Standing.{IsSettled, StandsOver, own_sectors};
 ghost use Rattle.volume_base.specs.Touching.{Touches};
 
@@ -32,6 +33,7 @@ use hfs_volume::{header_may_change, ln_does_its_step, sound_has_plain_tree};
 use hx_bytes::{Trouble, Units};
 use sector_disk::SectorSpace;
 use std::alloc::Global;
+use tree_weights::edits_have_room;
 use volume_base::{Route, Volume, has_sector};
 
 /// Gives a file with one name another one: it goes to the private folder under a number that is free there. The volume is
@@ -70,6 +72,8 @@ fn link_under<P: SectorSpace>(
         × LinksFirst at (free_place way.now.folder name.now) (volume_of (P.SectorView.space space.old).content) (volume_of (P.SectorView.space space.new).content)) }
     ensures blocks { KeepsBlocks volume.old volume.new }
     ensures touches { (committed : Content) → Touches committed (λ s. Contains (own_sectors volume.old) s) (P.SectorView.space space.old) (P.SectorView.space space.new) }
+    // Sectors that its edits have room beside are left, but for those of three updates.
+    ensures leaves { IsTrue (P.SectorView.space space.old).tells → (beside : ℕ) → HasEditsLeft 7 (to_put_header (P.SectorView.space space.old) + beside) volume.old (P.SectorView.space space.old) → OnOk result (beside ≤ (P.SectorView.space space.new).spare + 3 * catalog_node volume.old) }
     ensures below { P.SectorView.follows space.old space.new }
     ensures cause { HasTroubleCause (P.SectorView.space space.old).faults (P.SectorView.space space.new).faults result }
 {
@@ -112,6 +116,8 @@ fn link_ready<P: SectorSpace>(
         × LinksFirst at (free_place way.now.folder name.now) (volume_of (P.SectorView.space space.old).content) (volume_of (P.SectorView.space space.new).content)) }
     ensures blocks { KeepsBlocks volume.old volume.new }
     ensures touches { (committed : Content) → Touches committed (λ s. Contains (own_sectors volume.old) s) (P.SectorView.space space.old) (P.SectorView.space space.new) }
+    // Sectors that its edits have room beside are left, but for those of three updates.
+    ensures leaves { IsTrue (P.SectorView.space space.old).tells → (beside : ℕ) → HasEditsLeft 7 (to_put_header (P.SectorView.space space.old) + beside) volume.old (P.SectorView.space space.old) → OnOk result (beside ≤ (P.SectorView.space space.new).spare + 3 * catalog_node volume.old) }
     ensures below { P.SectorView.follows space.old space.new }
     ensures cause { HasTroubleCause (P.SectorView.space space.old).faults (P.SectorView.space space.new).faults result }
 {
@@ -158,9 +164,11 @@ fn link_first<P: SectorSpace>(
         × LinksFirst at (free_place way.now.folder name.now) (volume_of (P.SectorView.space space.old).content) (volume_of (P.SectorView.space space.new).content)) }
     ensures blocks { KeepsBlocks volume.old volume.new }
     ensures touches { (committed : Content) → Touches committed (λ s. Contains (own_sectors volume.old) s) (P.SectorView.space space.old) (P.SectorView.space space.new) }
+    ensures spends { IsTrue (P.SectorView.space space.old).tells → OnOk result (SpendsOn 7 2 volume.old (P.SectorView.space space.old) (P.SectorView.space space.new)) }
     ensures below { P.SectorView.follows space.old space.new }
     ensures cause { HasTroubleCause (P.SectorView.space space.old).faults (P.SectorView.space space.new).faults result }
 {
+    edits_have_room();
     if !fits_share(volume, space) {
         return Err(Trouble::Memory);
     }
@@ -195,6 +203,8 @@ fn link_dated<P: SectorSpace>(
         × LinksFirst at (free_place way.now.folder name.now) (volume_of (P.SectorView.space space.old).content) (volume_of (P.SectorView.space space.new).content)) }
     ensures blocks { KeepsBlocks volume.old volume.new }
     ensures touches { (committed : Content) → Touches committed (λ s. Contains (own_sectors volume.old) s) (P.SectorView.space space.old) (P.SectorView.space space.new) }
+    // Sectors that its edits have room beside are left, but for those of three updates.
+    ensures leaves { IsTrue (P.SectorView.space space.old).tells → (beside : ℕ) → HasEditsLeft 7 (to_put_header (P.SectorView.space space.old) + beside) volume.old (P.SectorView.space space.old) → OnOk result (beside ≤ (P.SectorView.space space.new).spare + 3 * catalog_node volume.old) }
     ensures below { P.SectorView.follows space.old space.new }
     ensures cause { HasTroubleCause (P.SectorView.space space.old).faults (P.SectorView.space space.new).faults result }
 {
@@ -229,6 +239,7 @@ fn link_anew<P: SectorSpace>(
         × LinksAnew at (free_place way.now.folder name.now) (P.SectorView.space space.old).content (P.SectorView.space space.new).content) }
     ensures blocks { KeepsBlocks volume.old volume.new }
     ensures touches { (committed : Content) → Touches committed (λ s. Contains (own_sectors volume.old) s) (P.SectorView.space space.old) (P.SectorView.space space.new) }
+    ensures spends { IsTrue (P.SectorView.space space.old).tells → OnOk result (SpendsOn 9 3 volume.old (P.SectorView.space space.old) (P.SectorView.space space.new)) }
     ensures below { P.SectorView.follows space.old space.new }
     ensures cause { HasTroubleCause (P.SectorView.space space.old).faults (P.SectorView.space space.new).faults result }
 {
@@ -271,6 +282,7 @@ pub(crate) fn link_own<P: SectorSpace>(
         × LinksAnew at (free_place way.now.folder name.now) (P.SectorView.space space.old).content (P.SectorView.space space.new).content) }
     ensures blocks { KeepsBlocks volume.old volume.new }
     ensures touches { (committed : Content) → Touches committed (λ s. Contains (own_sectors volume.old) s) (P.SectorView.space space.old) (P.SectorView.space space.new) }
+    ensures spends { IsTrue (P.SectorView.space space.old).tells → OnOk result (SpendsLink volume.old (P.SectorView.space space.old) (P.SectorView.space space.new)) }
     ensures below { P.SectorView.follows space.old space.new }
     ensures cause { HasTroubleCause (P.SectorView.space space.old).faults (P.SectorView.space space.new).faults result }
 {

@@ -109,6 +109,7 @@ pub(crate) fn fits_share<P: SectorSpace>(volume: &Volume, space: &P) -> bool
     requires settled { IsTrue (P.SectorView.space space.now).tells → IsSettled volume.now (P.SectorView.space space.now).content }
     ensures ids { IsTrue result → IsTrue (P.SectorView.space space.now).tells → volume.now.header.next_catalog_id + 2 < 2 ^ 32 }
     ensures left { IsTrue result → FirstLinkFits volume.now (P.SectorView.space space.now) }
+    ensures load { IsTrue result → HasLoadFor 7 (1 + 3 * catalog_node volume.now) volume.now (P.SectorView.space space.now) }
     ensures met { IsTrue (P.SectorView.space space.now).tells → AreMet (wants 2 7 0 4) volume.now (P.SectorView.space space.now) → IsTrue result }
 {
     edits_have_room();

@@ -199,6 +199,7 @@ pub(crate) fn put_link_more<P: SectorSpace>(
     ensures blocks { KeepsBlocks volume.old volume.new }
     ensures touches { (committed : Content) → Touches committed (λ s. Contains (own_sectors volume.old) s) (P.SectorView.space space.old) (P.SectorView.space space.new) }
     ensures own { own_sectors volume.new ≡ own_sectors volume.old }
+    ensures spent { IsTrue (P.SectorView.space space.old).tells → (P.SectorView.space space.old).spare ≤ (P.SectorView.space space.new).spare + catalog_node volume.old }
     ensures below { P.SectorView.follows space.old space.new }
     ensures cause { HasTroubleCause (P.SectorView.space space.old).faults (P.SectorView.space space.new).faults result }
 {

@@ -1,4 +1,6 @@
-use Rattle.std.proofs.Common.{◌≡◌, ℕ, List, sym, ◌∙◌, ap, subst, arith}
+use Rattle.volume_base.specs.Changing.{catalog_node}
+use Rattle.volume_base.proofs.FoundEntry.{ok_so, node_still}
+use Rattle.std.proofs.Common.{◌≡◌, ℕ, List, sym, ◌∙◌, ap, subst, arith, ◌+◌, ◌*◌, ◌≤◌}
 use Rattle.std.specs.Prelude.{OnOk}
 use Rattle.std.specs.List.{Contains}
 use Rattle.sector_disk.specs.Lists.{Content}
@@ -18,7 +20,7 @@ use Rattle.volume_base.proofs.Besides.{blocks_both, blocks_read}
 use Rattle.volume_base.proofs.Commanding.{touches_both, touches_looks}
 use Rattle.volume_base.proofs.Still.{lists_still, own_still}
 use Rattle.volume_base.proofs.Replaced.{node_large}
-use Rattle.volume_names.proofs.EditsLeft.{ready_still}
+use Rattle.volume_names.proofs.EditsLeft.{ready_still, ready_beside}
 use Rattle.volume_names.proofs.first_links.link_dated.Goals as goal
 
 pub link_ready-requires-clause-settled : goal.link_ready-requires-clause-settled
@@ -68,3 +70,9 @@ link_ready-requires-clause-ids g c tells = omega (arith, c.requires.ids (sym c.l
 
 pub link_ready-requires-clause-left : goal.link_ready-requires-clause-left
 link_ready-requires-clause-left g c = ready_still c.args.volume.now c.link_date.new.volume (g.P.SectorView.space c.args.space.now) (g.P.SectorView.space c.link_date.new.space) (λ tells. node_large c.args.volume.now (g.P.SectorView.space c.args.space.now) c.requires.stands tells) c.link_date.ensures.reads c.requires.left
+
+pub returns-clause-leaves : goal.returns-clause-leaves
+returns-clause-leaves g c tells beside had =
+    ok_so (beside ≤ (g.P.SectorView.space c.link_ready.new.space).spare + 3 * catalog_node c.link_date.new.volume) (beside ≤ (g.P.SectorView.space c.link_ready.new.space).spare + 3 * catalog_node c.args.volume.now) c.link_ready.result
+    (c.link_ready.ensures.leaves (c.link_date.ensures.reads.looks.same.tells ∙ tells) beside (ready_beside beside c.args.volume.now c.link_date.new.volume (g.P.SectorView.space c.args.space.now) (g.P.SectorView.space c.link_date.new.space) (λ told. node_large c.args.volume.now (g.P.SectorView.space c.args.space.now) c.requires.stands told) c.link_date.ensures.reads had))
+    (λ it. omega (arith, it, node_still c.args.volume.now c.link_date.new.volume (g.P.SectorView.space c.args.space.now) (g.P.SectorView.space c.link_date.new.space) c.link_date.ensures.reads))

@@ -1,4 +1,6 @@
-use Rattle.std.proofs.Common.{◌≡◌, ℕ, List, sym, ◌∙◌, ap, subst, arith}
+use Rattle.volume_base.specs.Changing.{catalog_node}
+use Rattle.volume_base.proofs.FoundEntry.{ok_so, node_still}
+use Rattle.std.proofs.Common.{◌≡◌, ℕ, List, sym, ◌∙◌, ap, subst, arith, ◌+◌, ◌*◌, ◌≤◌}
 use Rattle.std.specs.Prelude.{OnOk}
 use Rattle.std.specs.List.{Contains}
 use Rattle.sector_disk.specs.Lists.{Content}
@@ -21,7 +23,7 @@ use Rattle.volume_base.proofs.Besides.{blocks_both, blocks_none, blocks_read}
 use Rattle.volume_base.proofs.Commanding.{touches_both, touches_looks, touches_none}
 use Rattle.volume_base.proofs.Replaced.{node_large}
 use Rattle.volume_base.proofs.Still.{lists_still, own_still}
-use Rattle.volume_names.proofs.EditsLeft.{ready_still}
+use Rattle.volume_names.proofs.EditsLeft.{ready_still, ready_beside}
 use Rattle.volume_names.proofs.first_links.link_ready.Goals as goal
 
 pub link_under-requires-clause-settled : goal.link_under-requires-clause-settled
@@ -111,3 +113,13 @@ link_under-requires-clause-room g c = record {
   ids = λ tells. omega (arith, c.requires.ids (sym c.free_number.ensures.reads.looks.same.tells ∙ tells), ap (λ (h : VolumeHeader). h.next_catalog_id) c.free_number.ensures.reads.keeps.header);
   left = ready_still c.args.volume.now c.free_number.new.volume (g.P.SectorView.space c.args.space.now) (g.P.SectorView.space c.free_number.new.space) (λ tells. node_large c.args.volume.now (g.P.SectorView.space c.args.space.now) c.requires.stands tells) c.free_number.ensures.reads c.requires.left;
 }
+
+pub returns-clause-leaves : goal.returns-clause-leaves
+returns-clause-leaves g c tells beside had =
+    ok_so (beside ≤ (g.P.SectorView.space c.link_under.new.space).spare + 3 * catalog_node c.free_number.new.volume) (beside ≤ (g.P.SectorView.space c.link_under.new.space).spare + 3 * catalog_node c.args.volume.now) c.link_under.result
+    (c.link_under.ensures.leaves (c.free_number.ensures.reads.looks.same.tells ∙ tells) beside (ready_beside beside c.args.volume.now c.free_number.new.volume (g.P.SectorView.space c.args.space.now) (g.P.SectorView.space c.free_number.new.space) (λ told. node_large c.args.volume.now (g.P.SectorView.space c.args.space.now) c.requires.stands told) c.free_number.ensures.reads had))
+    (λ it. omega (arith, it, node_still c.args.volume.now c.free_number.new.volume (g.P.SectorView.space c.args.space.now) (g.P.SectorView.space c.free_number.new.space) c.free_number.ensures.reads))
+
+pub returns-then-shape-lt4096-clause-leaves : goal.returns-then-shape-lt4096-clause-leaves
+returns-then-shape-lt4096-clause-leaves g c tells beside had =
+    absurd (omega (arith, c.if-shape-lt4096.true, ap (λ (s : TreeShape). s.node_size) c.shape.ensures, node_large c.args.volume.now (g.P.SectorView.space c.args.space.now) c.requires.stands tells))

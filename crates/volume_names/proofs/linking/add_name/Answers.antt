@@ -11,7 +11,7 @@ use Rattle.volume_base.specs.declared.volume.Volume.{Volume}
 use Rattle.volume_base.proofs.Added.{own_added, own_drawn, pairs_drawn}
 use Rattle.volume_base.proofs.Commanding.{touches_both}
 use Rattle.volume_names.proofs.Made.{counts_fit, unused}
-use Rattle.volume_base.proofs.MakeRoom.{room_behind, room_for_entry}
+use Rattle.volume_base.proofs.MakeRoom.{room_behind, room_for_entry, spent_entry}
 use Rattle.volume_names.proofs.NameAdded.{adds_name}
 use Rattle.volume_base.proofs.Touched.{touches_header}
 use Rattle.volume_base.proofs.Besides.{blocks_both, blocks_edit, blocks_header}
@@ -77,3 +77,15 @@ returns-clause-blocks g c = blocks_both c.args.volume.now c.draw.new.volume c.ad
 
 pub returns-in_err-add-clause-blocks : goal.returns-in_err-add-clause-blocks
 returns-in_err-add-clause-blocks g c = blocks_both c.args.volume.now c.draw.new.volume c.add.new.volume (blocks_header c.args.volume.now c.draw.new.volume c.draw.ensures.rest) (blocks_edit c.draw.new.volume c.add.new.volume c.add.ensures.rest)
+
+pub returns-clause-spent : goal.returns-clause-spent
+returns-clause-spent g c tells =
+    spent_entry c.edits_have_room.ensures c.edits_take_their_load.ensures c.args.volume.now c.add.new.volume (g.P.SectorView.space c.args.space.now) (g.P.SectorView.space c.draw.new.space) (g.P.SectorView.space c.add.new.space) c.requires.room c.requires.size
+    c.draw.ensures.within.same.tells c.draw.ensures.spent
+    (subst (λ (t : Tree). TakesAtMost 2 516 (state_of [] t.file (g.P.SectorView.space c.draw.new.space)) (state_of [] c.add.new.volume.catalog.file (g.P.SectorView.space c.add.new.space))) (ap (λ (x : Volume). x.catalog) c.draw.ensures.rest) (c.add.ensures.takes [])) tells
+
+pub returns-in_err-add-clause-spent : goal.returns-in_err-add-clause-spent
+returns-in_err-add-clause-spent g c tells =
+    spent_entry c.edits_have_room.ensures c.edits_take_their_load.ensures c.args.volume.now c.add.new.volume (g.P.SectorView.space c.args.space.now) (g.P.SectorView.space c.draw.new.space) (g.P.SectorView.space c.add.new.space) c.requires.room c.requires.size
+    c.draw.ensures.within.same.tells c.draw.ensures.spent
+    (subst (λ (t : Tree). TakesAtMost 2 516 (state_of [] t.file (g.P.SectorView.space c.draw.new.space)) (state_of [] c.add.new.volume.catalog.file (g.P.SectorView.space c.add.new.space))) (ap (λ (x : Volume). x.catalog) c.draw.ensures.rest) (c.add.ensures.takes [])) tells

@@ -1,4 +1,4 @@
-use Rattle.std.proofs.Common.{◌≡◌, ◌≤◌, false, ℕ, List, length, sym, ◌∙◌, ap, subst}
+use Rattle.std.proofs.Common.{◌≡◌, ◌≤◌, false, ℕ, List, length, sym, ◌∙◌, ap, subst, arith, ◌+◌}
 use Rattle.std.specs.Prelude.{Option, IfSome}
 use Rattle.std.specs.List.{Contains}
 use Rattle.cat_records.specs.Fits.{FitsRecord}
@@ -10,7 +10,7 @@ use Rattle.volume_names.specs.Linking.{CountsUp}
 use Rattle.volume_base.specs.Touching.{Touches}
 use Rattle.volume_base.specs.declared.entries.Entry.{Entry}
 use Rattle.volume_base.proofs.Commanding.{touches_looks, touches_both}
-use Rattle.volume_base.proofs.FoundEntry.{room_still, ok_so}
+use Rattle.volume_base.proofs.FoundEntry.{room_still, ok_so, node_still}
 use Rattle.volume_names.proofs.Unlinked.{counts_up_read, shared_not_none, shared_there}
 use Rattle.volume_base.proofs.Still.{lists_still, own_still}
 use Rattle.volume_base.proofs.Besides.{blocks_both, blocks_edit}
@@ -91,3 +91,12 @@ returns-in-None-clause-blocks g c = blocks_edit c.args.volume.now c.entry.new.se
 
 pub returns-in_err-entry-clause-blocks : goal.returns-in_err-entry-clause-blocks
 returns-in_err-entry-clause-blocks g c = blocks_edit c.args.volume.now c.entry.new.self c.entry.ensures.rest
+
+pub returns-in-Some-clause-spent : goal.returns-in-Some-clause-spent
+returns-in-Some-clause-spent g c tells = omega (arith, c.entry.ensures.reads.looks.spare, c.put_link_more.ensures.spent (c.entry.ensures.reads.looks.same.tells ∙ tells), node_still c.args.volume.now c.entry.new.self (g.P.SectorView.space c.args.space.now) (g.P.SectorView.space c.entry.new.space) c.entry.ensures.reads)
+
+pub returns-in-None-clause-spent : goal.returns-in-None-clause-spent
+returns-in-None-clause-spent g c tells = omega (arith, c.entry.ensures.reads.looks.spare)
+
+pub returns-in_err-entry-clause-spent : goal.returns-in_err-entry-clause-spent
+returns-in_err-entry-clause-spent g c tells = omega (arith, c.entry.ensures.reads.looks.spare)

@@ -1,3 +1,6 @@
+use Rattle.volume_names.specs.LinkLoads.{SpendsLink}
+use Rattle.volume_names.proofs.LinkLoads.{spends_still}
+use Rattle.volume_base.proofs.FoundEntry.{ok_so}
 use Rattle.std.proofs.Common.{◌≡◌, ℕ, List, sym, ◌∙◌, subst}
 use Rattle.std.specs.Prelude.{OnOk}
 use Rattle.std.specs.List.{Contains}
@@ -53,3 +56,8 @@ returns-in_err-created-clause-service g c = c.link_date.ensures.stands.service
 
 pub returns-in_err-created-clause-blocks : goal.returns-in_err-created-clause-blocks
 returns-in_err-created-clause-blocks g c = blocks_read c.args.volume.now c.link_date.new.volume (g.P.SectorView.space c.args.space.now) (g.P.SectorView.space c.link_date.new.space) c.link_date.ensures.reads
+
+pub returns-clause-spends : goal.returns-clause-spends
+returns-clause-spends g c tells =
+    ok_so (SpendsLink c.link_date.new.volume (g.P.SectorView.space c.link_date.new.space) (g.P.SectorView.space c.link_named.new.space)) (SpendsLink c.args.volume.now (g.P.SectorView.space c.args.space.now) (g.P.SectorView.space c.link_named.new.space)) c.link_named.result
+    (c.link_named.ensures.spends (c.link_date.ensures.reads.looks.same.tells ∙ tells)) (λ it. spends_still c.args.volume.now c.link_date.new.volume (g.P.SectorView.space c.args.space.now) (g.P.SectorView.space c.link_date.new.space) (g.P.SectorView.space c.link_named.new.space) c.link_date.ensures.reads tells it)

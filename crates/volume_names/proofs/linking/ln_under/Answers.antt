@@ -1,3 +1,4 @@
+use Rattle.volume_names.proofs.LinkLoads.{puts_its_load, spends_still}
 use Rattle.std.proofs.Common.{◌≡◌, ℕ, List, sym, ◌∙◌, ap, subst}
 use Rattle.std.specs.List.{Contains}
 use Rattle.std.proofs.lemmas.Bool.{true≢false}
@@ -127,3 +128,9 @@ returns-in_err-way-clause-service g c = c.route.ensures.stands.service
 
 pub returns-in_err-way-clause-blocks : goal.returns-in_err-way-clause-blocks
 returns-in_err-way-clause-blocks g c = blocks_read c.args.volume.now c.route.new.self (g.P.SectorView.space c.args.space.now) (g.P.SectorView.space c.route.new.space) c.route.ensures.reads
+
+pub returns-in_ok-link_way-in-Ok-clause-loads : goal.returns-in_ok-link_way-in-Ok-clause-loads
+returns-in_ok-link_way-in-Ok-clause-loads g c tells =
+    puts_its_load c.args.volume.now (g.P.SectorView.space c.args.space.now) (g.P.SectorView.space c.link_way.new.space) (c.requires.settled tells) c.args.from.now c.args.to.now
+    (returns-in_ok-link_way-in-Ok-clause-tree g c tells ∙ sym (linked_line (tree_of (g.P.SectorView.space c.args.space.now).content) c.args.from.now c.args.to.now (c.requires.fine tells)).1)
+    (spends_still c.args.volume.now c.route.new.self (g.P.SectorView.space c.args.space.now) (g.P.SectorView.space c.route.new.space) (g.P.SectorView.space c.link_way.new.space) c.route.ensures.reads tells (c.in_ok-link_way-in-Ok.ensures.spends (c.route.ensures.reads.looks.same.tells ∙ tells)))

@@ -12,7 +12,7 @@ use Rattle.volume_base.specs.Touching.{Touches}
 use Rattle.volume_base.proofs.Besides.{blocks_both}
 use Rattle.volume_base.proofs.Commanding.{touches_both}
 use Rattle.volume_names.proofs.FirstMade.{first_unused, old_vacant, second_unused, second_vacant}
-use Rattle.volume_base.proofs.FoundEntry.{ok_both}
+use Rattle.volume_base.proofs.FoundEntry.{ok_both, ok_so}
 use Rattle.volume_names.proofs.Shared.{stood_there}
 use Rattle.volume_names.proofs.sharing.share.Goals as goal
 
@@ -112,3 +112,11 @@ returns-clause-room g c =
     ok_both (c.put_link-2.new.volume.catalog.file.shape.node_size ≡ c.put_link.new.volume.catalog.file.shape.node_size) (HasEditsLeft 0 (3 * catalog_node c.args.volume.now) c.put_link-2.new.volume (g.P.SectorView.space c.put_link-2.new.space)) (HasRoomToUpdates 3 c.put_link-2.new.volume (g.P.SectorView.space c.put_link-2.new.space)) c.put_link-2.result c.put_link-2.ensures.size
     (c.put_link-2.ensures.left 0 (3 * catalog_node c.args.volume.now) (c.in_ok-put_link.ensures.left 2 (3 * catalog_node c.args.volume.now) c.in_ok-share_file.ensures.left))
     (λ size. updates_left 3 c.args.volume.now c.put_link-2.new.volume (g.P.SectorView.space c.put_link-2.new.space) (ap (λ n. n / 512) (size ∙ c.in_ok-put_link.ensures.size ∙ c.in_ok-share_file.ensures.size)))
+
+pub returns-clause-leaves : goal.returns-clause-leaves
+returns-clause-leaves g c beside had = c.put_link-2.ensures.left 0 beside (c.in_ok-put_link.ensures.left 2 beside (c.in_ok-share_file.ensures.leaves beside had))
+
+pub returns-clause-size : goal.returns-clause-size
+returns-clause-size g c =
+    ok_so (c.put_link-2.new.volume.catalog.file.shape.node_size ≡ c.put_link.new.volume.catalog.file.shape.node_size) (c.put_link-2.new.volume.catalog.file.shape.node_size ≡ c.args.volume.now.catalog.file.shape.node_size) c.put_link-2.result c.put_link-2.ensures.size
+    (λ size. size ∙ c.in_ok-put_link.ensures.size ∙ c.in_ok-share_file.ensures.size)

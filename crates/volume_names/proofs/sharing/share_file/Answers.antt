@@ -75,3 +75,8 @@ pub returns-clause-left : goal.returns-clause-left
 returns-clause-left g c =
     left_edited 3 4 (3 * catalog_node c.args.volume.now) c.draw_two.new.volume c.relocate.new.volume (g.P.SectorView.space c.draw_two.new.space) (g.P.SectorView.space c.relocate.new.space) (λ tells. omega (arith, c.requires.size, ap (λ (x : Volume). (numbers_of x.catalog.file).node_size) c.draw_two.ensures.rest)) c.relocate.ensures.frame.space.same.tells (c.in_ok-relocate.ensures.edits [])
     (left_behind_header (3 * catalog_node c.args.volume.now) c.args.volume.now c.draw_two.new.volume (g.P.SectorView.space c.args.space.now) (g.P.SectorView.space c.draw_two.new.space) c.requires.room.left c.requires.size c.requires.stands.stands c.draw_two.ensures.within c.draw_two.ensures.spent (ap (λ (x : Volume). x.catalog) c.draw_two.ensures.rest))
+
+pub returns-clause-leaves : goal.returns-clause-leaves
+returns-clause-leaves g c beside had =
+    left_edited 3 4 beside c.draw_two.new.volume c.relocate.new.volume (g.P.SectorView.space c.draw_two.new.space) (g.P.SectorView.space c.relocate.new.space) (λ tells. omega (arith, c.requires.size, ap (λ (x : Volume). (numbers_of x.catalog.file).node_size) c.draw_two.ensures.rest)) c.relocate.ensures.frame.space.same.tells (c.in_ok-relocate.ensures.edits [])
+    (left_behind_header beside c.args.volume.now c.draw_two.new.volume (g.P.SectorView.space c.args.space.now) (g.P.SectorView.space c.draw_two.new.space) had c.requires.size c.requires.stands.stands c.draw_two.ensures.within c.draw_two.ensures.spent (ap (λ (x : Volume). x.catalog) c.draw_two.ensures.rest))

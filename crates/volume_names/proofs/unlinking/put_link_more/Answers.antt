@@ -23,3 +23,6 @@ returns-then-links-gt4294967294-clause-service g c = c.requires.stands.service
 
 pub returns-then-links-gt4294967294-clause-blocks : goal.returns-then-links-gt4294967294-clause-blocks
 returns-then-links-gt4294967294-clause-blocks g c = blocks_none c.args.volume.now
+
+pub returns-clause-spent : goal.returns-clause-spent
+returns-clause-spent g c tells = c.put_links.ensures.spent tells
