@@ -1,6 +1,6 @@
 -- What a command puts is within its load.
 use Rattle.std.proofs.Common.{◌≡◌, ◌≤◌, ℕ, ◌+◌, Bool, true, false, List, [], ◌∷◌, refl, sym, ◌∙◌, ap, subst, arith}
-use Rattle.std.specs.Prelude.{IfOk, IsTrue, Option, None, Some, Result, Ok, Err, if◌then◌else◌}
+use Rattle.std.specs.Prelude.{IfOk, IsTrue, OnOk, Option, None, Some, Result, Ok, Err, if◌then◌else◌}
 use Rattle.hx_bytes.specs.declared.faults.Trouble.{Trouble}
 use Rattle.sector_disk.specs.Space.{Space}
 use Rattle.hfs_language.specs.declared.command.Command.{Command}
@@ -151,6 +151,11 @@ takes_one outcome.Again asked v a b within = tt
 pub takes_any : (r : Result Outcome Trouble) (asked : Command) (v : Volume) (a b : Space) → IsWithinLoad asked v a b → IfOk r (λ (it : Outcome). TakesItsLoad it asked v a b)
 takes_any (Ok it) asked v a b within = takes_one it asked v a b within
 takes_any (Err why) asked v a b within = tt
+
+-- a command that was answered, behind reads
+pub takes_answered : (r : Result Outcome Trouble) (asked : Command) (v w : Volume) (a b c : Space) → ReadsVolume v w a b → IsTrue a.tells → OnOk r (IsWithinLoad asked w b c) → IfOk r (λ (it : Outcome). TakesItsLoad it asked v a c)
+takes_answered (Ok it) asked v w a b c reads tells within_load = takes_one it asked v a c (within_behind asked v w a b c reads tells within_load)
+takes_answered (Err why) asked v w a b c reads tells within_load = tt
 
 -- behind reads
 takes_still : (it : Outcome) (asked : Command) (v w : Volume) (a b c : Space) → ReadsVolume v w a b → IsTrue a.tells → TakesItsLoad it asked w b c → TakesItsLoad it asked v a c

@@ -1,3 +1,4 @@
+use Rattle.volume_step.proofs.Loaded.{within, within_reads}
 use Rattle.std.proofs.Common.{ℕ, List, sym, ◌∙◌, ap, subst, refl}
 use Rattle.std.specs.List.{Contains}
 use Rattle.sector_disk.specs.Lists.{Content}
@@ -80,3 +81,12 @@ returns-then-not-fits_make-clause-done g c tells met =
     (fewer_are c.a_load_says_enough.ensures c.a_load_is_of_parts.ensures c.trees_grow_by_enough.ensures c.trees_hold_three.ensures c.change_linked.new.self (g.P.SectorView.space c.change_linked.new.space) (sound_here c.change_linked.new.self (g.P.SectorView.space c.change_linked.new.space) (c.change_linked.ensures.stands.stands (c.change_linked.ensures.reads.looks.same.tells ∙ tells)) (c.change_linked.ensures.settled tells)) (edits 1 2 0 1) asked (link_fewer (tree_of (g.P.SectorView.space c.args.space.now).content) c.args.from.now c.args.to.now (c.requires.affords tells).no_refusal)
     (met_still c.args.volume.now c.change_linked.new.self (g.P.SectorView.space c.args.space.now) (g.P.SectorView.space c.change_linked.new.space) c.change_linked.ensures.reads tells asked met)))
     ∙ c.if-not-fits_make.true))
+
+pub returns-clause-loads : goal.returns-clause-loads
+returns-clause-loads g c tells = within (command.Ln c.args.from.now c.args.to.now) c.args.volume.now c.change_linked.new.self (g.P.SectorView.space c.args.space.now) (g.P.SectorView.space c.change_linked.new.space) (g.P.SectorView.space c.ln.new.space) c.change_linked.ensures.reads tells refl refl (c.requires.affords tells) (c.in_ok-reply.ensures.loads (c.change_linked.ensures.reads.looks.same.tells ∙ tells))
+
+pub returns-then-not-fits_make-clause-loads : goal.returns-then-not-fits_make-clause-loads
+returns-then-not-fits_make-clause-loads g c tells = within_reads (command.Ln c.args.from.now c.args.to.now) c.args.volume.now c.change_linked.new.self (g.P.SectorView.space c.args.space.now) (g.P.SectorView.space c.change_linked.new.space) c.change_linked.ensures.reads
+
+pub returns-in_err-reply-clause-below : goal.returns-in_err-reply-clause-below
+returns-in_err-reply-clause-below g c = g.met.P.SectorView.follows_trans c.args.space.now c.change_linked.new.space c.ln.new.space c.change_linked.ensures.below c.ln.ensures.below

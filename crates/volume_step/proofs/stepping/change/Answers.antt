@@ -19,7 +19,7 @@ use Rattle.volume_step.proofs.Ready.{now_still, wants_load, wants_now}
 use Rattle.volume_step.proofs.ReadyData.{puts_still}
 use Rattle.volume_step.proofs.AnewReady.{fits_alike, wants_alike, wants_so}
 use Rattle.volume_space.specs.Writing.{IsFilled}
-use Rattle.volume_step.proofs.Loaded.{takes_any, takes_behind, takes_one, within_behind, within_reads}
+use Rattle.volume_step.proofs.Loaded.{takes_behind, takes_one, within_behind, within_reads, takes_answered}
 use Rattle.volume_step.proofs.stepping.change.Goals as goal
 
 pub perform-requires-clause-closed : goal.perform-requires-clause-closed
@@ -213,10 +213,9 @@ returns-in-Fits-clause-alike g c tells it =
     ]
 
 pub returns-in-Fits-clause-loads : goal.returns-in-Fits-clause-loads
-returns-in-Fits-clause-loads g c tells leaves filled =
-    takes_any c.perform.result c.args.command.now c.args.volume.now (g.P.SectorView.space c.args.space.now) (g.P.SectorView.space c.perform.new.space)
-    (within_behind c.args.command.now c.args.volume.now c.judge.new.volume (g.P.SectorView.space c.args.space.now) (g.P.SectorView.space c.judge.new.space) (g.P.SectorView.space c.perform.new.space) c.judge.ensures.reads tells
-    (c.perform.ensures.loads (c.judge.ensures.reads.looks.same.tells ∙ tells) leaves (subst (λ (k : Content). IsFilled c.args.command.now k) (sym (c.judge.ensures.reads.looks.content tells)) filled)))
+returns-in-Fits-clause-loads g c tells keeps filled =
+    takes_answered c.perform.result c.args.command.now c.args.volume.now c.judge.new.volume (g.P.SectorView.space c.args.space.now) (g.P.SectorView.space c.judge.new.space) (g.P.SectorView.space c.perform.new.space) c.judge.ensures.reads tells
+    (c.perform.ensures.takes (c.judge.ensures.reads.looks.same.tells ∙ tells) keeps (subst (λ (k : Content). IsFilled c.args.command.now k) (sym (c.judge.ensures.reads.looks.content tells)) filled))
 
 pub returns-in-Refused-clause-loads : goal.returns-in-Refused-clause-loads
 returns-in-Refused-clause-loads g c tells leaves filled = takes_one c.refusal.result c.args.command.now c.args.volume.now (g.P.SectorView.space c.args.space.now) (g.P.SectorView.space c.judge.new.space) (within_reads c.args.command.now c.args.volume.now c.judge.new.volume (g.P.SectorView.space c.args.space.now) (g.P.SectorView.space c.judge.new.space) c.judge.ensures.reads)

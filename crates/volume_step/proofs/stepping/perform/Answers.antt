@@ -1,3 +1,4 @@
+use Rattle.volume_base.proofs.FoundEntry.{ok_true}
 use Rattle.std.proofs.Common.{rules, ◌≡◌, true, [], ap, subst, sym, ℕ, List}
 use Rattle.std.specs.Prelude.{IfOk, None, Ok}
 use Rattle.hfs_language.specs.declared.command.Command.{Command}
@@ -11,7 +12,7 @@ use Rattle.volume_step.specs.Steps.{IsMet, ShrinksAs}
 use Rattle.volume_step.proofs.Widening.{keeps_shrunk, touches_own}
 use Rattle.volume_step.proofs.Ready.{done_now, met_now}
 use Rattle.volume_step.proofs.ReadyData.{puts_data_now}
-use Rattle.volume_step.specs.Loads.{IsWithinLoad}
+use Rattle.volume_step.specs.Loads.{IsWithinLoad, leaves_links}
 use Rattle.hfs_language.specs.declared.command.Command.TheVariants as command
 use Rattle.volume_step.proofs.stepping.perform.Goals as goal
 
@@ -69,3 +70,12 @@ returns-in-Write-clause-loads g c tells leaves filled =
 
 pub returns-in_default-clause-loads : goal.returns-in_default-clause-loads
 returns-in_default-clause-loads g c tells leaves filled = c.perform_without_data.ensures.loads tells leaves
+
+pub returns-in-Trunc-clause-takes : goal.returns-in-Trunc-clause-takes
+returns-in-Trunc-clause-takes g c tells keeps filled = ok_true c.resize.result (returns-in-Trunc-clause-loads g c tells (ap leaves_links c.in-Trunc.is) filled)
+
+pub returns-in-Write-clause-takes : goal.returns-in-Write-clause-takes
+returns-in-Write-clause-takes g c tells keeps filled = ok_true c.write_value.result (returns-in-Write-clause-loads g c tells (ap leaves_links c.in-Write.is) filled)
+
+pub returns-in_default-clause-takes : goal.returns-in_default-clause-takes
+returns-in_default-clause-takes g c tells keeps filled = c.perform_without_data.ensures.takes tells keeps
