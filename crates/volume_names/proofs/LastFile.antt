@@ -3,7 +3,7 @@ use Rattle.std.proofs.Common.{◌≡◌, ◌<◌, ◌≤◌, ℕ, ◌^◌, Bool,
 use Rattle.std.specs.Prelude.{Contains, ◌==◌, Option, None, Some, if◌then◌else◌}
 use Rattle.std.specs.Option.{option_map}
 use Rattle.std.specs.Str.{bytes_eq}
-use Rattle.std.proofs.lemmas.Bool.{and_parts, eqb-true}
+use Rattle.std.proofs.lemmas.Bool.{and_parts, eqb-true, true≢false}
 use Rattle.std.proofs.lemmas.Slice.Eq.{bytes_eq-Decides}
 use Rattle.sector_disk.specs.Space.{Space}
 use Rattle.btree_node.specs.Levels.{Pair}
@@ -18,6 +18,7 @@ use Rattle.hfs_volume.specs.Links.{IsGoodLink, private_id}
 use Rattle.hfs_volume.specs.Records.{Placed, entries_of, id_in, id_of, is_empty, is_link, is_placed_at, placed_in, record_at, special_of}
 use Rattle.hfs_volume.specs.TreeOf.{file_bytes, id_or_0, shared_file, tree_of}
 use Rattle.hfs_volume.proofs.Flat.{found_some}
+use Rattle.hfs_volume.proofs.Hiding.{same_entry}
 use Rattle.hfs_volume.proofs.Named.{IsSeenName, named_entry}
 use Rattle.hfs_volume.proofs.Sharing.{IsShared, shared_found, shared_is}
 use Rattle.hfs_volume.proofs.Sides.{is_entry_of}
@@ -30,7 +31,11 @@ use Rattle.volume_base.specs.declared.entries.Entry.{Entry}
 use Rattle.volume_base.specs.declared.volume.Volume.{Volume}
 use Rattle.volume_names.proofs.LinkLost.{pairs_are, seen}
 use Rattle.volume_base.proofs.Rising.{settled_sorted}
-use Rattle.volume_names.proofs.Unlinked.{shared_there}
+use Rattle.volume_names.proofs.Unlinked.{here as found_by_id, shared_there}
+
+abbrev rec_or : CatRecord → Option Entry → CatRecord
+rec_or other None = other
+rec_or other (Some e) = e.rec
 
 abbrev placed_or : CatRecord → Option CatRecord → CatRecord
 placed_or other None = other
@@ -99,3 +104,19 @@ module _ (v : Volume) (a : Space) (settled : IsSettled v a.content) (was : IsSta
         let one = shared_there v a.content was.trees threads id shared_before entry is in
         let stood = record_there (lists_of v a.content).catalog_pairs entry.parent entry.name entry.rec one.value in
         record { entry = stood.0; found = stood.1; number = ap id_in stood.2 ∙ one.number; last = omega (arith, low, ap links_in stood.2) }
+
+    -- the file with its CNID isn't the link
+    pub other_record : (e : Placed) → Contains (entries_of (records_of (volume_of a.content))) e → id_of e ≡ id → id_of e ≡ id_of link.entry → ⊥
+    other_record e has is same =
+        let node : e ≡ good.node.0 = same_entry (volume_of a.content).head.next_catalog_id (entries_of (records_of (volume_of a.content))) settled.sound.entries.ids e good.node.0 has good.node.1 (is ∙ sym number) in
+        let other : e ≡ link.entry = same_entry (volume_of a.content).head.next_catalog_id (entries_of (records_of (volume_of a.content))) settled.sound.entries.ids e link.entry has stands same in
+        true≢false (sym link.is_one ∙ ap is_link (sym other ∙ node) ∙ plain)
+
+    -- the file that was found by its CNID, among the entries
+    pub file_of : (entry : Entry) → Some entry ≡ entry_by_id (lists_of v a.content).catalog_pairs id → (file : Placed) × Contains (entries_of (records_of (volume_of a.content))) file × (id_of file ≡ id) × (file.value ≡ entry.rec)
+    file_of entry is = (
+      shared_before.entry,
+      subst (λ (l : List Pair). Contains (entries_of (placed_in l)) shared_before.entry) (sym same_pairs) shared_before.stands,
+      shared_before.number,
+      sym (ap (λ (o : Option Entry). rec_or entry.rec o) (is ∙ found_by_id v a.content was.trees threads id shared_before)),
+    )

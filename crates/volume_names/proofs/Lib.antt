@@ -15,6 +15,8 @@ pub mod LastLost
 pub mod LastRoom
 pub mod LinkAnew
 pub mod LinkLoads
+pub mod LossLoads
+pub mod LossWeight
 pub mod LinkLost
 pub mod LinkMade
 pub mod Made

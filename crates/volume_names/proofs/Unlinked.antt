@@ -175,7 +175,7 @@ module _ (v : Volume) (content : Content) (holds : HoldsTrees v content) (thread
   keys : (pair : Pair) → Contains (lists_of v content).catalog_pairs pair → IsCatalogKey pair.0
   keys pair has = keys_are IsCatalogKey catalog_cmp (store_of (file_in (sectors_of_tree v.catalog.file) content)) holds.catalog.file.rules pair has
 
-  here : entry_by_id (lists_of v content).catalog_pairs id ≡ Some (record { parent = shared.entry.parent; name = shared.entry.name; rec = shared.entry.value })
+  pub here : entry_by_id (lists_of v content).catalog_pairs id ≡ Some (record { parent = shared.entry.parent; name = shared.entry.name; rec = shared.entry.value })
   here = ap (entry_by_id (lists_of v content).catalog_pairs) (sym shared.number)
       ∙ entry_is (lists_of v content).catalog_pairs threads order (short_names (lists_of v content).catalog_pairs keys) shared.entry shared.stands
 

@@ -3,6 +3,7 @@ pub mod Dropping
 pub mod EditsLeft
 pub mod Entering
 pub mod LinkLoads
+pub mod LossLoads
 pub mod Linking
 pub mod Losing
 pub mod Making

@@ -1,5 +1,5 @@
 //! `rm` of a link, where its file has others.
-ghost use Rattle.std.specs.Prelude.{◌≡◌, ◌≤◌, ◌<◌, ◌+◌, ℕ, List, Some, true, false, IsTrue, IfSome, length, OnOk};
+ghost use Rattle.std.specs.Prelude.{◌≡◌, ◌≤◌, ◌<◌, ◌+◌, ◌*◌, ℕ, List, Some, true, false, IsTrue, IfSome, length, OnOk};
 ghost use Rattle.std.specs.List.{Contains};
 ghost use Rattle.sector_disk.specs.Lists.{Content};
 ghost use Rattle.btree_edit.specs.Causes.{HasTroubleCause};
@@ -20,7 +20,9 @@ ghost use Rattle.volume_base.specs.Changing.{HasRoomToUpdate, HasRoomToUpdates, 
 ghost use Rattle.volume_base.specs.Entering.{entry_by_id};
 ghost use Rattle.volume_names.specs.Linking.{CountsUp};
 ghost use Rattle.volume_base.specs.Lists.{lists_of};
-ghost use Rattle.volume_base.specs.Losing.{IsLoss, lose_load};
+ghost use Rattle.volume_base.specs.Losing.{IsLoss};
+ghost use Rattle.volume_names.specs.EditsLeft.{HasEditsLeft, HasLoadFor};
+ghost use Rattle.volume_names.specs.LossLoads.{SpendsFor, SpendsShared};
 ghost use Rattle.volume_base.specs.Making.{entry_load};
 ghost use Rattle.volume_base.specs.Removing.{HasRoomToRemove};
 ghost use Rattle.volume_base.specs.Service.{IsInService};
@@ -102,6 +104,8 @@ fn drop_name<P: SectorSpace>(
     ensures size { OnOk result ((numbers_of volume.new.catalog.file).node_size ≡ (numbers_of volume.old.catalog.file).node_size) }
     // What is left of the room for five edits suffices for three.
     ensures more { HasRoomToUnlinkLast volume.old (P.SectorView.space space.old) → OnOk result ((names : List ℕ) → IsTrue (P.SectorView.space space.new).tells → EditRoom 3 516 (state_of names volume.new.catalog.file (P.SectorView.space space.new))) }
+    // Sectors that the load of five edits has room beside are left beside three.
+    ensures leaves { (beside : ℕ) → HasLoadFor 5 (1 + beside) volume.old (P.SectorView.space space.old) → OnOk result (HasEditsLeft 3 beside volume.new (P.SectorView.space space.new)) }
     ensures own { own_sectors volume.new ≡ own_sectors volume.old }
     ensures touches { (committed : Content) → Touches committed (λ s. Contains (own_sectors volume.old) s) (P.SectorView.space space.old) (P.SectorView.space space.new) }
     ensures spent { IsTrue (P.SectorView.space space.old).tells → (P.SectorView.space space.old).spare ≤ (P.SectorView.space space.new).spare + (1 + entry_load volume.old) }
@@ -262,7 +266,7 @@ fn unlink<P: SectorSpace>(
         × Unlinks entry (P.SectorView.space space.old).content (P.SectorView.space space.new).content) }
     ensures blocks { KeepsBlocks volume.old volume.new }
     ensures touches { (committed : Content) → Touches committed (λ s. Contains (own_sectors volume.old) s) (P.SectorView.space space.old) (P.SectorView.space space.new) }
-    ensures spent { IsTrue (P.SectorView.space space.old).tells → (P.SectorView.space space.old).spare ≤ (P.SectorView.space space.new).spare + lose_load volume.old }
+    ensures spent { IsTrue (P.SectorView.space space.old).tells → (P.SectorView.space space.old).spare ≤ (P.SectorView.space space.new).spare + (1 + entry_load volume.old + 2 * catalog_node volume.old) }
     ensures below { P.SectorView.follows space.old space.new }
     ensures cause { HasTroubleCause (P.SectorView.space space.old).faults (P.SectorView.space space.new).faults result }
 {
@@ -308,6 +312,7 @@ fn unlink_last<P: SectorSpace>(
         × UnlinksLast entry (P.SectorView.space space.old).content (P.SectorView.space space.new).content) }
     ensures blocks { KeepsBlocks volume.old volume.new }
     ensures touches { (committed : Content) → Touches committed (λ s. Contains (own_sectors volume.old) s) (P.SectorView.space space.old) (P.SectorView.space space.new) }
+    ensures spends { IsTrue (P.SectorView.space space.old).tells → OnOk result (SpendsFor 5 volume.old (P.SectorView.space space.old) (P.SectorView.space space.new)) }
     ensures below { P.SectorView.follows space.old space.new }
     ensures cause { HasTroubleCause (P.SectorView.space space.old).faults (P.SectorView.space space.new).faults result }
 {
@@ -352,6 +357,7 @@ fn lose_one_of<P: SectorSpace>(
         × LosesLink entry (P.SectorView.space space.old).content (P.SectorView.space space.new).content) }
     ensures blocks { KeepsBlocks volume.old volume.new }
     ensures touches { (committed : Content) → Touches committed (λ s. Contains (own_sectors volume.old) s) (P.SectorView.space space.old) (P.SectorView.space space.new) }
+    ensures spends { IsTrue (P.SectorView.space space.old).tells → OnOk result (SpendsShared id volume.old (P.SectorView.space space.old) (P.SectorView.space space.new)) }
     ensures below { P.SectorView.follows space.old space.new }
     ensures cause { HasTroubleCause (P.SectorView.space space.old).faults (P.SectorView.space space.new).faults result }
 {
@@ -396,6 +402,7 @@ pub(crate) fn lose_one<P: SectorSpace>(
         × LosesLink entry (P.SectorView.space space.old).content (P.SectorView.space space.new).content) }
     ensures blocks { KeepsBlocks volume.old volume.new }
     ensures touches { (committed : Content) → Touches committed (λ s. Contains (own_sectors volume.old) s) (P.SectorView.space space.old) (P.SectorView.space space.new) }
+    ensures spends { IsTrue (P.SectorView.space space.old).tells → OnOk result (SpendsShared id volume.old (P.SectorView.space space.old) (P.SectorView.space space.new)) }
     ensures below { P.SectorView.follows space.old space.new }
     ensures cause { HasTroubleCause (P.SectorView.space space.old).faults (P.SectorView.space space.new).faults result }
 {

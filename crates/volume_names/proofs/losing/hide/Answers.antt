@@ -1,4 +1,4 @@
-use Rattle.std.proofs.Common.{[], ◌*◌, ℕ, List, sym, ◌∙◌, subst, arith}
+use Rattle.std.proofs.Common.{[], ◌*◌, ℕ, List, sym, ◌∙◌, subst, arith, ◌/◌, ap}
 use Rattle.std.specs.List.{Contains}
 use Rattle.volume_base.specs.Changing.{HasRoomToUpdate, HasRoomToUpdates, TouchesFolder, catalog_node}
 use Rattle.volume_names.specs.Losing.{Hides}
@@ -7,7 +7,7 @@ use Rattle.volume_base.proofs.Added.{own_edited}
 use Rattle.volume_names.proofs.Buried.{private_after, puts_aside, threads_aside}
 use Rattle.volume_base.proofs.Commanding.{touches_both}
 use Rattle.volume_base.proofs.FoundEntry.{ok_so, ok_true, settled_threads}
-use Rattle.volume_names.proofs.EditsLeft.{first_update, node_aside, room_aside, spent_aside, updates_aside}
+use Rattle.volume_names.proofs.EditsLeft.{first_update, node_aside, room_aside, spent_aside, updates_aside, left_edited}
 use Rattle.volume_base.proofs.Besides.{blocks_both, blocks_edit}
 use Rattle.volume_names.proofs.losing.hide.Goals as goal
 
@@ -74,3 +74,9 @@ returns-clause-room g c =
     ok_so (HasRoomToUpdates 1 c.touch.new.self (g.P.SectorView.space c.touch.new.space)) (HasRoomToUpdate c.touch.new.self (g.P.SectorView.space c.touch.new.space)) c.touch.result
     (c.touch.ensures.room 1 (updates_aside 2 c.args.volume.now c.set_aside.new.volume (g.P.SectorView.space c.args.space.now) (g.P.SectorView.space c.set_aside.new.space) c.requires.size c.set_aside.ensures.frame.space.same.tells c.set_aside.ensures.frame.file.node_size (c.in_ok-set_aside.ensures.edits []) c.requires.left))
     (first_update 0 c.touch.new.self (g.P.SectorView.space c.touch.new.space))
+
+pub returns-clause-leaves : goal.returns-clause-leaves
+returns-clause-leaves g c tells beside had =
+    let later = c.set_aside.ensures.frame.space.same.tells ∙ tells in
+    let left = left_edited 3 0 beside c.args.volume.now c.set_aside.new.volume (g.P.SectorView.space c.args.space.now) (g.P.SectorView.space c.set_aside.new.space) (λ told. c.requires.size) c.set_aside.ensures.frame.space.same.tells (c.in_ok-set_aside.ensures.edits []) had in
+    ok_true c.touch.result (omega (arith, (left.told later).0, c.touch.ensures.spent later, ap (λ n. n / 512) c.set_aside.ensures.frame.file.node_size))

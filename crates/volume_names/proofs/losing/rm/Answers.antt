@@ -1,4 +1,4 @@
-use Rattle.std.proofs.Common.{◌≡◌, ℕ, List, length, refl, sym, ◌∙◌, ap, subst}
+use Rattle.std.proofs.Common.{◌≡◌, ℕ, List, length, refl, sym, ◌∙◌, ap, subst, arith}
 use Rattle.std.specs.Prelude.{IfOk, OnOk, Ok}
 use Rattle.hfs_language.specs.Written.{FitsPath}
 use Rattle.hfs_language.specs.declared.command.Command.TheVariants as command
@@ -10,6 +10,7 @@ use Rattle.volume_base.proofs.Commanding.{touches_none}
 use Rattle.volume_base.proofs.Lost.{private_line, root_line}
 use Rattle.volume_names.specs.Losing.{HasLost}
 use Rattle.volume_base.proofs.Besides.{blocks_none}
+use Rattle.volume_names.specs.LinkLoads.{PutsItsLoad}
 use Rattle.volume_names.proofs.losing.rm.Goals as goal
 
 pub rm_under-requires-clause-fits : goal.rm_under-requires-clause-fits
@@ -75,3 +76,13 @@ returns-then-is_private_path-clause-blocks g c = blocks_none c.args.volume.now
 
 pub rm_under-requires-clause-split : goal.rm_under-requires-clause-split
 rm_under-requires-clause-split g c = sym c.as_slice.ensures ∙ c.in-Some.ensures.cases.0
+
+pub returns-in-Some-clause-loads : goal.returns-in-Some-clause-loads
+returns-in-Some-clause-loads g c tells =
+    subst (λ (p : List (List ℕ)). OnOk c.rm_under.result (PutsItsLoad (command.Rm p) c.args.volume.now (g.P.SectorView.space c.args.space.now) (g.P.SectorView.space c.rm_under.new.space))) (sym c.in-Some.ensures.cases.0 ∙ c.as_slice.ensures) (c.rm_under.ensures.loads tells)
+
+pub returns-in-None-clause-loads : goal.returns-in-None-clause-loads
+returns-in-None-clause-loads g c tells n grow is = omega arith
+
+pub returns-then-is_private_path-clause-loads : goal.returns-then-is_private_path-clause-loads
+returns-then-is_private_path-clause-loads g c tells n grow is = omega arith

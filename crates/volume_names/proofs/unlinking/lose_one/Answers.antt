@@ -15,9 +15,11 @@ use Rattle.volume_names.specs.Unlinking.{LosesLink}
 use Rattle.volume_base.specs.declared.entries.Entry.{Entry}
 use Rattle.volume_base.proofs.Besides.{blocks_both, blocks_edit}
 use Rattle.volume_base.proofs.Commanding.{touches_both, touches_looks}
-use Rattle.volume_base.proofs.FoundEntry.{settled_threads}
+use Rattle.volume_base.proofs.FoundEntry.{settled_threads, ok_so}
 use Rattle.volume_base.proofs.RoomToRemove.{remove_room_still}
 use Rattle.volume_base.proofs.Still.{lists_still, own_still, settled_still}
+use Rattle.volume_names.proofs.LossLoads.{shared_still}
+use Rattle.volume_names.specs.LossLoads.{SpendsShared}
 use Rattle.volume_names.proofs.unlinking.lose_one.Goals as goal
 
 pub entry-requires-clause-spelled : goal.entry-requires-clause-spelled
@@ -82,3 +84,8 @@ returns-in_err-file-clause-service g c = c.entry.ensures.stands.service
 
 pub returns-in_err-file-clause-blocks : goal.returns-in_err-file-clause-blocks
 returns-in_err-file-clause-blocks g c = blocks_edit c.args.volume.now c.entry.new.self c.entry.ensures.rest
+
+pub returns-in-Some-clause-spends : goal.returns-in-Some-clause-spends
+returns-in-Some-clause-spends g c tells =
+    ok_so (SpendsShared c.args.id c.entry.new.self (g.P.SectorView.space c.entry.new.space) (g.P.SectorView.space c.lose_one_of.new.space)) (SpendsShared c.args.id c.args.volume.now (g.P.SectorView.space c.args.space.now) (g.P.SectorView.space c.lose_one_of.new.space)) c.lose_one_of.result (c.lose_one_of.ensures.spends (c.entry.ensures.reads.looks.same.tells ∙ tells))
+    (shared_still c.args.id c.args.volume.now c.entry.new.self (g.P.SectorView.space c.args.space.now) (g.P.SectorView.space c.entry.new.space) (g.P.SectorView.space c.lose_one_of.new.space) c.entry.ensures.reads tells)

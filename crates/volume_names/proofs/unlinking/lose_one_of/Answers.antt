@@ -5,9 +5,10 @@ use Rattle.hfs_model.specs.Step.{step}
 use Rattle.hfs_volume.specs.TreeOf.{tree_of}
 use Rattle.volume_base.specs.Lists.{lists_of}
 use Rattle.volume_base.specs.Standing.{IsSettled}
-use Rattle.volume_names.specs.Unlinking.{IsLastOf, LosesLink, Unlinks, UnlinksLast}
-use Rattle.volume_base.proofs.FoundEntry.{ok_so}
-use Rattle.volume_names.proofs.LastFile.{last_of}
+use Rattle.volume_names.specs.Unlinking.{IsLastOf, LosesLink, Unlinks, UnlinksLast, links_in}
+use Rattle.volume_base.proofs.FoundEntry.{ok_so, ok_true}
+use Rattle.volume_names.proofs.LastFile.{last_of, file_of}
+use Rattle.volume_names.specs.LossLoads.{SpendsFor, SpendsShared}
 use Rattle.volume_names.proofs.unlinking.lose_one_of.Goals as goal
 
 pub unlink_last-requires-clause-some_file : goal.unlink_last-requires-clause-some_file
@@ -42,3 +43,24 @@ returns-in_ok-copy_name-in-Some-clause-does g c tells path entry loss same =
     (IsSettled c.unlink_last.new.volume (g.P.SectorView.space c.unlink_last.new.space).content × (tree_of (g.P.SectorView.space c.unlink_last.new.space).content ≡ (step (tree_of (g.P.SectorView.space c.args.space.now).content) (command.Rm path)).1)
     × LosesLink entry (g.P.SectorView.space c.args.space.now).content (g.P.SectorView.space c.unlink_last.new.space).content)
     c.unlink_last.result (c.unlink_last.ensures.does tells path entry loss same) (λ lost. (lost.0, lost.1, inr lost.2))
+
+pub returns-then-links_in-gt1-clause-spends : goal.returns-then-links_in-gt1-clause-spends
+returns-then-links_in-gt1-clause-spends g c tells =
+    let loses = c.requires.loses tells in
+    let it = file_of c.args.volume.now (g.P.SectorView.space c.args.space.now) (c.requires.settled tells) (c.requires.stands.stands tells) loses.0 loses.1 c.args.at.now loses.2 (c.requires.link tells) c.args.id loses.3 c.requires.stands.service.fits.next_catalog_id c.args.file.now (c.requires.found tells) in
+    ok_true c.unlink.result (record {
+      file = it.0;
+      stands = it.1;
+      number = it.2;
+      spends = inl (
+        omega (arith, c.links_in.ensures, c.if-links_in-gt1.true, ap links_in it.3),
+        record { grown = (c.requires.room.told tells).2; spent = omega (arith, c.unlink.ensures.spent tells) },
+      );
+    })
+
+pub returns-in_ok-copy_name-in-Some-clause-spends : goal.returns-in_ok-copy_name-in-Some-clause-spends
+returns-in_ok-copy_name-in-Some-clause-spends g c tells =
+    let loses = c.requires.loses tells in
+    let it = file_of c.args.volume.now (g.P.SectorView.space c.args.space.now) (c.requires.settled tells) (c.requires.stands.stands tells) loses.0 loses.1 c.args.at.now loses.2 (c.requires.link tells) c.args.id loses.3 c.requires.stands.service.fits.next_catalog_id c.args.file.now (c.requires.found tells) in
+    ok_so (SpendsFor 5 c.args.volume.now (g.P.SectorView.space c.args.space.now) (g.P.SectorView.space c.unlink_last.new.space)) (SpendsShared c.args.id c.args.volume.now (g.P.SectorView.space c.args.space.now) (g.P.SectorView.space c.unlink_last.new.space)) c.unlink_last.result (c.unlink_last.ensures.spends tells)
+    (λ five. record { file = it.0; stands = it.1; number = it.2; spends = inr (omega (arith, c.links_in.ensures, c.if-links_in-gt1.false, ap links_in it.3), five) })
