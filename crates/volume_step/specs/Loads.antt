@@ -29,8 +29,3 @@ abbrev pub leaves_links : Command → Bool
 leaves_links (command.Rm path) = false
 leaves_links (command.Ln from to) = false
 leaves_links asked = true
-
--- the command takes no name from a file
-abbrev pub takes_no_name : Command → Bool
-takes_no_name (command.Rm path) = false
-takes_no_name asked = true

@@ -16,7 +16,7 @@ ghost use Rattle.volume_space.specs.Standing.{HoldsOn};
 ghost use Rattle.volume_base.specs.Standing.{IsSettled, StandsOver};
 ghost use Rattle.volume_base.specs.Touching.{Touches};
 ghost use Rattle.volume_step.specs.Anew.{FitsAnew, IsAnew, IsReadyAlike};
-ghost use Rattle.volume_step.specs.Loads.{IsWithinLoad, TakesItsLoad, leaves_links, takes_no_name};
+ghost use Rattle.volume_step.specs.Loads.{IsWithinLoad, TakesItsLoad, leaves_links};
 ghost use Rattle.volume_space.specs.Writing.{IsFilled};
 ghost use Rattle.volume_step.specs.Steps.{Affords, FitsNow, IsDoneOk, IsMet, IsReady, KeepsJournal, OwnOf, PutsNow, ShrinksAs, StepsTo};
 ghost use Rattle.volume_step.specs.declared.outcome.Outcome.TheVariants as outcome;
@@ -64,7 +64,7 @@ fn perform_without_data<P: SectorSpace>(
     ensures shrunk { IsTrue (P.SectorView.space space.old).tells → IfOk result (λ outcome. ShrinksAs outcome command.now (P.SectorView.space space.old).content (shrunk_of volume.old) (shrunk_of volume.new)) }
     ensures touches { (committed : Content) → Touches committed (OwnOf volume.old volume.new) (P.SectorView.space space.old) (P.SectorView.space space.new) }
     ensures loads { IsTrue (P.SectorView.space space.old).tells → leaves_links command.now ≡ true → IsWithinLoad command.now volume.old (P.SectorView.space space.old) (P.SectorView.space space.new) }
-    ensures takes { IsTrue (P.SectorView.space space.old).tells → takes_no_name command.now ≡ true → OnOk result (IsWithinLoad command.now volume.old (P.SectorView.space space.old) (P.SectorView.space space.new)) }
+    ensures takes { IsTrue (P.SectorView.space space.old).tells → OnOk result (IsWithinLoad command.now volume.old (P.SectorView.space space.old) (P.SectorView.space space.new)) }
     ensures below { P.SectorView.follows space.old space.new }
     ensures cause { HasTroubleCause (P.SectorView.space space.old).faults (P.SectorView.space space.new).faults result }
 {
@@ -122,7 +122,7 @@ fn perform<P: SectorSpace>(
     ensures touches { (committed : Content) → HoldsOn committed volume.old → IsLaidOutAs committed volume.old → Touches committed (OwnOf volume.old volume.new) (P.SectorView.space space.old) (P.SectorView.space space.new) }
     ensures same { SameSpace (P.SectorView.space space.old) (P.SectorView.space space.new) }
     ensures loads { IsTrue (P.SectorView.space space.old).tells → leaves_links command.now ≡ true → IsFilled command.now (P.SectorView.space space.old).content → IsWithinLoad command.now volume.old (P.SectorView.space space.old) (P.SectorView.space space.new) }
-    ensures takes { IsTrue (P.SectorView.space space.old).tells → takes_no_name command.now ≡ true → IsFilled command.now (P.SectorView.space space.old).content → OnOk result (IsWithinLoad command.now volume.old (P.SectorView.space space.old) (P.SectorView.space space.new)) }
+    ensures takes { IsTrue (P.SectorView.space space.old).tells → IsFilled command.now (P.SectorView.space space.old).content → OnOk result (IsWithinLoad command.now volume.old (P.SectorView.space space.old) (P.SectorView.space space.new)) }
     ensures below { P.SectorView.follows space.old space.new }
     ensures cause { HasTroubleCause (P.SectorView.space space.old).faults (P.SectorView.space space.new).faults result }
 {
@@ -165,7 +165,7 @@ fn change<P: SectorSpace>(
     ensures shrunk { IsTrue (P.SectorView.space space.old).tells → IfOk result (λ outcome. ShrinksAs outcome command.now (P.SectorView.space space.old).content (shrunk_of volume.old) (shrunk_of volume.new)) }
     ensures touches { (committed : Content) → HoldsOn committed volume.old → IsLaidOutAs committed volume.old → Touches committed (OwnOf volume.old volume.new) (P.SectorView.space space.old) (P.SectorView.space space.new) }
     ensures same { SameSpace (P.SectorView.space space.old) (P.SectorView.space space.new) }
-    ensures loads { IsTrue (P.SectorView.space space.old).tells → takes_no_name command.now ≡ true → IsFilled command.now (P.SectorView.space space.old).content → IfOk result (λ it. TakesItsLoad it command.now volume.old (P.SectorView.space space.old) (P.SectorView.space space.new)) }
+    ensures loads { IsTrue (P.SectorView.space space.old).tells → IsFilled command.now (P.SectorView.space space.old).content → IfOk result (λ it. TakesItsLoad it command.now volume.old (P.SectorView.space space.old) (P.SectorView.space space.new)) }
     ensures within { IsTrue (P.SectorView.space space.old).tells → leaves_links command.now ≡ true → (ready : IsReadyAlike command.now volume.old (P.SectorView.space space.old)) → (P.SectorView.space space.old).spare ≤ (P.SectorView.space space.new).spare + ready.now.load }
     ensures below { P.SectorView.follows space.old space.new }
     ensures cause { HasTroubleCause (P.SectorView.space space.old).faults (P.SectorView.space space.new).faults result }
@@ -221,8 +221,8 @@ pub fn step<P: SectorSpace>(
     ensures touches { (committed : Content) → HoldsOn committed volume.old → IsLaidOutAs committed volume.old → Touches committed (OwnOf volume.old volume.new) (P.SectorView.space space.old) (P.SectorView.space space.new) }
     ensures same { SameSpace (P.SectorView.space space.old) (P.SectorView.space space.new) }
     // Answered, it takes no more room for puts than its load names, of the blocks that may be taken; of a file that data is put into each overflow
-    // record has an extent in use. What `rm` takes isn't told.
-    ensures loads { IsTrue (P.SectorView.space space.old).tells → takes_no_name command.now ≡ true → IsFilled command.now (P.SectorView.space space.old).content → IfOk result (λ it. TakesItsLoad it command.now volume.old (P.SectorView.space space.old) (P.SectorView.space space.new)) }
+    // record has an extent in use.
+    ensures loads { IsTrue (P.SectorView.space space.old).tells → IsFilled command.now (P.SectorView.space space.old).content → IfOk result (λ it. TakesItsLoad it command.now volume.old (P.SectorView.space space.old) (P.SectorView.space space.new)) }
     // Where it costs the same load of all free blocks and of those that may be taken, which the room suffices for, and no cut goes ahead of it, it takes no more than
     // that whatever it comes to: on a fault too, and where a tree grows ahead of it. Each overflow record of that tree and of the file has an extent in use.
     ensures within { IsTrue (P.SectorView.space space.old).tells → leaves_links command.now ≡ true → (ready : IsReadyAlike command.now volume.old (P.SectorView.space space.old)) → (P.SectorView.space space.old).spare ≤ (P.SectorView.space space.new).spare + ready.now.load }

@@ -18,6 +18,7 @@ use Rattle.volume_base.specs.Fitting.{AreMet}
 use Rattle.volume_weights.proofs.LoseWeight.{rm_alone}
 use Rattle.volume_base.proofs.Rising.{settled_is_plain}
 use Rattle.volume_step.proofs.MetNow.{fewer_are, loses_one, loss_fewer, met_still, not_root, opens_fewer, replied}
+use Rattle.volume_step.proofs.Loaded.{within, within_reads}
 use Rattle.volume_step.proofs.removing.remove_file.Goals as goal
 
 pub returns-clause-answered : goal.returns-clause-answered
@@ -93,3 +94,9 @@ returns-then-not-fits_lose-clause-done g c tells met =
     let opens : AreMet (edits 1 5 0 4) c.change_at.new.self (g.P.SectorView.space c.change_at.new.space) = subst (λ (e : Edits). AreMet e c.change_at.new.self (g.P.SectorView.space c.change_at.new.space)) alone now in
     (fewer_are c.a_load_says_enough.ensures c.a_load_is_of_parts.ensures c.trees_grow_by_enough.ensures c.trees_hold_three.ensures c.change_at.new.self (g.P.SectorView.space c.change_at.new.space) (sound_here c.change_at.new.self (g.P.SectorView.space c.change_at.new.space) (c.change_at.ensures.stands.stands (c.change_at.ensures.reads.looks.same.tells ∙ tells)) (c.change_at.ensures.settled tells)) (edits 1 2 0 1) (edits 1 5 0 4) opens_fewer opens, opens)))
     ∙ c.if-not-fits_lose.true))
+
+pub returns-clause-loads : goal.returns-clause-loads
+returns-clause-loads g c tells = within (command.Rm c.args.path.now) c.args.volume.now c.change_at.new.self (g.P.SectorView.space c.args.space.now) (g.P.SectorView.space c.change_at.new.space) (g.P.SectorView.space c.rm.new.space) c.change_at.ensures.reads tells refl refl (c.requires.affords tells) (c.in_ok-reply.ensures.loads (c.change_at.ensures.reads.looks.same.tells ∙ tells))
+
+pub returns-then-not-fits_lose-clause-loads : goal.returns-then-not-fits_lose-clause-loads
+returns-then-not-fits_lose-clause-loads g c tells = within_reads (command.Rm c.args.path.now) c.args.volume.now c.change_at.new.self (g.P.SectorView.space c.args.space.now) (g.P.SectorView.space c.change_at.new.space) c.change_at.ensures.reads

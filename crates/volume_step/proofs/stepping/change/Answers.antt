@@ -213,19 +213,19 @@ returns-in-Fits-clause-alike g c tells it =
     ]
 
 pub returns-in-Fits-clause-loads : goal.returns-in-Fits-clause-loads
-returns-in-Fits-clause-loads g c tells keeps filled =
+returns-in-Fits-clause-loads g c tells filled =
     takes_answered c.perform.result c.args.command.now c.args.volume.now c.judge.new.volume (g.P.SectorView.space c.args.space.now) (g.P.SectorView.space c.judge.new.space) (g.P.SectorView.space c.perform.new.space) c.judge.ensures.reads tells
-    (c.perform.ensures.takes (c.judge.ensures.reads.looks.same.tells ∙ tells) keeps (subst (λ (k : Content). IsFilled c.args.command.now k) (sym (c.judge.ensures.reads.looks.content tells)) filled))
+    (c.perform.ensures.takes (c.judge.ensures.reads.looks.same.tells ∙ tells) (subst (λ (k : Content). IsFilled c.args.command.now k) (sym (c.judge.ensures.reads.looks.content tells)) filled))
 
 pub returns-in-Refused-clause-loads : goal.returns-in-Refused-clause-loads
-returns-in-Refused-clause-loads g c tells leaves filled = takes_one c.refusal.result c.args.command.now c.args.volume.now (g.P.SectorView.space c.args.space.now) (g.P.SectorView.space c.judge.new.space) (within_reads c.args.command.now c.args.volume.now c.judge.new.volume (g.P.SectorView.space c.args.space.now) (g.P.SectorView.space c.judge.new.space) c.judge.ensures.reads)
+returns-in-Refused-clause-loads g c tells filled = takes_one c.refusal.result c.args.command.now c.args.volume.now (g.P.SectorView.space c.args.space.now) (g.P.SectorView.space c.judge.new.space) (within_reads c.args.command.now c.args.volume.now c.judge.new.volume (g.P.SectorView.space c.args.space.now) (g.P.SectorView.space c.judge.new.space) c.judge.ensures.reads)
 
 pub returns-in-CutFirst-clause-loads : goal.returns-in-CutFirst-clause-loads
-returns-in-CutFirst-clause-loads g c tells leaves filled =
+returns-in-CutFirst-clause-loads g c tells filled =
     takes_behind c.cut_first.result c.args.command.now c.args.volume.now c.judge.new.volume (g.P.SectorView.space c.args.space.now) (g.P.SectorView.space c.judge.new.space) (g.P.SectorView.space c.cut_first.new.space) c.judge.ensures.reads tells (c.cut_first.ensures.loads (c.judge.ensures.reads.looks.same.tells ∙ tells))
 
 pub returns-in-Grows-clause-loads : goal.returns-in-Grows-clause-loads
-returns-in-Grows-clause-loads g c tells leaves filled =
+returns-in-Grows-clause-loads g c tells filled =
     takes_behind c.grow_first.result c.args.command.now c.args.volume.now c.judge.new.volume (g.P.SectorView.space c.args.space.now) (g.P.SectorView.space c.judge.new.space) (g.P.SectorView.space c.grow_first.new.space) c.judge.ensures.reads tells c.grow_first.ensures.loads
 
 -- ---- what goes ahead of what is ready
@@ -283,3 +283,6 @@ pub returns-in-Fits-clause-within : goal.returns-in-Fits-clause-within
 returns-in-Fits-clause-within g c tells leaves it =
     within_behind c.args.command.now c.args.volume.now c.judge.new.volume (g.P.SectorView.space c.args.space.now) (g.P.SectorView.space c.judge.new.space) (g.P.SectorView.space c.perform.new.space) c.judge.ensures.reads tells
     (c.perform.ensures.loads (c.judge.ensures.reads.looks.same.tells ∙ tells) leaves (subst (λ (k : Content). IsFilled c.args.command.now k) (sym (c.judge.ensures.reads.looks.content tells)) it.filled)) it.now.load it.now.grow it.now.costs
+
+pub returns-in-Fits-clause-settled : goal.returns-in-Fits-clause-settled
+returns-in-Fits-clause-settled g c tells = c.perform.ensures.settled (c.judge.ensures.reads.looks.same.tells ∙ tells)

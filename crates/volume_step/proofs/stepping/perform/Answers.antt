@@ -72,10 +72,10 @@ pub returns-in_default-clause-loads : goal.returns-in_default-clause-loads
 returns-in_default-clause-loads g c tells leaves filled = c.perform_without_data.ensures.loads tells leaves
 
 pub returns-in-Trunc-clause-takes : goal.returns-in-Trunc-clause-takes
-returns-in-Trunc-clause-takes g c tells keeps filled = ok_true c.resize.result (returns-in-Trunc-clause-loads g c tells (ap leaves_links c.in-Trunc.is) filled)
+returns-in-Trunc-clause-takes g c tells filled = ok_true c.resize.result (returns-in-Trunc-clause-loads g c tells (ap leaves_links c.in-Trunc.is) filled)
 
 pub returns-in-Write-clause-takes : goal.returns-in-Write-clause-takes
-returns-in-Write-clause-takes g c tells keeps filled = ok_true c.write_value.result (returns-in-Write-clause-loads g c tells (ap leaves_links c.in-Write.is) filled)
+returns-in-Write-clause-takes g c tells filled = ok_true c.write_value.result (returns-in-Write-clause-loads g c tells (ap leaves_links c.in-Write.is) filled)
 
 pub returns-in_default-clause-takes : goal.returns-in_default-clause-takes
-returns-in_default-clause-takes g c tells keeps filled = c.perform_without_data.ensures.takes tells keeps
+returns-in_default-clause-takes g c tells filled = c.perform_without_data.ensures.takes tells

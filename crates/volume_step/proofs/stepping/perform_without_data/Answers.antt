@@ -9,7 +9,7 @@ use Rattle.volume_base.specs.Keeping.{shrunk_of}
 use Rattle.volume_step.proofs.Widening.{keeps_shrunk, touches_own}
 use Rattle.volume_step.proofs.ReadyData.{any_ok}
 use Rattle.std.proofs.lemmas.Bool.{true≢false}
-use Rattle.volume_step.specs.Loads.{leaves_links, IsWithinLoad, takes_no_name}
+use Rattle.volume_step.specs.Loads.{leaves_links, IsWithinLoad}
 use Rattle.hfs_language.specs.declared.command.Command.TheVariants as command
 use Rattle.volume_step.proofs.stepping.perform_without_data.Goals as goal
 
@@ -136,33 +136,35 @@ pub returns-in-Rmdir-clause-loads : goal.returns-in-Rmdir-clause-loads
 returns-in-Rmdir-clause-loads g c tells leaves = subst (λ (k : Command). IsWithinLoad k c.args.volume.now (g.P.SectorView.space c.args.space.now) (g.P.SectorView.space c.remove_folder.new.space)) (sym c.in-Rmdir.is) (c.remove_folder.ensures.loads tells)
 
 pub returns-in-At-clause-takes : goal.returns-in-At-clause-takes
-returns-in-At-clause-takes g c tells keeps = ok_true c.date.result (returns-in-At-clause-loads g c tells (ap leaves_links c.in-At.is))
+returns-in-At-clause-takes g c tells = ok_true c.date.result (returns-in-At-clause-loads g c tells (ap leaves_links c.in-At.is))
 
 pub returns-in-Chmod-clause-takes : goal.returns-in-Chmod-clause-takes
-returns-in-Chmod-clause-takes g c tells keeps = ok_true c.set_mode.result (returns-in-Chmod-clause-loads g c tells (ap leaves_links c.in-Chmod.is))
+returns-in-Chmod-clause-takes g c tells = ok_true c.set_mode.result (returns-in-Chmod-clause-loads g c tells (ap leaves_links c.in-Chmod.is))
 
 pub returns-in-SetAttr-clause-takes : goal.returns-in-SetAttr-clause-takes
-returns-in-SetAttr-clause-takes g c tells keeps = ok_true c.set_attribute.result (returns-in-SetAttr-clause-loads g c tells (ap leaves_links c.in-SetAttr.is))
+returns-in-SetAttr-clause-takes g c tells = ok_true c.set_attribute.result (returns-in-SetAttr-clause-loads g c tells (ap leaves_links c.in-SetAttr.is))
 
 pub returns-in-DelAttr-clause-takes : goal.returns-in-DelAttr-clause-takes
-returns-in-DelAttr-clause-takes g c tells keeps = ok_true c.delete_attribute.result (returns-in-DelAttr-clause-loads g c tells (ap leaves_links c.in-DelAttr.is))
+returns-in-DelAttr-clause-takes g c tells = ok_true c.delete_attribute.result (returns-in-DelAttr-clause-loads g c tells (ap leaves_links c.in-DelAttr.is))
 
 pub returns-in-Mkdir-clause-takes : goal.returns-in-Mkdir-clause-takes
-returns-in-Mkdir-clause-takes g c tells keeps = ok_true c.make_folder.result (returns-in-Mkdir-clause-loads g c tells (ap leaves_links c.in-Mkdir.is))
+returns-in-Mkdir-clause-takes g c tells = ok_true c.make_folder.result (returns-in-Mkdir-clause-loads g c tells (ap leaves_links c.in-Mkdir.is))
 
 pub returns-in-Create-clause-takes : goal.returns-in-Create-clause-takes
-returns-in-Create-clause-takes g c tells keeps = ok_true c.make_file.result (returns-in-Create-clause-loads g c tells (ap leaves_links c.in-Create.is))
+returns-in-Create-clause-takes g c tells = ok_true c.make_file.result (returns-in-Create-clause-loads g c tells (ap leaves_links c.in-Create.is))
 
 pub returns-in-Mv-clause-takes : goal.returns-in-Mv-clause-takes
-returns-in-Mv-clause-takes g c tells keeps = ok_true c.move_entry.result (returns-in-Mv-clause-loads g c tells (ap leaves_links c.in-Mv.is))
+returns-in-Mv-clause-takes g c tells = ok_true c.move_entry.result (returns-in-Mv-clause-loads g c tells (ap leaves_links c.in-Mv.is))
 
 pub returns-in-Rmdir-clause-takes : goal.returns-in-Rmdir-clause-takes
-returns-in-Rmdir-clause-takes g c tells keeps = ok_true c.remove_folder.result (returns-in-Rmdir-clause-loads g c tells (ap leaves_links c.in-Rmdir.is))
+returns-in-Rmdir-clause-takes g c tells = ok_true c.remove_folder.result (returns-in-Rmdir-clause-loads g c tells (ap leaves_links c.in-Rmdir.is))
 
 pub returns-in-Rm-clause-takes : goal.returns-in-Rm-clause-takes
-returns-in-Rm-clause-takes g c tells keeps = absurd (true≢false (sym keeps ∙ ap takes_no_name c.in-Rm.is))
+returns-in-Rm-clause-takes g c tells =
+    ok_so (IsWithinLoad (command.Rm c.in-Rm.path) c.args.volume.now (g.P.SectorView.space c.args.space.now) (g.P.SectorView.space c.remove_file.new.space)) (IsWithinLoad c.args.command.now c.args.volume.now (g.P.SectorView.space c.args.space.now) (g.P.SectorView.space c.remove_file.new.space)) c.remove_file.result (c.remove_file.ensures.loads tells)
+    (subst (λ (k : Command). IsWithinLoad k c.args.volume.now (g.P.SectorView.space c.args.space.now) (g.P.SectorView.space c.remove_file.new.space)) (sym c.in-Rm.is))
 
 pub returns-in-Ln-clause-takes : goal.returns-in-Ln-clause-takes
-returns-in-Ln-clause-takes g c tells keeps =
+returns-in-Ln-clause-takes g c tells =
     ok_so (IsWithinLoad (command.Ln c.in-Ln.from c.in-Ln.to) c.args.volume.now (g.P.SectorView.space c.args.space.now) (g.P.SectorView.space c.link_file.new.space)) (IsWithinLoad c.args.command.now c.args.volume.now (g.P.SectorView.space c.args.space.now) (g.P.SectorView.space c.link_file.new.space)) c.link_file.result (c.link_file.ensures.loads tells)
     (subst (λ (k : Command). IsWithinLoad k c.args.volume.now (g.P.SectorView.space c.args.space.now) (g.P.SectorView.space c.link_file.new.space)) (sym c.in-Ln.is))

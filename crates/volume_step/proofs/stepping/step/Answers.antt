@@ -37,7 +37,7 @@ returns-clause-anew g c tells anew fits =
     c.change.ensures.alike tells (ready_alike c.args.volume.now (g.P.SectorView.space c.args.space.now) (c.requires.settled tells) anew c.args.command.now (sym c.only_reads.ensures ∙ c.if-only_reads.false) fits)
 
 pub returns-then-only_reads-clause-loads : goal.returns-then-only_reads-clause-loads
-returns-then-only_reads-clause-loads g c tells leaves filled = takes_any c.answer.result c.args.command.now c.args.volume.now (g.P.SectorView.space c.args.space.now) (g.P.SectorView.space c.answer.new.space) (within_none c.args.command.now c.args.volume.now (g.P.SectorView.space c.args.space.now) (g.P.SectorView.space c.answer.new.space) c.answer.ensures.spent)
+returns-then-only_reads-clause-loads g c tells filled = takes_any c.answer.result c.args.command.now c.args.volume.now (g.P.SectorView.space c.args.space.now) (g.P.SectorView.space c.answer.new.space) (within_none c.args.command.now c.args.volume.now (g.P.SectorView.space c.args.space.now) (g.P.SectorView.space c.answer.new.space) c.answer.ensures.spent)
 
 pub returns-then-only_reads-clause-ahead : goal.returns-then-only_reads-clause-ahead
 returns-then-only_reads-clause-ahead g c tells ready =
