@@ -204,7 +204,7 @@ pub fn step<P: SectorSpace>(
     ensures ready { IsTrue (P.SectorView.space space.old).tells → (only_reads command.now ≡ true) ⊎ (IsReady command.now volume.old (P.SectorView.space space.old) ⊎ PutsNow command.now volume.old (P.SectorView.space space.old)) → IfOk result (λ it. it ≢ outcome.CommitFirst) }
     // On a transaction to which nothing was put none comes first where nothing is missing for the command, and no cut goes ahead of it.
     ensures anew { IsTrue (P.SectorView.space space.old).tells → IsAnew volume.old (P.SectorView.space space.old) → FitsAnew command.now volume.old (P.SectorView.space space.old).content → IfOk result (λ it. it ≢ outcome.CommitFirst) }
-    // The growth of a tree that goes ahead of a command that is ready puts no more than the load of the command.
+    // The growth of a tree that goes ahead of a command that puts no data into a file, and is ready, puts no more than the load of the command.
     ensures ahead { IsTrue (P.SectorView.space space.old).tells → (ready : IsReady command.now volume.old (P.SectorView.space space.old)) → IfOk result (λ it. it ≡ outcome.Again → (P.SectorView.space space.old).spare ≤ (P.SectorView.space space.new).spare + ready.now.load) }
     // The journal lies where it lay, and the header is one of the same volume.
     ensures place { IsTrue (P.SectorView.space space.old).tells → OnOk result (KeepsJournal (P.SectorView.space space.old).content (P.SectorView.space space.new).content) }
@@ -220,11 +220,12 @@ pub fn step<P: SectorSpace>(
     // of a content with the volume's blocks.
     ensures touches { (committed : Content) → HoldsOn committed volume.old → IsLaidOutAs committed volume.old → Touches committed (OwnOf volume.old volume.new) (P.SectorView.space space.old) (P.SectorView.space space.new) }
     ensures same { SameSpace (P.SectorView.space space.old) (P.SectorView.space space.new) }
-    // Answered, it takes no more room for puts than its load names, of the blocks that may be taken; of a file that data is put into each overflow
-    // record has an extent in use.
+    // Answered, where it costs a load of the blocks that may be taken, it takes no more room for puts than that names; of a file that data is put
+    // into each overflow record has an extent in use.
     ensures loads { IsTrue (P.SectorView.space space.old).tells → IsFilled command.now (P.SectorView.space space.old).content → IfOk result (λ it. TakesItsLoad it command.now volume.old (P.SectorView.space space.old) (P.SectorView.space space.new)) }
-    // Where it costs the same load of all free blocks and of those that may be taken, which the room suffices for, and no cut goes ahead of it, it takes no more than
-    // that whatever it comes to: on a fault too, and where a tree grows ahead of it. Each overflow record of that tree and of the file has an extent in use.
+    // Where it costs the same load of all free blocks and of those that may be taken, which the room suffices for, and no cut goes ahead of it, it
+    // takes no more than that whatever it comes to: on a fault too, and where a tree grows ahead of it. Each overflow record of that tree and of the
+    // file has an extent in use. Of `rm` and `ln` it isn't told.
     ensures within { IsTrue (P.SectorView.space space.old).tells → leaves_links command.now ≡ true → (ready : IsReadyAlike command.now volume.old (P.SectorView.space space.old)) → (P.SectorView.space space.old).spare ≤ (P.SectorView.space space.new).spare + ready.now.load }
     ensures below { P.SectorView.follows space.old space.new }
     ensures cause { HasTroubleCause (P.SectorView.space space.old).faults (P.SectorView.space space.new).faults result }
