@@ -11,16 +11,23 @@ pub(crate) fn is_well_formed(node: &[u8]) -> bool
     ensures { IsTrue result ↔ IsNode node.now }
 {
     let n = count_records(node);
-    if 2 * (n + 1) > node.len() || get_offset(node, 0) < 14 {
+    if 2 * (n + 1) > node.len() {
+        return false;
+    }
+    let first = get_offset(node, 0);
+    if first < 14 {
         return false;
     }
     if get_offset(node, n) + 2 * (n + 1) > node.len() {
         return false;
     }
+    let mut begin = first;
     for i in 0..n {
-        if get_offset(node, i + 1) < get_offset(node, i) {
+        let end = get_offset(node, i + 1);
+        if end < begin {
             return false;
         }
+        begin = end;
     }
     true
 }
