@@ -1,6 +1,6 @@
 -- How edits of one tree add up.
-use Rattle.std.proofs.Common.{◌≡◌, ◌⊎◌, ◌<◌, ◌≤◌, ℕ, zero, suc, ◌+◌, ◌-◌, ◌*◌, ◌^◌, Bool, true, false, List, length, min, max, refl, sym, ◌∙◌, ap, subst, inl, inr, arith, zero-add}
-use Rattle.std.specs.Prelude.{IsTrue, T, nat_lt, if◌then◌else◌}
+use Rattle.std.proofs.Common.{◌≡◌, ◌<◌, ◌≤◌, ℕ, zero, suc, ◌+◌, ◌-◌, ◌*◌, ◌^◌, Bool, true, false, length, refl, sym, ◌∙◌, ap, subst, inl, inr, arith, zero-add}
+use Rattle.std.specs.Prelude.{IsTrue, nat_lt, if◌then◌else◌}
 use Rattle.std.proofs.lemmas.Bool.{cases_lt, ltb-true, lt-ltb, true≢false}
 use Rattle.std.proofs.Math.Nat.{mul-le-mul_left}
 use Rattle.btree_node.specs.Node.{items}
@@ -9,7 +9,6 @@ use Rattle.btree_edit.specs.Editing.{CostsAtMost, edit_writes}
 use Rattle.btree_edit.specs.LevelEdit.{node_room}
 use Rattle.btree_edit.specs.Rising.{BoundsRoot}
 use Rattle.btree_edit.specs.Edits.{TreeTop, top_of, top_after, tops, IsNoHigher, GoesNoDeeper, EditRoom, TakesAtMost, TakesEdits}
-use Rattle.btree_edit.proofs.Repeated.{same_store_both}
 use Rattle.btree_edit.proofs.Doing.{does_both}
 
 -- ---- tops

@@ -1,5 +1,5 @@
 -- How many leaves a walk comes to.
-use Rattle.std.proofs.Common.{◌≡◌, ℕ, zero, suc, ◌+◌, ◌-◌, ◌<◌, ◌≤◌, Bool, true, false, List, [], ◌∷◌, ◌++◌, length, map, get_or, refl, sym, ◌∙◌, ap, subst, arith, append_assoc, inl, inr}
+use Rattle.std.proofs.Common.{◌≡◌, ℕ, zero, suc, ◌+◌, ◌-◌, ◌<◌, ◌≤◌, Bool, true, List, [], ◌∷◌, ◌++◌, length, map, get_or, refl, sym, ◌∙◌, ap, subst, arith, append_assoc, inl, inr}
 use Rattle.std.specs.Prelude.{IsTrue, ◌||◌, if◌then◌else◌}
 use Rattle.std.specs.List.{list_any}
 use Rattle.std.proofs.lemmas.Bool.{cases_lt}
@@ -7,7 +7,7 @@ use Rattle.std.proofs.lemmas.List.{length-append, append-nil, length-map, get_or
 use Rattle.btree_node.specs.Node.{items}
 use Rattle.btree_node.specs.Levels.{Nodes, Pair, entries, level, leaves, pair_of}
 use Rattle.btree_node.specs.Store.{Store}
-use Rattle.btree_node.specs.Tree.{level_of, pairs_of}
+use Rattle.btree_node.specs.Tree.{pairs_of}
 use Rattle.btree_node.proofs.Levels.{entries-append}
 use Rattle.btree_edit.specs.Reading.{ReadsNodes}
 use Rattle.btree_edit.specs.Walking.{StandsAt, leaf_nodes, leaves_of, one_if_both, leaves_with, leaves_until, leaves_having, leaves_where}

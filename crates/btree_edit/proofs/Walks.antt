@@ -1,19 +1,19 @@
 -- The pairs that a walk over the leaves passes.
-use Rattle.std.proofs.Common.{◌≡◌, ◌≢◌, ℕ, zero, suc, ◌+◌, ◌-◌, ◌^◌, ◌<◌, ◌≤◌, List, [], ◌∷◌, ◌++◌, length, get_or, refl, sym, ◌∙◌, ap, subst, arith, append_assoc, true, false}
+use Rattle.std.proofs.Common.{◌≡◌, ℕ, zero, suc, ◌+◌, ◌-◌, ◌<◌, ◌≤◌, List, [], ◌∷◌, ◌++◌, length, get_or, refl, sym, ◌∙◌, ap, subst, arith, append_assoc, true, false}
 use Rattle.std.proofs.lemmas.Bool.{true≢false}
-use Rattle.std.specs.Prelude.{Bool, Option, Some, None, IsTrue, Result, Ok, Err, IfOk}
+use Rattle.std.specs.Prelude.{Option, Some, None, IsTrue, Result, Ok, Err, IfOk}
 use Rattle.std.proofs.lemmas.List.{length-append, append-nil, get_or-append_right, get_or_append_left}
 use Rattle.std.specs.Cmp.{IsTotalOrder}
 use Rattle.std.specs.declared.cmp.Ordering.{Ordering}
 use Rattle.hx_bytes.specs.Field.{big_at}
-use Rattle.btree_node.specs.Node.{items, next_of, IsNodeOf}
-use Rattle.btree_node.specs.Levels.{Nodes, Pair, entries, level, key_of, value_of, pair_of, IsRank}
+use Rattle.btree_node.specs.Node.{items, next_of}
+use Rattle.btree_node.specs.Levels.{Pair, entries, level, key_of, value_of, pair_of, IsRank}
 use Rattle.btree_node.specs.Store.{Store}
-use Rattle.btree_node.specs.Tree.{level_of, entries_of, pairs_of, IsTree, IsTreeNode, IsReached, kind_at}
+use Rattle.btree_node.specs.Tree.{level_of, entries_of, pairs_of, IsTree, IsTreeNode, IsReached}
 use Rattle.btree_node.proofs.Levels.{entries-append}
 use Rattle.btree_node.proofs.Ranks.{level_long, behind_node, in_node}
 use Rattle.btree_edit.specs.Desk.{IsAbove, HoldsPair}
-use Rattle.btree_edit.specs.Following.{IsInLeaf, IsLocated}
+use Rattle.btree_edit.specs.Following.{IsLocated}
 use Rattle.btree_edit.specs.Reading.{ReadsNodes, IsPlace}
 use Rattle.btree_edit.specs.Walking.{Seeks, StandsAt, StepsOn, Turns, leaves_until}
 use Rattle.btree_edit.specs.declared.desk.Desk.{Desk}

@@ -1,5 +1,5 @@
 -- Calls of several edits of one tree: the room that they need, and what they take.
-use Rattle.std.specs.Prelude.{◌≡◌, ◌⊎◌, ◌<◌, ◌≤◌, ℕ, zero, suc, ◌+◌, ◌-◌, ◌*◌, ◌^◌, IsTrue, nat_lt, max, length, if◌then◌else◌}
+use Rattle.std.specs.Prelude.{◌≡◌, ◌<◌, ◌≤◌, ℕ, zero, suc, ◌+◌, ◌-◌, ◌*◌, ◌^◌, IsTrue, nat_lt, max, length, if◌then◌else◌}
 use Rattle.btree_node.specs.Node.{items}
 use Rattle.btree_node.specs.Store.{Store, HasRoom}
 use Rattle.btree_edit.specs.Editing.{CostsAtMost, edit_writes}

@@ -9,6 +9,7 @@ pub mod Packing
 pub mod Replacing
 pub mod Descriptor
 pub mod Units
+pub mod UnitOrder
 pub mod Levels
 pub mod Ranks
 pub mod Flags

@@ -1,5 +1,5 @@
 //! The orders of the three trees of a volume.
-ghost use Rattle.std.specs.Prelude.{◌≡◌, ◌<◌, ◌≤◌, ◌↔◌, ◌+◌, IsTrue, length};
+ghost use Rattle.std.specs.Prelude.{◌≡◌, ◌<◌, ◌≤◌, ◌↔◌, ◌+◌, ◌*◌, ◌/◌, IsTrue, length, take};
 ghost use Rattle.std.specs.Ordering.{nat_cmp};
 ghost use Rattle.std.specs.Cmp.Lexicographic.{slice_cmp};
 ghost use Rattle.btree_node.specs.Keys.{units, IsCatalogKey, IsExtentKey, IsAttrKey};
@@ -54,9 +54,11 @@ impl KeyOrder for CatalogOrder {
     const FIXED: bool = false;
 
     fn compare(a: &[u8], b: &[u8]) -> Ordering {
-        read_be32(a, 2)
-            .cmp(&read_be32(b, 2))
-            .then(compare_units(&a[8..], &b[8..]))
+        let parent = read_be32(a, 2).cmp(&read_be32(b, 2));
+        if parent.is_ne() {
+            return parent;
+        }
+        compare_units(&a[8..], &b[8..])
     }
 
     fn valid(key: &[u8]) -> bool {
@@ -179,23 +181,32 @@ impl KeyOrder for AttrOrder {
     }
 }
 
-/// Compares numbers of two bytes each, one by one.
+/// Compares numbers of two bytes each, one by one. Their bytes stand in the same order.
 fn compare_units(a: &[u8], b: &[u8]) -> Ordering
     ensures { result ≡ slice_cmp nat_cmp (units a.now) (units b.now) }
 {
-    let mut at = 0;
-    while at + 2 <= a.len() && at + 2 <= b.len() {
-        let order = read_be16(a, at).cmp(&read_be16(b, at));
+    let first = whole_units(a);
+    let second = whole_units(b);
+    compare_bytes(first, second)
+}
+
+/// The order of the first bytes that differ, or else that of the lengths. Keys are short, so each pair is looked at by itself.
+fn compare_bytes(a: &[u8], b: &[u8]) -> Ordering
+    ensures { result ≡ slice_cmp nat_cmp a.now b.now }
+{
+    let both = a.len().min(b.len());
+    for i in 0..both {
+        let order = a[i].cmp(&b[i]);
         if order.is_ne() {
             return order;
         }
-        at += 2;
     }
-    if at + 2 <= a.len() {
-        Ordering::Greater
-    } else if at + 2 <= b.len() {
-        Ordering::Less
-    } else {
-        Ordering::Equal
-    }
+    a.len().cmp(&b.len())
+}
+
+/// The bytes without half a number at the end.
+fn whole_units(bytes: &[u8]) -> &[u8]
+    ensures { result.now ≡ take (2 * (length bytes.now / 2)) bytes.now }
+{
+    &bytes[..2 * (bytes.len() / 2)]
 }

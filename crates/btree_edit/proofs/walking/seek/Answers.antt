@@ -1,5 +1,4 @@
-use Rattle.std.proofs.Common.{◌≤◌, ◌<◌, ◌^◌, arith}
-use Rattle.std.specs.Prelude.{Result, Ok, Err, IfOk, Option}
+use Rattle.std.proofs.Common.{arith}
 use Rattle.btree_edit.proofs.Outcomes.{read_tree, read_pairs}
 use Rattle.btree_edit.proofs.Walks.{located_seeks_ok}
 use Rattle.btree_edit.proofs.walking.seek.Goals as goal
