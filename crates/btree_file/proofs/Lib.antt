@@ -1,4 +1,5 @@
 pub mod PlaceLaws
+pub mod CountedLaws
 pub mod NodeLaws
 pub mod RoomLaws
 pub mod MapLaws

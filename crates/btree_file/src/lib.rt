@@ -4,6 +4,7 @@
 mod added_run;
 mod apart;
 mod attaching;
+mod counted;
 mod growing;
 mod map_node;
 mod marking;

@@ -9,6 +9,7 @@ ghost use Rattle.fork_map.specs.Blocks.{fork_sectors};
 ghost use Rattle.btree_file.specs.Frame.{ReadsSpace};
 ghost use Rattle.btree_file.specs.Putting.{unput, PutsNode, TakesRoomFor};
 
+use crate::counted::{counted_sector, first_in_block};
 use btree_node::Node;
 use fork_map::SummedFork;
 use hx_bytes::{Failed, Sector};
@@ -32,9 +33,11 @@ pub(crate) fn get_node<V: SectorView>(
     ensures cause { HasCause (V.space space.old).faults (V.space space.new).faults result }
 {
     let per = into.bytes().len() as u32 / 512;
+    let first = first_in_block(fork, per_block, node as u64 * per as u64, per);
     let mut sector = [0; 512];
     for k in 0..per {
-        if let Some(at) = fork.sector_at(per_block, node as u64 * per as u64 + k as u64) {
+        let place = node as u64 * per as u64 + k as u64;
+        if let Some(at) = counted_sector(fork, per_block, place, first, k) {
             space.get(at, &mut sector)?;
             into.fill(k, &sector);
         }

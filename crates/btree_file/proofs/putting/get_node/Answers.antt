@@ -24,17 +24,17 @@ loop-k-preserved g c =
     let low : k < per = omega arith in
     record {
       per = e;
-      read = elim c.match-sector_at.branch [
+      read = elim c.match-counted_sector.branch [
         | in-Some+in_ok-get w ↦
             let place = same_place fork c.args.node k w.in-Some.at (length c.bytes.result.now / 512) per e w.in-Some.ensures in
             let got = w.in_ok-get.ensures in
-            subst (λ s. Fetched old (g.V.SectorView.space s) fork per c.args.node (length c.args.into.now) c.match-sector_at.into (k + 1)) (sym w.space-is)
+            subst (λ s. Fetched old (g.V.SectorView.space s) fork per c.args.node (length c.args.into.now) c.match-counted_sector.into (k + 1)) (sym w.space-is)
             (subst (λ (b : List ℕ). Fetched old (g.V.SectorView.space w.get.new.self) fork per c.args.node (length c.args.into.now) b (k + 1)) (sym (w.into-is ∙ w.fill.ensures))
             (fetched_more old now (g.V.SectorView.space w.get.new.self) fork per c.args.node (length c.args.into.now) c.loop-k.into w.get.new.into k w.in-Some.at c.loop-k.invariant.read c.requires.whole low place (omega (arith, low)) w.get.array_long
             got.value (record { sectors = got.sectors; time = got.time; room = got.room; same = got.same; faults = got.cause.later })))
         | in_default w ↦ absurd (has_place fork per c.args.node k c.requires.whole low (same_none fork c.args.node k (length c.bytes.result.now / 512) per e w.in_default.ensures))
       ];
-      below = elim c.match-sector_at.branch [
+      below = elim c.match-counted_sector.branch [
         | in-Some+in_ok-get w ↦ subst (λ s. g.V.SectorView.follows c.args.space.now s) (sym w.space-is) (g.met.V.SectorView.follows_trans c.args.space.now c.loop-k.space w.get.new.self c.loop-k.invariant.below w.get.ensures.below)
         | in_default w ↦ absurd (has_place fork per c.args.node k c.requires.whole low (same_none fork c.args.node k (length c.bytes.result.now / 512) per e w.in_default.ensures))
       ];
