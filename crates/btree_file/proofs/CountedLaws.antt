@@ -1,8 +1,7 @@
 -- The sectors of a fork that lie in one block, from one of them on.
-use Rattle.std.proofs.Common.{◌≡◌, ◌+◌, ◌*◌, ◌/◌, ◌%◌, ◌<◌, ◌≤◌, ℕ, List, Option, Some, None, slice_get, sym, ◌∙◌, ap, arith}
+use Rattle.std.proofs.Common.{◌≡◌, ◌+◌, ◌*◌, ◌/◌, ◌%◌, ◌<◌, ◌≤◌, ℕ, List, Some, slice_get, sym, ◌∙◌, ap, arith}
 use Rattle.std.proofs.lemmas.Nat.{div-mul-add, div-add-mod'}
 use Rattle.std.specs.Option.{option_map}
-use Rattle.std.specs.Prelude.{IfSome}
 use Rattle.fork_map.specs.Blocks.{sectors_of}
 use Rattle.fork_map.proofs.Laws.{sector_at_place}
 
@@ -30,8 +29,3 @@ follow_first p bs n many block some within there k low =
     ∙ ap (λ q. option_map (λ b. b * p + (n + k) % p) (slice_get bs q)) same
     ∙ ap (λ o. option_map (λ b. b * p + (n + k) % p) o) (sym there)
     ∙ ap (λ s. Some s) (omega (arith, rest))
-
--- what holds of each value of one property holds of each of another that follows from it
-pub some_also : {T : Type 0} (o : Option T) (P Q : T → Type 0) → ((x : T) → P x → Q x) → IfSome o P → IfSome o Q
-some_also (Some x) P Q also holds = also x holds
-some_also None P Q also holds = holds

@@ -1,5 +1,5 @@
 //! One node of a fork, read and put sector by sector.
-ghost use Rattle.std.specs.Prelude.{◌≡◌, ◌⊎◌, ◌<◌, ◌≤◌, ◌+◌, ◌*◌, ◌/◌, ℕ, IsTrue, length, slice_index, slice_range, OnOk};
+ghost use Rattle.std.specs.Prelude.{◌≡◌, ◌⊎◌, ◌<◌, ◌≤◌, ◌+◌, ◌*◌, ◌/◌, ◌^◌, ℕ, Some, IsTrue, length, slice_get, slice_index, slice_range, OnOk};
 ghost use Rattle.sector_disk.specs.Cause.{HasCause};
 ghost use Rattle.sector_disk.specs.Clock.{TimePasses};
 ghost use Rattle.sector_disk.specs.Space.{SameSpace, LeavesDurable};
@@ -61,9 +61,13 @@ struct NodeSectors<'a> {
     per_block: u32,
     node: u32,
     from: &'a Node,
+    /// The sector of its first place, where it lies in one block.
+    first: Option<u64>,
     /// The sectors of the node before this one were told.
     k: u32,
     ghost small: { per_block ≤ 128 },
+    ghost bound: { (s : ℕ) → first ≡ Some s → s < 2 ^ 41 },
+    ghost following: { (s k : ℕ) → first ≡ Some s → k < length from.now / 512 → slice_get (fork_sectors fork.now per_block) (node * (length from.now / 512) + k) ≡ Some (s + k) },
 }
 
 impl SectorsToPut for NodeSectors<'_> {
@@ -83,7 +87,8 @@ impl SectorsToPut for NodeSectors<'_> {
             return None;
         }
         let place = self.node as u64 * per as u64 + k as u64;
-        let Some(at) = self.fork.sector_at(self.per_block, place) else {
+        let sector = counted_sector(self.fork, self.per_block, place, self.first, k);
+        let Some(at) = sector else {
             return None;
         };
         copy_sector(self.from, k, into);
@@ -113,11 +118,14 @@ pub(crate) fn put_node<P: SectorSpace>(
     ensures below { P.SectorView.follows space.old space.new }
     ensures faults { (P.SectorView.space space.new).faults ≡ (P.SectorView.space space.old).faults }
 {
+    let per = from.bytes().len() as u32 / 512;
+    let first = first_in_block(fork, per_block, node as u64 * per as u64, per);
     let mut list = NodeSectors {
         fork,
         per_block,
         node,
         from,
+        first,
         k: 0,
     };
     put_list(space, &mut list);

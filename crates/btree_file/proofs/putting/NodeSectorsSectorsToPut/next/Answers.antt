@@ -1,4 +1,4 @@
-use Rattle.std.proofs.Common.{◌≡◌, ◌+◌, ◌*◌, ◌/◌, ℕ, List, Option, Some, None, length, slice_get, sym, ◌∙◌, ap, arith}
+use Rattle.std.proofs.Common.{◌≡◌, ◌/◌, ℕ, List, length, ap, arith}
 use Rattle.fork_map.specs.Blocks.{fork_sectors}
 use Rattle.btree_file.proofs.PlaceLaws.{next_sector, sector_place, end_of_fork, same_place, same_none}
 use Rattle.btree_file.proofs.putting.NodeSectorsSectorsToPut.next.Goals as goal
