@@ -2,6 +2,7 @@ pub mod Pairs
 pub mod Descent
 pub mod Repeated
 pub mod Picking
+pub mod TracedKeys
 pub mod Behind
 pub mod Spans
 pub mod Walks

@@ -9,6 +9,7 @@ ghost use Rattle.btree_edit.specs.Halves.{record_of};
 ghost use Rattle.btree_edit.specs.LevelEdit.{node_room};
 ghost use Rattle.btree_edit.specs.Rising.{BoundsRoot, RootHasTwoChildren, MakesTree, IsLeafRecord};
 ghost use Rattle.btree_edit.specs.Sorted.{AddsPair, DropsPair, ChangesPair, HoldsKeyOf, InsertsPair, RemovesPair, KeepsFreeNodes, EditsTree};
+ghost use Rattle.btree_edit.specs.Way.{stop_at, LeadsWay};
 ghost use Rattle.btree_edit.specs.Answers.{AnswersInsert, AnswersRemove};
 ghost use Rattle.btree_edit.specs.declared.edits.Inserted.TheVariants as Inserted;
 ghost use Rattle.btree_edit.specs.declared.edits.Removed.TheVariants as Removed;
@@ -18,7 +19,7 @@ use crate::desk::Desk;
 use crate::finding::{Found, find};
 use crate::room::{fits_insert, fits_removal};
 use crate::search::read_node;
-use crate::tracing::find_path;
+use crate::tracing::{find_path, trace};
 use btree_node::{KeyOrder, NodeStore, TreeShape};
 use hx_bytes::Failed;
 
@@ -81,11 +82,20 @@ fn restart_empty<N: NodeStore, K: KeyOrder>(store: &mut N, desk: &mut Desk) -> R
     begin::<N, K>(store, desk)
 }
 
-/// Adds the pair on the desk, whose key the tree doesn't have.
-fn add<N: NodeStore, K: KeyOrder>(store: &mut N, desk: &mut Desk, key: &[u8]) -> Result<(), Failed>
+/// Adds the pair on the desk, whose key the tree doesn't have, in the leaf to which the way on the desk leads, where there is a way.
+fn add<N: NodeStore, K: KeyOrder>(
+    store: &mut N,
+    desk: &mut Desk,
+    key: &[u8],
+    has_way: bool,
+) -> Result<(), Failed>
     requires desk { IsDeskOf (N.state store.old).shape.node_size desk.old }
     requires key { K.is_key key.now }
     requires tree { IsTrue (N.state store.old).tells → IsTree K.is_key K.cmp (N.state store.old) }
+    requires way { IsTrue (N.state store.old).tells → IsTrue has_way → LeadsWay K.cmp key.now (N.state store.old) desk.old.path }
+    requires leaf { IsTrue (N.state store.old).tells → IsTrue has_way → desk.old.node ≡ (N.state store.old).nodes (stop_at desk.old.path ((N.state store.old).shape.depth - 1)).node }
+    requires none { IsTrue (N.state store.old).tells → has_way ≡ false → 0 < (N.state store.old).shape.depth → length (items ((N.state store.old).nodes (N.state store.old).shape.root)) ≡ 0 }
+    requires some { IsTrue has_way → 0 < (N.state store.old).shape.depth }
     requires records { (N.state store.old).shape.leaf_records < 2 ^ 32 - 1 }
     requires depth { (N.state store.old).shape.depth ≤ 11 }
     requires free { (N.state store.old).shape.depth + 1 ≤ (N.state store.old).shape.free }
@@ -112,7 +122,7 @@ fn add<N: NodeStore, K: KeyOrder>(store: &mut N, desk: &mut Desk, key: &[u8]) ->
     if shape.depth == 0 {
         return begin::<N, K>(store, desk);
     }
-    if !find_path::<N, K>(store, desk, key)? {
+    if !has_way {
         return restart_empty::<N, K>(store, desk);
     }
     let at = desk.path[(shape.depth - 1) as usize].at;
@@ -168,17 +178,16 @@ pub fn insert<N: NodeStore, K: KeyOrder>(
 {
     let shape = store.shape();
     let _total = total_of(&shape);
-    match find::<N, K>(store, desk, key)? {
-        Found::At { .. } => Ok(Inserted::Exists),
-        Found::Absent => {
-            if !fits_insert(store) {
-                return Err(store.fail());
-            }
-            desk.first.put(key, value);
-            add::<N, K>(store, desk, key)?;
-            Ok(Inserted::Done)
-        }
+    let traced = trace::<N, K>(store, desk, key)?;
+    if traced.has_key {
+        return Ok(Inserted::Exists);
     }
+    if !fits_insert(store) {
+        return Err(store.fail());
+    }
+    desk.first.put(key, value);
+    add::<N, K>(store, desk, key, traced.has_way)?;
+    Ok(Inserted::Done)
 }
 
 /// Takes away the pair with a key that the tree has.

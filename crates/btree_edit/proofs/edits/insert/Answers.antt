@@ -4,145 +4,146 @@ use Rattle.std.proofs.lemmas.List.{length-append}
 use Rattle.std.proofs.lemmas.List.Elements.{All-same}
 use Rattle.btree_node.specs.Levels.{Pair}
 use Rattle.btree_node.specs.Tree.{pairs_of}
-use Rattle.btree_edit.specs.Desk.{HasKey, Finds}
+use Rattle.btree_edit.specs.Desk.{HasKey}
 use Rattle.btree_edit.specs.Halves.{record_of}
 use Rattle.btree_edit.specs.LevelEdit.{node_room}
 use Rattle.btree_edit.specs.Sorted.{AddsPair}
-use Rattle.btree_edit.specs.declared.finding.Found.{Found}
 use Rattle.btree_edit.proofs.Outcomes.{bounds_read, bounds_same, read_tree, read_pairs, edits_read}
+use Rattle.btree_edit.proofs.PairEdits.{way_read}
 use Rattle.btree_edit.proofs.Values.{values_added}
 use Rattle.btree_edit.proofs.edits.insert.Goals as goal
 
 pub add-requires-clause-tree : goal.add-requires-clause-tree
 add-requires-clause-tree g c = λ tells_m.
-    let tells : IsTrue (g.N.NodeStore.state c.args.store.now).tells = sym c.find.ensures.reads.same.tells ∙ tells_m in
+    let tells : IsTrue (g.N.NodeStore.state c.args.store.now).tells = sym c.trace.ensures.reads.same.tells ∙ tells_m in
     let s = g.N.NodeStore.state c.args.store.now in
-    let m = g.N.NodeStore.state c.find.new.store in
-    let reads = c.find.ensures.reads in
+    let m = g.N.NodeStore.state c.trace.new.store in
+    let reads = c.trace.ensures.reads in
     let total : s.shape.total ≡ c.total_of-total.result = ap (λ h. h.total) (sym c.shape-shape.ensures) ∙ sym c.total_of-total.ensures in
     let small : s.shape.total ≤ 2 ^ 32 = omega (arith, total, c.total_of-total.type_inv) in
     let tree = c.requires.tree tells in
     read_tree g.met.K.KeyOrder.key_length s.shape.depth s m reads tells small tree
 
-pub returns-in-At-clause-pairs : goal.returns-in-At-clause-pairs
-returns-in-At-clause-pairs g c = λ tells.
+pub add-requires-clause-way : goal.add-requires-clause-way
+add-requires-clause-way g c = λ tells_m has.
+    let tells : IsTrue (g.N.NodeStore.state c.args.store.now).tells = sym c.trace.ensures.reads.same.tells ∙ tells_m in
+    let reads = c.trace.ensures.reads in
+    way_read g.K.KeyOrder.cmp c.args.key.now (g.N.NodeStore.state c.args.store.now) (g.N.NodeStore.state c.trace.new.store) c.trace.new.desk.path reads.shape (reads.tree tells).nodes (c.in_ok-traced.ensures.way tells has)
+
+pub returns-then-traced-clause-pairs : goal.returns-then-traced-clause-pairs
+returns-then-traced-clause-pairs g c = λ tells.
     let s = g.N.NodeStore.state c.args.store.now in
-    let m = g.N.NodeStore.state c.find.new.store in
-    let reads = c.find.ensures.reads in
+    let m = g.N.NodeStore.state c.trace.new.store in
+    let reads = c.trace.ensures.reads in
     let total : s.shape.total ≡ c.total_of-total.result = ap (λ h. h.total) (sym c.shape-shape.ensures) ∙ sym c.total_of-total.ensures in
     let small : s.shape.total ≤ 2 ^ 32 = omega (arith, total, c.total_of-total.type_inv) in
     let tree = c.requires.tree tells in
     read_pairs g.met.K.KeyOrder.key_length s.shape.depth s m reads tells small tree
 
-pub returns-in-At-clause-tree : goal.returns-in-At-clause-tree
-returns-in-At-clause-tree g c = λ tells.
+pub returns-then-traced-clause-tree : goal.returns-then-traced-clause-tree
+returns-then-traced-clause-tree g c = λ tells.
     let s = g.N.NodeStore.state c.args.store.now in
-    let m = g.N.NodeStore.state c.find.new.store in
-    let reads = c.find.ensures.reads in
+    let m = g.N.NodeStore.state c.trace.new.store in
+    let reads = c.trace.ensures.reads in
     let total : s.shape.total ≡ c.total_of-total.result = ap (λ h. h.total) (sym c.shape-shape.ensures) ∙ sym c.total_of-total.ensures in
     let small : s.shape.total ≤ 2 ^ 32 = omega (arith, total, c.total_of-total.type_inv) in
     let tree = c.requires.tree tells in
     read_tree g.met.K.KeyOrder.key_length s.shape.depth s m reads tells small tree
 
-pub returns-in_ok-add-in-Absent-clause-pairs : goal.returns-in_ok-add-in-Absent-clause-pairs
-returns-in_ok-add-in-Absent-clause-pairs g c = λ tells.
+pub returns-clause-pairs : goal.returns-clause-pairs
+returns-clause-pairs g c = λ tells.
     let s = g.N.NodeStore.state c.args.store.now in
-    let m = g.N.NodeStore.state c.find.new.store in
-    let reads = c.find.ensures.reads in
+    let m = g.N.NodeStore.state c.trace.new.store in
+    let reads = c.trace.ensures.reads in
     let total : s.shape.total ≡ c.total_of-total.result = ap (λ h. h.total) (sym c.shape-shape.ensures) ∙ sym c.total_of-total.ensures in
     let small : s.shape.total ≤ 2 ^ 32 = omega (arith, total, c.total_of-total.type_inv) in
     let tree = c.requires.tree tells in
     let t = g.N.NodeStore.state c.add.new.store in
-    let found = subst (λ (f : Found). Finds g.K.KeyOrder.cmp c.args.key.now s c.find.new.desk f) c.in-Absent.is (c.in_ok-find.ensures.found tells) in
-    let absent : HasKey g.K.KeyOrder.cmp c.args.key.now (pairs_of m) → ⊥ = λ has. found.0 (subst (λ l. HasKey g.K.KeyOrder.cmp c.args.key.now l) (read_pairs g.met.K.KeyOrder.key_length s.shape.depth s m reads tells small tree) has) in
+    let absent : HasKey g.K.KeyOrder.cmp c.args.key.now (pairs_of m) → ⊥ = λ has. c.in_ok-traced.ensures.absent tells c.if-traced.false (subst (λ l. HasKey g.K.KeyOrder.cmp c.args.key.now l) (read_pairs g.met.K.KeyOrder.key_length s.shape.depth s m reads tells small tree) has) in
     let wide : 3 * (g.K.KeyOrder.MAX + 8) ≤ node_room m.shape.node_size = subst (λ n. 3 * (g.K.KeyOrder.MAX + 8) ≤ node_room n) (sym reads.same.node_size) (c.requires.wide tells) in
     let rec_is : record_of c.put.new.self ≡ c.args.key.now ++ c.args.value.now = ap (λ l. l ++ c.put.new.self.value) c.put.ensures.key ∙ ap (λ l. c.args.key.now ++ l) c.put.ensures.value in
     let short : length (record_of c.put.new.self) ≤ m.shape.node_size / 2 - 10 =
     subst (λ n. length (record_of c.put.new.self) ≤ n / 2 - 10) (sym reads.same.node_size) (omega (arith, ap length rec_is, length-append c.args.key.now c.args.value.now, c.requires.short)) in
     let edits = edits_read g.met.K.KeyOrder.key_length s.shape.depth s m reads tells small tree t (λ old new. AddsPair g.K.KeyOrder.cmp c.args.key.now c.put.new.self.value old new)
-    (c.in_ok-add-in-Absent.ensures.adds (reads.same.tells ∙ tells) wide c.put.ensures.key short absent) in
+    (c.in_ok-add.ensures.adds (reads.same.tells ∙ tells) wide c.put.ensures.key short absent) in
     subst (λ v. AddsPair g.K.KeyOrder.cmp c.args.key.now v (pairs_of s) (pairs_of t)) c.put.ensures.value edits.pairs
 
-pub returns-in_ok-add-in-Absent-clause-tree : goal.returns-in_ok-add-in-Absent-clause-tree
-returns-in_ok-add-in-Absent-clause-tree g c = λ tells.
+pub returns-clause-tree : goal.returns-clause-tree
+returns-clause-tree g c = λ tells.
     let s = g.N.NodeStore.state c.args.store.now in
-    let m = g.N.NodeStore.state c.find.new.store in
-    let reads = c.find.ensures.reads in
+    let m = g.N.NodeStore.state c.trace.new.store in
+    let reads = c.trace.ensures.reads in
     let total : s.shape.total ≡ c.total_of-total.result = ap (λ h. h.total) (sym c.shape-shape.ensures) ∙ sym c.total_of-total.ensures in
     let small : s.shape.total ≤ 2 ^ 32 = omega (arith, total, c.total_of-total.type_inv) in
     let tree = c.requires.tree tells in
     let t = g.N.NodeStore.state c.add.new.store in
-    let found = subst (λ (f : Found). Finds g.K.KeyOrder.cmp c.args.key.now s c.find.new.desk f) c.in-Absent.is (c.in_ok-find.ensures.found tells) in
-    let absent : HasKey g.K.KeyOrder.cmp c.args.key.now (pairs_of m) → ⊥ = λ has. found.0 (subst (λ l. HasKey g.K.KeyOrder.cmp c.args.key.now l) (read_pairs g.met.K.KeyOrder.key_length s.shape.depth s m reads tells small tree) has) in
+    let absent : HasKey g.K.KeyOrder.cmp c.args.key.now (pairs_of m) → ⊥ = λ has. c.in_ok-traced.ensures.absent tells c.if-traced.false (subst (λ l. HasKey g.K.KeyOrder.cmp c.args.key.now l) (read_pairs g.met.K.KeyOrder.key_length s.shape.depth s m reads tells small tree) has) in
     let wide : 3 * (g.K.KeyOrder.MAX + 8) ≤ node_room m.shape.node_size = subst (λ n. 3 * (g.K.KeyOrder.MAX + 8) ≤ node_room n) (sym reads.same.node_size) (c.requires.wide tells) in
     let rec_is : record_of c.put.new.self ≡ c.args.key.now ++ c.args.value.now = ap (λ l. l ++ c.put.new.self.value) c.put.ensures.key ∙ ap (λ l. c.args.key.now ++ l) c.put.ensures.value in
     let short : length (record_of c.put.new.self) ≤ m.shape.node_size / 2 - 10 =
     subst (λ n. length (record_of c.put.new.self) ≤ n / 2 - 10) (sym reads.same.node_size) (omega (arith, ap length rec_is, length-append c.args.key.now c.args.value.now, c.requires.short)) in
     let edits = edits_read g.met.K.KeyOrder.key_length s.shape.depth s m reads tells small tree t (λ old new. AddsPair g.K.KeyOrder.cmp c.args.key.now c.put.new.self.value old new)
-    (c.in_ok-add-in-Absent.ensures.adds (reads.same.tells ∙ tells) wide c.put.ensures.key short absent) in
+    (c.in_ok-add.ensures.adds (reads.same.tells ∙ tells) wide c.put.ensures.key short absent) in
     edits.tree
 
-pub returns-in_ok-add-in-Absent-clause-others : goal.returns-in_ok-add-in-Absent-clause-others
-returns-in_ok-add-in-Absent-clause-others g c = λ tells.
+pub returns-clause-others : goal.returns-clause-others
+returns-clause-others g c = λ tells.
     let s = g.N.NodeStore.state c.args.store.now in
-    let m = g.N.NodeStore.state c.find.new.store in
-    let reads = c.find.ensures.reads in
+    let m = g.N.NodeStore.state c.trace.new.store in
+    let reads = c.trace.ensures.reads in
     let total : s.shape.total ≡ c.total_of-total.result = ap (λ h. h.total) (sym c.shape-shape.ensures) ∙ sym c.total_of-total.ensures in
     let small : s.shape.total ≤ 2 ^ 32 = omega (arith, total, c.total_of-total.type_inv) in
     let tree = c.requires.tree tells in
     let t = g.N.NodeStore.state c.add.new.store in
-    let found = subst (λ (f : Found). Finds g.K.KeyOrder.cmp c.args.key.now s c.find.new.desk f) c.in-Absent.is (c.in_ok-find.ensures.found tells) in
-    let absent : HasKey g.K.KeyOrder.cmp c.args.key.now (pairs_of m) → ⊥ = λ has. found.0 (subst (λ l. HasKey g.K.KeyOrder.cmp c.args.key.now l) (read_pairs g.met.K.KeyOrder.key_length s.shape.depth s m reads tells small tree) has) in
+    let absent : HasKey g.K.KeyOrder.cmp c.args.key.now (pairs_of m) → ⊥ = λ has. c.in_ok-traced.ensures.absent tells c.if-traced.false (subst (λ l. HasKey g.K.KeyOrder.cmp c.args.key.now l) (read_pairs g.met.K.KeyOrder.key_length s.shape.depth s m reads tells small tree) has) in
     let wide : 3 * (g.K.KeyOrder.MAX + 8) ≤ node_room m.shape.node_size = subst (λ n. 3 * (g.K.KeyOrder.MAX + 8) ≤ node_room n) (sym reads.same.node_size) (c.requires.wide tells) in
     let rec_is : record_of c.put.new.self ≡ c.args.key.now ++ c.args.value.now = ap (λ l. l ++ c.put.new.self.value) c.put.ensures.key ∙ ap (λ l. c.args.key.now ++ l) c.put.ensures.value in
     let short : length (record_of c.put.new.self) ≤ m.shape.node_size / 2 - 10 =
     subst (λ n. length (record_of c.put.new.self) ≤ n / 2 - 10) (sym reads.same.node_size) (omega (arith, ap length rec_is, length-append c.args.key.now c.args.value.now, c.requires.short)) in
     let edits = edits_read g.met.K.KeyOrder.key_length s.shape.depth s m reads tells small tree t (λ old new. AddsPair g.K.KeyOrder.cmp c.args.key.now c.put.new.self.value old new)
-    (c.in_ok-add-in-Absent.ensures.adds (reads.same.tells ∙ tells) wide c.put.ensures.key short absent) in
+    (c.in_ok-add.ensures.adds (reads.same.tells ∙ tells) wide c.put.ensures.key short absent) in
     edits.others
 
-pub returns-in_ok-add-in-Absent-clause-roots : goal.returns-in_ok-add-in-Absent-clause-roots
-returns-in_ok-add-in-Absent-clause-roots g c = λ tells.
+pub returns-clause-roots : goal.returns-clause-roots
+returns-clause-roots g c = λ tells.
     let s = g.N.NodeStore.state c.args.store.now in
-    let m = g.N.NodeStore.state c.find.new.store in
-    let reads = c.find.ensures.reads in
+    let m = g.N.NodeStore.state c.trace.new.store in
+    let reads = c.trace.ensures.reads in
     let total : s.shape.total ≡ c.total_of-total.result = ap (λ h. h.total) (sym c.shape-shape.ensures) ∙ sym c.total_of-total.ensures in
     let small : s.shape.total ≤ 2 ^ 32 = omega (arith, total, c.total_of-total.type_inv) in
     let tree = c.requires.tree tells in
     let t = g.N.NodeStore.state c.add.new.store in
-    let found = subst (λ (f : Found). Finds g.K.KeyOrder.cmp c.args.key.now s c.find.new.desk f) c.in-Absent.is (c.in_ok-find.ensures.found tells) in
-    let absent : HasKey g.K.KeyOrder.cmp c.args.key.now (pairs_of m) → ⊥ = λ has. found.0 (subst (λ l. HasKey g.K.KeyOrder.cmp c.args.key.now l) (read_pairs g.met.K.KeyOrder.key_length s.shape.depth s m reads tells small tree) has) in
+    let absent : HasKey g.K.KeyOrder.cmp c.args.key.now (pairs_of m) → ⊥ = λ has. c.in_ok-traced.ensures.absent tells c.if-traced.false (subst (λ l. HasKey g.K.KeyOrder.cmp c.args.key.now l) (read_pairs g.met.K.KeyOrder.key_length s.shape.depth s m reads tells small tree) has) in
     let wide : 3 * (g.K.KeyOrder.MAX + 8) ≤ node_room m.shape.node_size = subst (λ n. 3 * (g.K.KeyOrder.MAX + 8) ≤ node_room n) (sym reads.same.node_size) (c.requires.wide tells) in
     let rec_is : record_of c.put.new.self ≡ c.args.key.now ++ c.args.value.now = ap (λ l. l ++ c.put.new.self.value) c.put.ensures.key ∙ ap (λ l. c.args.key.now ++ l) c.put.ensures.value in
     let short : length (record_of c.put.new.self) ≤ m.shape.node_size / 2 - 10 =
     subst (λ n. length (record_of c.put.new.self) ≤ n / 2 - 10) (sym reads.same.node_size) (omega (arith, ap length rec_is, length-append c.args.key.now c.args.value.now, c.requires.short)) in
     bounds_read g.K.KeyOrder.MAX s.shape.depth s m t t.shape.depth t.shape.root reads tells
-    (c.in_ok-add-in-Absent.ensures.roots (reads.same.tells ∙ tells) wide c.put.ensures.key short absent)
+    (c.in_ok-add.ensures.roots (reads.same.tells ∙ tells) wide c.put.ensures.key short absent)
 
-pub returns-in-At-clause-roots : goal.returns-in-At-clause-roots
-returns-in-At-clause-roots g c = λ tells.
-    bounds_same g.K.KeyOrder.MAX (g.N.NodeStore.state c.args.store.now).shape.depth (g.N.NodeStore.state c.args.store.now) (g.N.NodeStore.state c.find.new.store) c.find.ensures.reads tells
+pub returns-then-traced-clause-roots : goal.returns-then-traced-clause-roots
+returns-then-traced-clause-roots g c = λ tells.
+    bounds_same g.K.KeyOrder.MAX (g.N.NodeStore.state c.args.store.now).shape.depth (g.N.NodeStore.state c.args.store.now) (g.N.NodeStore.state c.trace.new.store) c.trace.ensures.reads tells
 
-pub returns-in_ok-add-in-Absent-clause-thick : goal.returns-in_ok-add-in-Absent-clause-thick
-returns-in_ok-add-in-Absent-clause-thick g c = λ tells done.
+pub returns-clause-thick : goal.returns-clause-thick
+returns-clause-thick g c = λ tells done.
     let s = g.N.NodeStore.state c.args.store.now in
-    let m = g.N.NodeStore.state c.find.new.store in
-    let reads = c.find.ensures.reads in
+    let m = g.N.NodeStore.state c.trace.new.store in
+    let reads = c.trace.ensures.reads in
     let total : s.shape.total ≡ c.total_of-total.result = ap (λ h. h.total) (sym c.shape-shape.ensures) ∙ sym c.total_of-total.ensures in
     let small : s.shape.total ≤ 2 ^ 32 = omega (arith, total, c.total_of-total.type_inv) in
     let tree = c.requires.tree tells in
     let t = g.N.NodeStore.state c.add.new.store in
-    let found = subst (λ (f : Found). Finds g.K.KeyOrder.cmp c.args.key.now s c.find.new.desk f) c.in-Absent.is (c.in_ok-find.ensures.found tells) in
-    let absent : HasKey g.K.KeyOrder.cmp c.args.key.now (pairs_of m) → ⊥ = λ has. found.0 (subst (λ l. HasKey g.K.KeyOrder.cmp c.args.key.now l) (read_pairs g.met.K.KeyOrder.key_length s.shape.depth s m reads tells small tree) has) in
+    let absent : HasKey g.K.KeyOrder.cmp c.args.key.now (pairs_of m) → ⊥ = λ has. c.in_ok-traced.ensures.absent tells c.if-traced.false (subst (λ l. HasKey g.K.KeyOrder.cmp c.args.key.now l) (read_pairs g.met.K.KeyOrder.key_length s.shape.depth s m reads tells small tree) has) in
     let wide : 3 * (g.K.KeyOrder.MAX + 8) ≤ node_room m.shape.node_size = subst (λ n. 3 * (g.K.KeyOrder.MAX + 8) ≤ node_room n) (sym reads.same.node_size) (c.requires.wide tells) in
     let rec_is : record_of c.put.new.self ≡ c.args.key.now ++ c.args.value.now = ap (λ l. l ++ c.put.new.self.value) c.put.ensures.key ∙ ap (λ l. c.args.key.now ++ l) c.put.ensures.value in
     let short : length (record_of c.put.new.self) ≤ m.shape.node_size / 2 - 10 =
     subst (λ n. length (record_of c.put.new.self) ≤ n / 2 - 10) (sym reads.same.node_size) (omega (arith, ap length rec_is, length-append c.args.key.now c.args.value.now, c.requires.short)) in
-    c.in_ok-add-in-Absent.ensures.thick (reads.same.tells ∙ tells) wide c.put.ensures.key short absent
+    c.in_ok-add.ensures.thick (reads.same.tells ∙ tells) wide c.put.ensures.key short absent
 
-pub returns-in-At-clause-values : goal.returns-in-At-clause-values
-returns-in-At-clause-values g c = λ tells had. All-same (λ (pair : Pair). g.K.KeyOrder.is_value pair.1) _ _ (returns-in-At-clause-pairs g c tells) had
+pub returns-then-traced-clause-values : goal.returns-then-traced-clause-values
+returns-then-traced-clause-values g c = λ tells had. All-same (λ (pair : Pair). g.K.KeyOrder.is_value pair.1) _ _ (returns-then-traced-clause-pairs g c tells) had
 
-pub returns-in_ok-add-in-Absent-clause-values : goal.returns-in_ok-add-in-Absent-clause-values
-returns-in_ok-add-in-Absent-clause-values g c = λ tells had.
-    values_added g.K.KeyOrder.is_value g.K.KeyOrder.cmp c.args.key.now c.args.value.now _ _ (returns-in_ok-add-in-Absent-clause-pairs g c tells) (c.requires.value tells) had
+pub returns-clause-values : goal.returns-clause-values
+returns-clause-values g c = λ tells had.
+    values_added g.K.KeyOrder.is_value g.K.KeyOrder.cmp c.args.key.now c.args.value.now _ _ (returns-clause-pairs g c tells) (c.requires.value tells) had
