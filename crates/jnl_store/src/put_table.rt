@@ -1,5 +1,9 @@
 //! Puts of sectors, each sector once, found by its number in logarithmic time, in memory that was found before.
-ghost use Rattle.std.specs.Prelude.{◌≡◌, ◌⊎◌, ◌<◌, ◌≤◌, ◌+◌, ◌^◌, ◌==◌, ◌||◌, ℕ, [], IsTrue, Bool, length, slice_set, if◌then◌else◌, MatchOption, OnOk, OnErr};
+ghost use Rattle.std.specs.Prelude.{◌≡◌, ◌⊎◌, ◌<◌, ◌≤◌, ◌+◌, ◌^◌, ◌==◌, ◌||◌, ℕ, [], IsTrue, Bool, length, slice_set, if◌then◌else◌, MatchOption, IfOk, OnOk, OnErr};
+ghost use Rattle.std.specs.List.{HoldsAt};
+ghost use Rattle.std.specs.List.Sorted.{IsBinarySearchResult, IsSearchInRange};
+ghost use Rattle.std.specs.Ordering.{nat_cmp};
+ghost use Rattle.std.specs.declared.cmp.Ordering.TheVariants.{Equal};
 ghost use Rattle.sector_disk.specs.Lists.{Content, sector};
 ghost use Rattle.jnl_store.specs.Batch.{AreOnce, bytes_of, has, names};
 ghost use Rattle.jnl_store.specs.Overlay.{overlay};
@@ -17,6 +21,8 @@ pub struct PutTable {
     sectors: Vec<u64>,
     places: Vec<usize>,
     memory: usize,
+    /// Where the sector stands that was put last, or stood then.
+    near: usize,
 }
 
 impl Model for PutTable {
@@ -40,6 +46,7 @@ impl PutTable {
             sectors: Vec::new(alloc),
             places: Vec::new(alloc),
             memory: 0,
+            near: 0,
         }
     }
 
@@ -110,16 +117,18 @@ impl PutTable {
         ensures count { length self.new.items ≡ (if names self.old.items put.now.at then length self.old.items else length self.old.items + 1) }
         ensures memory { self.new.memory ≡ self.old.memory }
     {
-        match self.sectors.binary_search(&put.at) {
+        match search_near(&self.sectors, self.near, put.at) {
             Ok(k) => {
                 let place = self.places[k];
                 self.puts[place] = *put;
+                self.near = k;
             }
             Err(k) => {
                 let place = self.puts.len();
                 let _sector = self.sectors.insert(k, put.at);
                 let _place = self.places.insert(k, place);
                 let _put = self.puts.push(*put);
+                self.near = k;
             }
         }
     }
@@ -147,4 +156,20 @@ impl PutTable {
         self.sectors.clear();
         self.places.clear();
     }
+}
+
+// Where a sector stands among rising ones, or would stand. Behind a place it is looked for first: the sectors of a node are put
+// one after another.
+fn search_near(sectors: &[u64], near: usize, at: u64) -> Result<usize, usize>
+    ensures bound { IsSearchInRange result (length sectors.now) }
+    ensures ok { IfOk result (HoldsAt (λ y. nat_cmp y at ≡ Equal) sectors.now) }
+    ensures position { IsBinarySearchResult (λ y. nat_cmp y at) sectors.now result }
+{
+    let next = near.saturating_add(1);
+    if next < sectors.len() {
+        if sectors[next] == at {
+            return Ok(next);
+        }
+    }
+    sectors.binary_search(&at)
 }
