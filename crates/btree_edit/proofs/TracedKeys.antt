@@ -1,5 +1,5 @@
 -- What the way to a leaf says of a key: the record before its place has the key, or no pair of the tree has.
-use Rattle.std.proofs.Common.{◌≡◌, ◌≢◌, ℕ, ◌+◌, ◌-◌, ◌<◌, ◌≤◌, List, [], length, get_or, ap, ◌∙◌, arith}
+use Rattle.std.proofs.Common.{◌≡◌, ◌≢◌, ℕ, ◌+◌, ◌-◌, ◌<◌, ◌≤◌, List, [], Bool, true, false, not, length, get_or, refl, ap, ◌∙◌, arith}
 use Rattle.std.specs.Cmp.{IsTotalOrder}
 use Rattle.std.specs.declared.cmp.Ordering.{Ordering}
 use Rattle.std.specs.declared.cmp.Ordering.TheVariants.{Equal}
@@ -30,3 +30,7 @@ module _ (is_key : List ℕ → Type 0) (cmp : List ℕ → List ℕ → Orderin
         leads_absent is_key cmp total key_length store levels ordered key node some leads place at
         (λ any equal. leads_keys is_key cmp total key_length store levels ordered key (store.shape.depth - 1) node leads (omega arith)
         (place - 1, omega (arith, any, at.within), λ is. unlike any at.within is equal))
+
+pub is_so : (b : Bool) → not b ≡ false → b ≡ true
+is_so true e = refl
+is_so false e = cc

@@ -190,16 +190,22 @@ pub fn insert<N: NodeStore, K: KeyOrder>(
     Ok(Inserted::Done)
 }
 
-/// Takes away the pair with a key that the tree has.
+/// Takes away the pair with a key that the tree has, from the leaf to which the way on the desk leads.
 fn drop_pair<N: NodeStore, K: KeyOrder>(
     store: &mut N,
     desk: &mut Desk,
     key: &[u8],
     fixed: bool,
+    has_way: bool,
 ) -> Result<(), Failed>
     requires desk { IsDeskOf (N.state store.old).shape.node_size desk.old }
     requires key { K.is_key key.now }
     requires tree { IsTrue (N.state store.old).tells → IsTree K.is_key K.cmp (N.state store.old) }
+    requires way { IsTrue (N.state store.old).tells → IsTrue has_way → LeadsWay K.cmp key.now (N.state store.old) desk.old.path }
+    requires leaf { IsTrue (N.state store.old).tells → IsTrue has_way → desk.old.node ≡ (N.state store.old).nodes (stop_at desk.old.path ((N.state store.old).shape.depth - 1)).node }
+    requires none { IsTrue (N.state store.old).tells → has_way ≡ false → 0 < (N.state store.old).shape.depth → length (items ((N.state store.old).nodes (N.state store.old).shape.root)) ≡ 0 }
+    requires some { IsTrue has_way → 0 < (N.state store.old).shape.depth }
+    requires most { IsTrue has_way → (N.state store.old).shape.depth ≤ 12 }
     requires fixed { fixed ≡ K.FIXED }
     requires depth { fixed ≡ false → (N.state store.old).shape.depth ≤ 11 }
     requires free { fixed ≡ false → (N.state store.old).shape.depth + 1 ≤ (N.state store.old).shape.free }
@@ -222,7 +228,7 @@ fn drop_pair<N: NodeStore, K: KeyOrder>(
 {
     let mut shape = store.shape();
     let _total = total_of(&shape);
-    if !find_path::<N, K>(store, desk, key)? {
+    if !has_way {
         return Ok(());
     }
     let at = desk.path[(shape.depth - 1) as usize].at;
@@ -278,16 +284,15 @@ pub fn remove<N: NodeStore, K: KeyOrder>(
 {
     let shape = store.shape();
     let _total = total_of(&shape);
-    match find::<N, K>(store, desk, key)? {
-        Found::At { .. } => {
-            if !fits_removal(store, K::FIXED) {
-                return Err(store.fail());
-            }
-            drop_pair::<N, K>(store, desk, key, K::FIXED)?;
-            Ok(Removed::Done)
-        }
-        Found::Absent => Ok(Removed::Absent),
+    let traced = trace::<N, K>(store, desk, key)?;
+    if !traced.has_key {
+        return Ok(Removed::Absent);
     }
+    if !fits_removal(store, K::FIXED) {
+        return Err(store.fail());
+    }
+    drop_pair::<N, K>(store, desk, key, K::FIXED, traced.has_way)?;
+    Ok(Removed::Done)
 }
 
 /// Puts the pair on the desk in the place of the pair with its key, whatever its length.

@@ -108,6 +108,7 @@ pub(crate) fn trace<N: NodeStore, K: KeyOrder>(
     // There is no way only where the root has no record.
     ensures none { IsTrue (N.state store.old).tells → IfOk result (λ it. it.has_way ≡ false → 0 < (N.state store.old).shape.depth → length (items ((N.state store.old).nodes (N.state store.old).shape.root)) ≡ 0) }
     ensures some { IfOk result (λ it. IsTrue it.has_way → 0 < (N.state store.old).shape.depth) }
+    ensures most { IfOk result (λ it. IsTrue it.has_way → (N.state store.old).shape.depth ≤ 12) }
     ensures found { IsTrue (N.state store.old).tells → IfOk result (λ it. IsTrue it.has_key → HasKey K.cmp key.now (pairs_of (N.state store.old))) }
     ensures absent { IsTrue (N.state store.old).tells → IfOk result (λ it. it.has_key ≡ false → HasKey K.cmp key.now (pairs_of (N.state store.old)) → ⊥) }
     ensures desk { IsDeskOf (N.state store.old).shape.node_size desk.new }
