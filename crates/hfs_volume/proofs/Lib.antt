@@ -55,6 +55,7 @@ mod PlainBytes
 mod Plainly
 mod Ranks
 pub mod Reaching
+pub mod RecordExtents
 pub mod Refielding
 pub mod Removing
 mod RemovingFile

@@ -1,12 +1,12 @@
 -- How a sound volume is kept sound: what each change keeps, and what it does to the numbers that are counted.
-use Rattle.std.specs.Prelude.{◌≡◌, ◌⊎◌, ◌↔◌, ◌<◌, ◌≤◌, ℕ, ◌+◌, ◌==◌, ◌&&◌, Bool, true, false, List, [], length, count_by, All, Contains, None, if◌then◌else◌}
+use Rattle.std.specs.Prelude.{◌≡◌, ◌≢◌, ◌⊎◌, ◌↔◌, ◌<◌, ◌≤◌, ℕ, ◌+◌, ◌==◌, ◌&&◌, Bool, true, false, List, [], length, count_by, All, Contains, None, if◌then◌else◌}
 use Rattle.std.specs.List.{flat_map}
 use Rattle.cat_records.specs.declared.record.CatRecord.{CatRecord}
 use Rattle.btree_node.specs.Levels.{Pair}
 use Rattle.volume_header.specs.declared.header.VolumeHeader.{VolumeHeader}
 use Rattle.hfs_model.specs.Step.{private_name, is_private_name}
 use Rattle.hfs_volume.specs.Records.{Placed, Overflow, entries_of, record_at, is_folder, is_file, is_thread, is_link, id_of, special_of, attribute_of, is_empty}
-use Rattle.hfs_volume.specs.Forks.{Owned, forks_in, blocks_owned}
+use Rattle.hfs_volume.specs.Forks.{Owned, forks_in, blocks_owned, in_use, bad_blocks_id}
 use Rattle.hfs_volume.specs.Content.{VolumeState, is_set, records_of, overflow_in_volume}
 use Rattle.hfs_volume.specs.Entries.{AreThreaded, AreRooted, HaveIds, AreCounted, LiesIn, IsUserId, count_in}
 use Rattle.hfs_volume.specs.Links.{is_shared_file, AreGoodLinks, HaveLinkCounts, IsGoodLink, IsHidden, links_to}
@@ -205,6 +205,10 @@ abbrev pub TreeGrown : Type 0
 TreeGrown =
     (id more : ℕ) (fresh : List ℕ) (old new : VolumeState) → IsTreeFork id → GrowsFile id more fresh old new → HasRightBits old → IsShaped old
     → IsShaped new × HasRightBits new × CountsBlocks (length fresh) 0 old new
+
+-- Each overflow record of a fork has an extent in use; those of bad blocks alone are of none.
+abbrev pub RecordsHaveExtents : Type 0
+RecordsHaveExtents = (volume : VolumeState) → HasForks volume → (more : Overflow) → Contains (overflow_in_volume volume) more → more.id ≢ bad_blocks_id → 0 < length (in_use more.extents)
 
 -- Other dates, counts and ids in the header keep the rules, and nothing that is counted changes.
 abbrev pub HeaderChanged : Type 0

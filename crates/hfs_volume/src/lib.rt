@@ -24,7 +24,7 @@ pub use laws_aside::aside_is_free;
 pub use laws_attributes::{
     at_does_its_step, delattr_does_its_step, mount_keeps_the_tree, setattr_does_its_step,
 };
-pub use laws_blocks::{blocks_may_be_put, tree_may_grow};
+pub use laws_blocks::{blocks_may_be_put, records_have_extents, tree_may_grow};
 pub use laws_changes::{
     attribute_may_be_added, attribute_may_be_removed, entry_may_be_added, entry_may_be_moved,
     entry_may_be_removed,

@@ -1,6 +1,6 @@
 -- A list of extents cut into records: their starts, their number, and what they give together.
 use Rattle.std.proofs.Common.{◌≡◌, ◌≢◌, ℕ, zero, suc, ◌+◌, ◌-◌, ◌*◌, ◌<◌, ◌≤◌, Bool, true, false, List, [], ◌∷◌, ◌++◌, length, map, take, drop, inl, inr, refl, sym, ◌∙◌, ap, arith, append_assoc}
-use Rattle.std.specs.Prelude.{◌==◌, ◌&&◌, not, slice_index_or, if◌then◌else◌}
+use Rattle.std.specs.Prelude.{◌==◌, ◌&&◌, ◌||◌, not, slice_index_or, if◌then◌else◌}
 use Rattle.std.specs.List.{flat_map, range_with_len}
 use Rattle.std.proofs.lemmas.Bool.{cases_lt, ne_eqb, eqb-false}
 use Rattle.std.proofs.lemmas.Grind.{flat_map-append}
@@ -10,7 +10,7 @@ use Rattle.hx_bytes.specs.declared.extents.Extent.{Extent}
 use Rattle.hx_bytes.specs.declared.extents.ExtentRecord.{ExtentRecord}
 use Rattle.fork_map.specs.Blocks.{blocks_of}
 use Rattle.hfs_volume.specs.Blocks.{GoOn}
-use Rattle.hfs_volume.specs.Forks.{parts_for, in_use, is_full}
+use Rattle.hfs_volume.specs.Forks.{parts_for, in_use, is_full, has_extents}
 use Rattle.hfs_volume.specs.Records.{Overflow}
 use Rattle.overflow.specs.Changes.{same_list}
 use Rattle.overflow.specs.Records.{no_extent, eight_at, records_from, under}
@@ -134,6 +134,11 @@ padded_full zero xs used enough = refl
 padded_full (suc n) [] used enough = absurd (omega (arith, enough))
 padded_full (suc n) (x ∷ xs) used enough = (λ i. not (ne_eqb x.count 0 used.0 i) && is_full (padded n xs)) ∙ padded_full n xs used.1 (omega (arith, enough))
 
+padded_some : (n : ℕ) (xs : List Extent) → AreUsed xs → 0 < length xs → has_extents (padded (suc n) xs) ≡ true
+unfolding padded
+padded_some n [] used some = absurd (omega (arith, some))
+padded_some n (x ∷ xs) used some = λ i. not (ne_eqb x.count 0 used.0 i) || has_extents (padded n xs)
+
 eight_padded : (xs : List Extent) → (eight_at xs 0).extents ≡ padded 8 xs
 unfolding padded
 eight_padded [] = refl
@@ -159,6 +164,10 @@ eight_used xs at used = ap in_use (eight_dropped xs at ∙ eight_padded (drop at
 pub eight_full : (xs : List Extent) (at : ℕ) → AreUsed xs → at + 8 ≤ length xs → is_full (eight_at xs at).extents ≡ true
 eight_full xs at used enough = ap is_full (eight_dropped xs at ∙ eight_padded (drop at xs)) ∙ padded_full 8 (drop at xs) (used_drop at xs used) (omega (arith, enough, length-drop at xs))
 
+-- where one is left they have one
+pub eight_some : (xs : List Extent) (at : ℕ) → AreUsed xs → at < length xs → has_extents (eight_at xs at).extents ≡ true
+eight_some xs at used enough = ap has_extents (eight_dropped xs at ∙ eight_padded (drop at xs)) ∙ padded_some 7 (drop at xs) (used_drop at xs used) (omega (arith, enough, length-drop at xs))
+
 -- ---- what the records give together
 
 take_then_drop : (n at : ℕ) (xs : List Extent) → take n (drop at xs) ++ drop (at + n) xs ≡ drop at xs
@@ -179,6 +188,7 @@ records_go_on id kind (suc many) at place full xs used is_place enough is_full_n
       (omega (arith, is_place, eight_more xs at))
       (λ some. omega (arith, enough (omega arith), some))
       (λ some. eight_full xs at used (omega (arith, enough (omega arith), some))),
+  eight_some xs at used (omega (arith, enough (omega arith))),
 )
 
 pub records_rise : (many at low : ℕ) (xs : List Extent) → AreUsed xs → low ≤ length (blocks_of (take at xs)) → (0 < many → at + 8 * (many - 1) < length xs) → RiseFrom low (records_from many at xs)
