@@ -1,54 +1,31 @@
 -- Housekeeping that comes to rest, and what goes ahead of a command.
-use Rattle.std.specs.Prelude.{◌≡◌, ◌⊎◌, ℕ, ◌+◌, ◌*◌, ◌==◌, ◌&&◌, min, nat_lt, Bool, true, false, List, length, Option, Some, None, Ok, IsTrue}
+use Rattle.std.specs.Prelude.{◌≡◌, ◌⊎◌, ℕ, ◌+◌, ◌*◌, min, true, false, List, Option, Some, None, Ok}
 use Rattle.std.proofs.Common.{inl, inr}
-use Rattle.std.specs.List.{list_any}
 use Rattle.jnl_format.specs.Recovery.{Content}
 use Rattle.hfs_language.specs.declared.command.Command.{Command}
 use Rattle.hfs_language.specs.declared.refusal.Refusal.{Refusal}
 use Rattle.hfs_model.specs.Step.{refuses}
 use Rattle.hfs_volume.specs.declared.cost.Cost.TheVariants as cost
-use Rattle.hfs_model.specs.Sorted.{kept}
-use Rattle.hfs_volume.specs.Content.{VolumeState, overflow_in_volume, volume_of}
+use Rattle.hfs_volume.specs.Content.{VolumeState, volume_of}
 use Rattle.hfs_volume.specs.Cost.{node_sectors, tree_at}
-use Rattle.hfs_volume.specs.Forks.{data_kind, in_use, is_of, parts_for}
-use Rattle.hfs_volume.specs.Records.{Overflow}
+use Rattle.hfs_volume.specs.Forks.{parts_for}
 use Rattle.hfs_volume.specs.declared.cost.Room.{Room}
-use Rattle.hfs_volume.specs.Reclaim.{CommandWants, CutOrphan, CutShrunk, CutsSurplus, DropAttribute, DropOrphan, GrowsTreeFirst, MarksHeader, Reclaim, Reclaims, StepWants, next_reclaim, reclaim_cost}
+use Rattle.hfs_volume.specs.Reclaim.{CommandWants, CutsSurplus, GrowsTreeFirst, MarksHeader, Reclaim, Reclaims, StepWants, next_reclaim, reclaim_cost}
 use Rattle.hfs_volume.specs.TreeOf.{tree_of}
-use Rattle.hfs_volume.specs.Weight.{data_of, free_blocks, needs_cut, room_with}
+use Rattle.hfs_volume.specs.Weight.{Data, data_of, needs_cut}
 
 -- ---- rest
 
--- an overflow record that has no extent in use
-abbrev pub is_empty_record : Overflow → Bool
-is_empty_record one = length (in_use one.extents) == 0
-
--- a fork has such a record; on a sound volume it is the fork's last
-abbrev pub has_empty_record : VolumeState → ℕ → ℕ → Bool
-has_empty_record volume id kind = list_any is_empty_record (kept (is_of id kind) (overflow_in_volume volume))
-
--- a step cuts a fork that has one: then it makes two changes of the extents overflow file, and else one
-abbrev pub cuts_emptied : VolumeState → Reclaim → Bool
-cuts_emptied volume (CutShrunk id) = has_empty_record volume id data_kind
-cuts_emptied volume (CutOrphan id kind) = has_empty_record volume id kind
-cuts_emptied volume (DropAttribute id name) = false
-cuts_emptied volume (DropOrphan id) = false
-
--- the sectors that a cut puts at most: the volume header's, a node of the catalog, those of the bitmap, and the nodes of so many changes of the
--- extents overflow file
-abbrev pub cut_puts : ℕ → Room → ℕ
-cut_puts changes room =
+-- the sectors that a cut puts at most: the volume header's, a node of the catalog, those of the bitmap, and the nodes of a change of the extents
+-- overflow file
+abbrev pub cut_puts : Room → ℕ
+cut_puts room =
     1 + node_sectors (tree_at room 1) + min (parts_for room.total 4096) 10
-    + node_sectors (tree_at room 0) * min (changes * (4 * ((tree_at room 0).depth + 1) + 4)) (tree_at room 0).nodes
+    + node_sectors (tree_at room 0) * min (4 * ((tree_at room 0).depth + 1) + 4) (tree_at room 0).nodes
 
--- where a step makes two changes, a transaction holds less than it puts at most
-abbrev pub is_tight : ℕ → VolumeState → Reclaim → Bool
-is_tight capacity volume step = cuts_emptied volume step && nat_lt capacity (cut_puts 2 (room_with capacity (free_blocks volume) volume))
-
--- why a step of reclaiming isn't made: a resource is missing for it, or it is a cut of a fork whose last overflow record has no extent in use, for
--- which a transaction may be too small
+-- why a step of reclaiming isn't made: a resource is missing for it
 abbrev pub IsHeldUp : ℕ → VolumeState → Reclaim → Type 0
-IsHeldUp capacity volume step = ((why : Refusal) × (reclaim_cost capacity volume step ≡ cost.Refused why)) ⊎ IsTrue (is_tight capacity volume step)
+IsHeldUp capacity volume step = (why : Refusal) × (reclaim_cost capacity volume step ≡ cost.Refused why)
 
 -- nothing is left to reclaim, or the next step is held up
 abbrev pub IsAtRest : ℕ → Option ℕ → VolumeState → Type 0
@@ -66,13 +43,19 @@ pub record GrowsFor (capacity : ℕ) (shrunk : Option ℕ) (asked : Option Comma
   pub grows : GrowsTreeFirst capacity shrunk old new
   pub own : IsOwn asked grows.wanted
 
--- A file lost blocks past its size ahead of this command, which the plain tree's step doesn't refuse and for which such blocks go first.
+-- the file that a command puts data into, where it puts some
+abbrev pub file_written : Option Data → Option ℕ
+file_written None = None
+file_written (Some put) = Some put.id
+
+-- The file that this command puts data into lost blocks past its size ahead of it; the plain tree's step doesn't refuse the command.
 pub record CutsFor (capacity : ℕ) (asked : Option Command) (old new : Content) : Type 0 where
   pub own : Command
   pub is_own : asked ≡ Some own
   pub no_refusal : refuses (tree_of old) (Ok own) ≡ false
   pub needs : needs_cut (volume_of old) (data_of (tree_of old) own) ≡ true
   pub cuts : CutsSurplus capacity old new
+  pub file : file_written (data_of (tree_of old) own) ≡ Some cuts.id
 
 -- one step of housekeeping ahead of this command, if there is one
 abbrev pub IsTidiedFor : ℕ → Option ℕ → Option Command → Content → Content → Type 0
