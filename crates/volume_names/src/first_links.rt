@@ -72,8 +72,8 @@ fn link_under<P: SectorSpace>(
         × LinksFirst at (free_place way.now.folder name.now) (volume_of (P.SectorView.space space.old).content) (volume_of (P.SectorView.space space.new).content)) }
     ensures blocks { KeepsBlocks volume.old volume.new }
     ensures touches { (committed : Content) → Touches committed (λ s. Contains (own_sectors volume.old) s) (P.SectorView.space space.old) (P.SectorView.space space.new) }
-    // Sectors that its edits have room beside are left, but for those of three updates.
-    ensures leaves { IsTrue (P.SectorView.space space.old).tells → (beside : ℕ) → HasEditsLeft 7 (to_put_header (P.SectorView.space space.old) + beside) volume.old (P.SectorView.space space.old) → OnOk result (beside ≤ (P.SectorView.space space.new).spare + 3 * catalog_node volume.old) }
+    // Sectors that its edits have room beside are left, on a fault too, but for those of three updates.
+    ensures leaves { IsTrue (P.SectorView.space space.old).tells → (beside : ℕ) → HasEditsLeft 7 (to_put_header (P.SectorView.space space.old) + beside) volume.old (P.SectorView.space space.old) → beside ≤ (P.SectorView.space space.new).spare + 3 * catalog_node volume.old }
     ensures below { P.SectorView.follows space.old space.new }
     ensures cause { HasTroubleCause (P.SectorView.space space.old).faults (P.SectorView.space space.new).faults result }
 {
@@ -116,8 +116,8 @@ fn link_ready<P: SectorSpace>(
         × LinksFirst at (free_place way.now.folder name.now) (volume_of (P.SectorView.space space.old).content) (volume_of (P.SectorView.space space.new).content)) }
     ensures blocks { KeepsBlocks volume.old volume.new }
     ensures touches { (committed : Content) → Touches committed (λ s. Contains (own_sectors volume.old) s) (P.SectorView.space space.old) (P.SectorView.space space.new) }
-    // Sectors that its edits have room beside are left, but for those of three updates.
-    ensures leaves { IsTrue (P.SectorView.space space.old).tells → (beside : ℕ) → HasEditsLeft 7 (to_put_header (P.SectorView.space space.old) + beside) volume.old (P.SectorView.space space.old) → OnOk result (beside ≤ (P.SectorView.space space.new).spare + 3 * catalog_node volume.old) }
+    // Sectors that its edits have room beside are left, on a fault too, but for those of three updates.
+    ensures leaves { IsTrue (P.SectorView.space space.old).tells → (beside : ℕ) → HasEditsLeft 7 (to_put_header (P.SectorView.space space.old) + beside) volume.old (P.SectorView.space space.old) → beside ≤ (P.SectorView.space space.new).spare + 3 * catalog_node volume.old }
     ensures below { P.SectorView.follows space.old space.new }
     ensures cause { HasTroubleCause (P.SectorView.space space.old).faults (P.SectorView.space space.new).faults result }
 {
@@ -203,8 +203,8 @@ fn link_dated<P: SectorSpace>(
         × LinksFirst at (free_place way.now.folder name.now) (volume_of (P.SectorView.space space.old).content) (volume_of (P.SectorView.space space.new).content)) }
     ensures blocks { KeepsBlocks volume.old volume.new }
     ensures touches { (committed : Content) → Touches committed (λ s. Contains (own_sectors volume.old) s) (P.SectorView.space space.old) (P.SectorView.space space.new) }
-    // Sectors that its edits have room beside are left, but for those of three updates.
-    ensures leaves { IsTrue (P.SectorView.space space.old).tells → (beside : ℕ) → HasEditsLeft 7 (to_put_header (P.SectorView.space space.old) + beside) volume.old (P.SectorView.space space.old) → OnOk result (beside ≤ (P.SectorView.space space.new).spare + 3 * catalog_node volume.old) }
+    // Sectors that its edits have room beside are left, on a fault too, but for those of three updates.
+    ensures leaves { IsTrue (P.SectorView.space space.old).tells → (beside : ℕ) → HasEditsLeft 7 (to_put_header (P.SectorView.space space.old) + beside) volume.old (P.SectorView.space space.old) → beside ≤ (P.SectorView.space space.new).spare + 3 * catalog_node volume.old }
     ensures below { P.SectorView.follows space.old space.new }
     ensures cause { HasTroubleCause (P.SectorView.space space.old).faults (P.SectorView.space space.new).faults result }
 {
