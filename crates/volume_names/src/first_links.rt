@@ -12,7 +12,7 @@ ghost use Rattle.hfs_volume.specs.Links.{node_name};
 ghost use Rattle.hfs_volume.specs.Naming.{LinksFirst};
 ghost use Rattle.hfs_volume.specs.Records.{placed_in, record_at};
 ghost use Rattle.hfs_volume.specs.TreeOf.{tree_of};
-ghost use Rattle.volume_names.specs.LinkLoads.{SpendsLink, SpendsOn};
+ghost use Rattle.volume_names.specs.LinkLoads.{PutsItsLoad};
 ghost use Rattle.volume_base.specs.Changing.{KeepsBlocks, catalog_node};
 ghost use Rattle.volume_base.specs.Linking.{IsLinking};
 ghost use Rattle.volume_names.specs.Linking.{LinksAnew};
@@ -164,7 +164,9 @@ fn link_first<P: SectorSpace>(
         × LinksFirst at (free_place way.now.folder name.now) (volume_of (P.SectorView.space space.old).content) (volume_of (P.SectorView.space space.new).content)) }
     ensures blocks { KeepsBlocks volume.old volume.new }
     ensures touches { (committed : Content) → Touches committed (λ s. Contains (own_sectors volume.old) s) (P.SectorView.space space.old) (P.SectorView.space space.new) }
-    ensures spends { IsTrue (P.SectorView.space space.old).tells → OnOk result (SpendsOn 7 2 volume.old (P.SectorView.space space.old) (P.SectorView.space space.new)) }
+    // On a fault too, it puts no more sectors than its load names.
+    ensures loads { IsTrue (P.SectorView.space space.old).tells → (from to : List (List ℕ)) (at : PlainEntry) → IsLinking (tree_of (P.SectorView.space space.old).content) from to at way.now.parent old.now way.now.id way.now.folder name.now
+        → PutsItsLoad (command.Ln from to) volume.old (P.SectorView.space space.old) (P.SectorView.space space.new) }
     ensures below { P.SectorView.follows space.old space.new }
     ensures cause { HasTroubleCause (P.SectorView.space space.old).faults (P.SectorView.space space.new).faults result }
 {
@@ -239,7 +241,9 @@ fn link_anew<P: SectorSpace>(
         × LinksAnew at (free_place way.now.folder name.now) (P.SectorView.space space.old).content (P.SectorView.space space.new).content) }
     ensures blocks { KeepsBlocks volume.old volume.new }
     ensures touches { (committed : Content) → Touches committed (λ s. Contains (own_sectors volume.old) s) (P.SectorView.space space.old) (P.SectorView.space space.new) }
-    ensures spends { IsTrue (P.SectorView.space space.old).tells → OnOk result (SpendsOn 9 3 volume.old (P.SectorView.space space.old) (P.SectorView.space space.new)) }
+    // On a fault too, it puts no more sectors than its load names.
+    ensures loads { IsTrue (P.SectorView.space space.old).tells → (from to : List (List ℕ)) (at : PlainEntry) → IsLinking (tree_of (P.SectorView.space space.old).content) from to at way.now.parent old.now way.now.id way.now.folder name.now
+        → PutsItsLoad (command.Ln from to) volume.old (P.SectorView.space space.old) (P.SectorView.space space.new) }
     ensures below { P.SectorView.follows space.old space.new }
     ensures cause { HasTroubleCause (P.SectorView.space space.old).faults (P.SectorView.space space.new).faults result }
 {
@@ -282,7 +286,9 @@ pub(crate) fn link_own<P: SectorSpace>(
         × LinksAnew at (free_place way.now.folder name.now) (P.SectorView.space space.old).content (P.SectorView.space space.new).content) }
     ensures blocks { KeepsBlocks volume.old volume.new }
     ensures touches { (committed : Content) → Touches committed (λ s. Contains (own_sectors volume.old) s) (P.SectorView.space space.old) (P.SectorView.space space.new) }
-    ensures spends { IsTrue (P.SectorView.space space.old).tells → OnOk result (SpendsLink volume.old (P.SectorView.space space.old) (P.SectorView.space space.new)) }
+    // On a fault too, it puts no more sectors than its load names.
+    ensures loads { IsTrue (P.SectorView.space space.old).tells → (from to : List (List ℕ)) (at : PlainEntry) → IsLinking (tree_of (P.SectorView.space space.old).content) from to at way.now.parent old.now way.now.id way.now.folder name.now
+        → PutsItsLoad (command.Ln from to) volume.old (P.SectorView.space space.old) (P.SectorView.space space.new) }
     ensures below { P.SectorView.follows space.old space.new }
     ensures cause { HasTroubleCause (P.SectorView.space space.old).faults (P.SectorView.space space.new).faults result }
 {
