@@ -1,6 +1,6 @@
 use Rattle.volume_names.proofs.LinkWeight.{anew_puts}
 use Rattle.volume_names.proofs.LinkLoads.{anew_spends, left_put, load_anew, rest_anew}
-use Rattle.std.proofs.Common.{◌≡◌, ◌*◌, ℕ, List, sym, ◌∙◌, subst, arith, ◌+◌, ◌≤◌}
+use Rattle.std.proofs.Common.{◌≡◌, ◌*◌, ℕ, List, sym, ◌∙◌, subst, arith}
 use Rattle.std.specs.List.{Contains}
 use Rattle.hfs_language.specs.declared.command.Command.TheVariants as command
 use Rattle.hfs_model.specs.Step.{step}
@@ -13,7 +13,7 @@ use Rattle.volume_base.specs.Standing.{IsSettled}
 use Rattle.volume_base.specs.Touching.{Touches}
 use Rattle.volume_base.proofs.Besides.{blocks_both, blocks_none}
 use Rattle.volume_base.proofs.Commanding.{touches_both, touches_none}
-use Rattle.volume_base.proofs.FoundEntry.{ok_so, ok_both}
+use Rattle.volume_base.proofs.FoundEntry.{ok_so}
 use Rattle.volume_base.specs.Changing.{catalog_node}
 use Rattle.volume_names.proofs.EditsLeft.{ready_behind}
 use Rattle.volume_names.proofs.LinkAnew.{anew_does, linking_then, only_then}

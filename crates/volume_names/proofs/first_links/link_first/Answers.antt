@@ -10,7 +10,7 @@ use Rattle.volume_base.proofs.Replaced.{node_large}
 use Rattle.volume_base.specs.Changing.{catalog_node}
 use Rattle.volume_names.proofs.LinkLoads.{first_spends, rest_beside, rest_left}
 use Rattle.volume_base.proofs.FoundEntry.{ok_both}
-use Rattle.std.proofs.Common.{◌≡◌, ◌+◌, ◌*◌, ◌≤◌}
+use Rattle.std.proofs.Common.{◌≡◌, ◌+◌, ◌*◌, ◌≤◌, arith}
 use Rattle.volume_base.proofs.Besides.{blocks_none}
 use Rattle.volume_base.proofs.Commanding.{touches_none}
 use Rattle.volume_names.proofs.first_links.link_first.Goals as goal

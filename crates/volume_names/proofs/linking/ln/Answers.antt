@@ -98,5 +98,5 @@ returns-in-None-clause-loads g c tells =
 pub returns-in-Some-clause-loads : goal.returns-in-Some-clause-loads
 returns-in-Some-clause-loads g c tells n grow is = omega (arith, c.refused_ln.ensures.reads.looks.spare)
 
-pub returns-in_err-refused_ln-clause-loads : goal.returns-in_err-refused_ln-clause-loads
-returns-in_err-refused_ln-clause-loads g c tells n grow is = omega (arith, c.refused_ln.ensures.reads.looks.spare)
+pub returns-in_err-why-clause-loads : goal.returns-in_err-why-clause-loads
+returns-in_err-why-clause-loads g c tells n grow is = omega (arith, c.refused_ln.ensures.reads.looks.spare)
