@@ -200,11 +200,11 @@ module _ (v : Volume) (a : Space) (settled : IsSettled v a.content) (was : IsSta
           let links = linked_is (records_of (volume_of a.content)) only.names.entry linked in
           let shared = shared_is (private_id (records_of (volume_of a.content))) (special_of links.link) only.names.entry links.names in
           absurd (
-            true≢false (
-              sym ((hidden_is_computed (records_of (volume_of a.content)) (volume_of a.content).head.next_catalog_id shared.folder settled.sound.entries.ids settled.sound.entries.rooted).0 (shared.folder, shared.private_is, is_it))
-              ∙ ap (λ n. is_hidden (records_of (volume_of a.content)) n) (sym shared.parent)
-              ∙ it.shows.visible
-            )
+          true≢false (
+          sym ((hidden_is_computed (records_of (volume_of a.content)) (volume_of a.content).head.next_catalog_id shared.folder settled.sound.entries.ids settled.sound.entries.rooted).0 (shared.folder, shared.private_is, is_it))
+          ∙ ap (λ n. is_hidden (records_of (volume_of a.content)) n) (sym shared.parent)
+          ∙ it.shows.visible
+          )
           )
 
       node_alone : HasNode (tree_of a.content) at.id false

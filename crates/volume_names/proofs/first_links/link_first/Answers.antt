@@ -1,16 +1,7 @@
 use Rattle.volume_names.proofs.LinkWeight.{first_puts}
-use Rattle.volume_base.specs.Standing.{IsSettled}
-use Rattle.volume_base.specs.Making.{free_place}
-use Rattle.hfs_volume.specs.TreeOf.{tree_of}
-use Rattle.hfs_volume.specs.Naming.{LinksFirst}
-use Rattle.hfs_volume.specs.Content.{volume_of}
-use Rattle.hfs_model.specs.Step.{step}
-use Rattle.hfs_language.specs.declared.command.Command.TheVariants as command
 use Rattle.volume_base.proofs.Replaced.{node_large}
-use Rattle.volume_base.specs.Changing.{catalog_node}
 use Rattle.volume_names.proofs.LinkLoads.{first_spends, rest_beside, rest_left}
-use Rattle.volume_base.proofs.FoundEntry.{ok_both}
-use Rattle.std.proofs.Common.{◌≡◌, ◌+◌, ◌*◌, ◌≤◌, arith}
+use Rattle.std.proofs.Common.{arith}
 use Rattle.volume_base.proofs.Besides.{blocks_none}
 use Rattle.volume_base.proofs.Commanding.{touches_none}
 use Rattle.volume_names.proofs.first_links.link_first.Goals as goal

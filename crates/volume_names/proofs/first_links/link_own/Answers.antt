@@ -1,5 +1,4 @@
-use Rattle.std.specs.Prelude.{Option, is_some}
-use Rattle.std.proofs.Common.{◌≡◌, ℕ, ap, inl, inr}
+use Rattle.std.proofs.Common.{◌≡◌}
 use Rattle.hfs_language.specs.declared.command.Command.TheVariants as command
 use Rattle.hfs_model.specs.Step.{step}
 use Rattle.hfs_volume.specs.Content.{volume_of}

@@ -1,5 +1,4 @@
 use Rattle.volume_names.proofs.LinkLoads.{puts_still}
-use Rattle.volume_base.proofs.FoundEntry.{ok_so}
 use Rattle.std.proofs.Common.{◌≡◌, ℕ, List, sym, ◌∙◌, subst, arith}
 use Rattle.std.specs.Prelude.{OnOk}
 use Rattle.std.specs.List.{Contains}

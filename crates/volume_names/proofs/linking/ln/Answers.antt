@@ -1,7 +1,5 @@
-use Rattle.volume_names.specs.LinkLoads.{PutsItsLoad}
 use Rattle.volume_names.proofs.LinkLoads.{puts_still}
-use Rattle.volume_base.proofs.FoundEntry.{ok_so}
-use Rattle.std.proofs.Common.{◌≡◌, true, ℕ, List, sym, ◌∙◌, ap, subst, arith, ◌+◌, ◌≤◌}
+use Rattle.std.proofs.Common.{◌≡◌, true, ℕ, List, sym, ◌∙◌, ap, subst, arith}
 use Rattle.std.specs.Prelude.{IfOk, Ok, OnOk}
 use Rattle.std.specs.List.{Contains}
 use Rattle.sector_disk.specs.Lists.{Content}

@@ -10,7 +10,7 @@ use Rattle.volume_base.specs.Losing.{IsLoss, IsOnlyName}
 use Rattle.volume_base.specs.Standing.{IsSettled}
 use Rattle.volume_names.specs.Unlinking.{LosesLink}
 use Rattle.volume_names.proofs.Buried.{loses_there}
-use Rattle.volume_base.proofs.FoundEntry.{ok_so, ok_true}
+use Rattle.volume_base.proofs.FoundEntry.{ok_so}
 use Rattle.volume_base.proofs.Replaced.{node_large}
 use Rattle.volume_names.proofs.EditsLeft.{left_of_move}
 use Rattle.std.specs.Prelude.{Option, is_some}

@@ -1,4 +1,4 @@
-use Rattle.std.proofs.Common.{◌≡◌, ◌≤◌, ℕ, List, length, sym, ◌∙◌, ap, subst, arith, inl, inr}
+use Rattle.std.proofs.Common.{◌≡◌, ◌≤◌, ℕ, List, length, sym, ◌∙◌, ap, subst, arith, inl}
 use Rattle.std.specs.Prelude.{OnOk, Option, IfSome}
 use Rattle.std.specs.List.{Contains}
 use Rattle.sector_disk.specs.Lists.{Content}
@@ -15,7 +15,7 @@ use Rattle.volume_names.specs.Unlinking.{LosesLink}
 use Rattle.volume_base.specs.declared.entries.Entry.{Entry}
 use Rattle.volume_base.proofs.Besides.{blocks_both, blocks_edit}
 use Rattle.volume_base.proofs.Commanding.{touches_both, touches_looks}
-use Rattle.volume_base.proofs.FoundEntry.{settled_threads, ok_so}
+use Rattle.volume_base.proofs.FoundEntry.{settled_threads}
 use Rattle.volume_base.proofs.RoomToRemove.{remove_room_still}
 use Rattle.volume_base.proofs.Still.{lists_still, own_still, settled_still}
 use Rattle.volume_names.proofs.LossLoads.{none_still, shared_still}
