@@ -1,6 +1,6 @@
 -- The file that a path stands for by the records is the one that it stands for on the tree; and what `rm` answers.
-use Rattle.std.proofs.Common.{◌≡◌, ℕ, ◌+◌, ◌/◌, Bool, true, false, List, [], ◌∷◌, ◌++◌, length, refl, sym, ◌∙◌, ap, subst, arith}
-use Rattle.std.specs.Prelude.{◌==◌, ◌||◌, IsTrue, Option, Some, None, Result, Ok, Err, if◌then◌else◌}
+use Rattle.std.proofs.Common.{◌≡◌, ℕ, Bool, true, false, List, [], ◌∷◌, ◌++◌, length, refl, sym, ◌∙◌, ap, subst, arith}
+use Rattle.std.specs.Prelude.{◌==◌, ◌||◌, Option, Some, None, Result, Ok, Err, if◌then◌else◌}
 use Rattle.std.specs.Option.{ok_or, option_map}
 use Rattle.std.specs.Str.{bytes_eq}
 use Rattle.std.specs.List.{flat_map}
@@ -26,16 +26,14 @@ use Rattle.hfs_model.specs.declared.plain.PlainTree.{PlainTree}
 use Rattle.hfs_volume.specs.Changes.{AreSorted}
 use Rattle.hfs_model.proofs.Below.{front-last, last_name-last}
 use Rattle.hfs_volume.specs.Books.{SoundHasPlainTree}
-use Rattle.hfs_volume.specs.Content.{TreeFacts, VolumeState, overflow_in_volume, records_of, volume_of}
-use Rattle.hfs_volume.specs.Cost.{catalog_key, tree_load}
+use Rattle.hfs_volume.specs.Content.{VolumeState, overflow_in_volume, records_of, volume_of}
 use Rattle.hfs_volume.specs.Records.{Placed, is_empty, is_file, is_link, is_link_type, placed_in, record_at}
 use Rattle.hfs_volume.specs.Sound.{IsSoundVolume}
 use Rattle.hfs_volume.specs.TreeOf.{seen_entry, tree_of}
-use Rattle.hfs_volume.specs.Weight.{cost_of_tree}
 use Rattle.hfs_volume.proofs.Flat.{found_some}
 use Rattle.volume_base.specs.Lists.{lists_of}
 use Rattle.volume_base.specs.Looking.{ReadsVolume}
-use Rattle.volume_base.specs.Losing.{HasRoomToLose, IsLoss, IsOnlyName, lose_load, losing_in, losing_under, place_of, to_lose}
+use Rattle.volume_base.specs.Losing.{HasRoomToLose, IsLoss, IsOnlyName, losing_in, losing_under, place_of, to_lose}
 use Rattle.volume_base.specs.Reaching.{child_in, folder_in, folder_reached, named, walk_in}
 use Rattle.volume_base.specs.Standing.{HoldsTrees, IsSettled}
 use Rattle.volume_base.specs.declared.reaching.Reached.{Reached}
@@ -49,7 +47,6 @@ use Rattle.volume_base.proofs.Rising.{settled_is_plain, settled_sorted}
 use Rattle.volume_base.proofs.Routed.{child_is}
 use Rattle.volume_base.proofs.Sited.{fits_name, some_name}
 use Rattle.volume_base.proofs.Siting.{front_fits, front_free, front_tree, front_walk}
-use Rattle.volume_base.proofs.Still.{lists_still}
 use Rattle.volume_base.proofs.Walked.{Agree, IsReached, path_same}
 
 -- the same reason, or the file in its folder
@@ -271,12 +268,6 @@ module _ (pairs : List Pair) (above : List (List ℕ)) (name : List ℕ) (at : L
       by : (r : Result ℕ Refusal) → then_ r (λ id. then_ (named (value_at pairs id name)) (to_lose id)) ≡ Ok at → NamesLink (place_of at name) pairs
       by (Err why) same = absurd (cc same)
       by (Ok id) same = link_record id (record_at (placed_in pairs) id name) refl same linked
-
--- ---- what is spent
-
-pub lose_load_still : (v w : Volume) (a b : Space) → ReadsVolume v w a b → IsTrue a.tells → lose_load w ≡ lose_load v
-lose_load_still v w a b reads tells =
-    ap (λ (f : TreeFacts). tree_load catalog_key (cost_of_tree f 0) 3 0 + f.shape.node_size / 512 + f.shape.node_size / 512 + (1 + tree_load catalog_key (cost_of_tree f 0) 2 0)) (ap (λ (l : VolumeState). l.catalog_tree) (lists_still v w a b reads tells))
 
 -- the CNID that was told of a path is that of what it reaches
 pub id_told : (tree : PlainTree) (path : List (List ℕ)) (at : PlainEntry) (n : PlainNode) → reached tree path ≡ Ok at → to_node tree path ≡ Ok n → at.id ≡ n.id

@@ -1,5 +1,5 @@
 -- `rm` of an only name: what is removed, and what putting the file aside does to a volume.
-use Rattle.std.specs.Prelude.{◌≡◌, ℕ, ◌+◌, true, false, List, Option, None, Some, Result, Ok, Err}
+use Rattle.std.specs.Prelude.{◌≡◌, ℕ, true, false, List, Option, None, Some, Result, Ok, Err}
 use Rattle.sector_disk.specs.Space.{Space}
 use Rattle.btree_node.specs.Levels.{Pair}
 use Rattle.catalog.specs.Pairs.{value_at}
@@ -11,9 +11,7 @@ use Rattle.hfs_model.specs.Step.{front, is_private_path, is_root, last_name, rea
 use Rattle.hfs_model.specs.declared.plain.PlainEntry.{PlainEntry}
 use Rattle.hfs_model.specs.declared.plain.PlainTree.{PlainTree}
 use Rattle.hfs_volume.specs.Records.{is_empty, is_link, is_link_type}
-use Rattle.volume_base.specs.Changing.{catalog_node}
-use Rattle.volume_base.specs.Making.{HasRoomToMake, entry_load}
-use Rattle.volume_base.specs.Moving.{leave_load}
+use Rattle.volume_base.specs.Making.{HasRoomToMake}
 use Rattle.volume_base.specs.Reaching.{folder_in, named}
 use Rattle.volume_base.specs.Removing.{HasRoomToRemove}
 use Rattle.volume_base.specs.declared.losing.Losing.{Losing}
@@ -61,16 +59,13 @@ pub record IsOnlyName (place : EntryAt) (pairs : List Pair) : Type 0 where
   pub not_link : is_link names.entry ≡ false
 
 -- ---- the weight
+
 -- the edits by which a file loses its only name; where there is no private folder, it is made before
 abbrev pub lose_edits : Option ℕ → Edits
 lose_edits None = record { ids = 1; catalog = 5; attributes = 0; updates = 4 }
 lose_edits (Some private) = record { ids = 0; catalog = 3; attributes = 0; updates = 4 }
 
 -- ---- the room
--- the sectors that are put at most where a file loses a name, and there is a private folder: those of a move and of two folders' nodes, or the
--- header's and those of a link's removal
-abbrev pub lose_load : Volume → ℕ
-lose_load volume = leave_load volume + catalog_node volume + (1 + entry_load volume)
 
 -- There is room to remove a link, and where there is no private folder, room to make it.
 pub record HasRoomToLose (volume : Volume) (space : Space) : Type 0 where

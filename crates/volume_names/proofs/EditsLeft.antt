@@ -15,8 +15,8 @@ use Rattle.btree_edit.specs.Editing.{edit_writes}
 use Rattle.btree_edit.specs.Edits.{EditRoom, TakesAtMost, TakesEdits, tops}
 use Rattle.btree_edit.specs.LevelEdit.{node_room}
 use Rattle.btree_edit.proofs.EditLaws.{deep_first, deep_then, room_first}
-use Rattle.catalog.specs.Rooms.{TakesUpdates}
-use Rattle.catalog.proofs.RoomLaws.{edits_are}
+use Rattle.catalog.specs.Rooms.{TakesUpdates, UpdatesAtMost}
+use Rattle.catalog.proofs.RoomLaws.{edits_are, most_edits}
 use Rattle.btree_file.specs.FrameLaws.{follows_none, state_well_formed}
 use Rattle.btree_file.specs.Place.{sectors_at}
 use Rattle.btree_file.specs.State.{node_in, nodes_on, sectors_of_tree, state_of}
@@ -84,6 +84,21 @@ unfolding unwritten_sectors
 sectors_are s t it = it
 
 module _ (v w : TreeFile) (a b : Space) where
+  -- the sectors beside edits are left, whether or not these were all made
+  pub spare_then : (first one others beside rest : ℕ) → 4096 ≤ v.shape.node_size → IsTrue a.tells → UpdatesAtMost first one 516 (state_of [] v a) (state_of [] w b) → one * (v.shape.node_size / 512) + rest ≤ beside
+      → Leaves (first + others) beside v a → rest ≤ b.spare
+  spare_then first one others beside rest large tells takes fits had =
+      let room = had.1 in
+      let deepest = room.deepest in
+      let costs = takes tells deepest (deep_first first others 516 deepest (state_of [] v a) room.deep) in
+      let old = (state_of [] v a).unwritten in
+      let new = (state_of [] w b).unwritten in
+      let per_is : w.shape.node_size / 512 ≡ v.shape.node_size / 512 = ap (λ n. n / 512) costs.same.node_size in
+      let left : a.spare + new * (v.shape.node_size / 512) ≤ b.spare + old * (v.shape.node_size / 512) =
+      subst (λ per. a.spare + new * per ≤ b.spare + old * (v.shape.node_size / 512)) per_is (sectors_are (state_of [] v a) (state_of [] w b) costs.sectors) in
+      (left_behind (v.shape.node_size / 512) ((first + others) * edit_writes deepest) (first * edit_writes deepest) (others * edit_writes deepest) one old new (old - new) a.spare b.spare beside rest
+      (omega (arith, large)) (omega arith) (omega (arith, costs.fewer)) (omega (arith, costs.some)) left fits had.0 room.writes).0
+
   pub left_then : (first one others beside rest : ℕ) → 4096 ≤ v.shape.node_size → IsTrue a.tells → TakesUpdates first one 516 (state_of [] v a) (state_of [] w b) → one * (v.shape.node_size / 512) + rest ≤ beside
       → Leaves (first + others) beside v a → Leaves others rest w b
   left_then first one others beside rest large tells takes fits had =
@@ -202,6 +217,14 @@ left_added law v w a m b edits beside large same later spent takes load = record
       (left_of_load law (2 + edits) beside v m large told (load.records tells) (load.shallow tells) (load.grown tells) (omega (arith, load.load tells, spent)));
 }
 
+-- the same where they needn't both be made
+pub spare_added : EditsHaveRoom → (v w : Volume) (a m b : Space) (edits beside : ℕ) → 4096 ≤ v.catalog.file.shape.node_size → m.tells ≡ a.tells → a.spare ≤ m.spare + 1 → TakesAtMost 2 516 (state_of [] v.catalog.file m) (state_of [] w.catalog.file b)
+    → HasLoadFor (2 + edits) (1 + beside) v a → IsTrue a.tells → beside ≤ b.spare
+spare_added law v w a m b edits beside large same spent takes load tells =
+    let told : IsTrue m.tells = same ∙ tells in
+    spare_then v.catalog.file w.catalog.file m b 2 0 edits beside beside large told (most_edits 2 516 (state_of [] v.catalog.file m) (state_of [] w.catalog.file b) takes) (omega arith)
+    (left_of_load law (2 + edits) beside v m large told (load.records tells) (load.shallow tells) (load.grown tells) (omega (arith, load.load tells, spent)))
+
 -- a load that counts them is room for them
 pub left_now : EditsHaveRoom → (edits beside : ℕ) (v : Volume) (a : Space) → (IsTrue a.tells → 4096 ≤ v.catalog.file.shape.node_size) → HasLoadFor edits beside v a → HasEditsLeft edits beside v a
 left_now law edits beside v a large load = record { told = λ tells. left_of_load law edits beside v a (large tells) tells (load.records tells) (load.shallow tells) (load.grown tells) (load.load tells) }
@@ -294,6 +317,12 @@ left_edited first others beside v w a b large same takes had = record {
       let tells : IsTrue a.tells = sym same ∙ tells_now in
       left_then v.catalog.file w.catalog.file a b first 0 others beside beside (large tells) tells (edits_are first 516 (state_of [] v.catalog.file a) (state_of [] w.catalog.file b) takes) (omega arith) (had.told tells);
 }
+
+-- the same of edits that needn't all be made: a fault too leaves the sectors beside them
+pub spare_edited : (first others beside : ℕ) (v w : Volume) (a b : Space) → (IsTrue a.tells → 4096 ≤ v.catalog.file.shape.node_size) → TakesAtMost first 516 (state_of [] v.catalog.file a) (state_of [] w.catalog.file b)
+    → HasEditsLeft (first + others) beside v a → IsTrue a.tells → beside ≤ b.spare
+spare_edited first others beside v w a b large takes had tells =
+    spare_then v.catalog.file w.catalog.file a b first 0 others beside beside (large tells) tells (most_edits first 516 (state_of [] v.catalog.file a) (state_of [] w.catalog.file b) takes) (omega arith) (had.told tells)
 
 pub updates_left : (many : ℕ) (v w : Volume) (b : Space) → catalog_node w ≡ catalog_node v → HasEditsLeft 0 (many * catalog_node v) w b → HasRoomToUpdates many w b
 updates_left many v w b same had = record { told = λ tells. subst (λ n. many * n ≤ b.spare) (sym same) (had.told tells).0 }

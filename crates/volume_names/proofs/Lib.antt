@@ -19,6 +19,7 @@ pub mod LossLoads
 pub mod LossWeight
 pub mod LinkLost
 pub mod LinkMade
+pub mod LinkWeight
 pub mod Made
 pub mod MarkLoads
 pub mod Mounted

@@ -19,7 +19,7 @@ use Rattle.volume_base.proofs.FoundEntry.{node_still}
 use Rattle.volume_base.proofs.MakeRoom.{third_low}
 use Rattle.volume_base.proofs.Still.{lists_still}
 use Rattle.volume_names.specs.EditsLeft.{HasLoadFor}
-use Rattle.volume_names.specs.LossLoads.{SpendsFor, SpendsLoss, SpendsShared}
+use Rattle.volume_names.specs.LossLoads.{NoneOr, SpendsFor, SpendsLoss, SpendsShared}
 
 -- what five edits leave beside them and the header's sector
 abbrev pub rest_last : Volume → Space → ℕ
@@ -43,7 +43,21 @@ rest_aside v a = a.spare - (1 + catalog_node v + tree_load catalog_key (catalog_
 pub load_aside : (v : Volume) (a : Space) → HasLoadFor 5 (1 + (catalog_node v + 2 * catalog_node v)) v a → HasLoadFor 5 (1 + (catalog_node v + rest_aside v a)) v a
 load_aside v a load = record { shallow = load.shallow; records = load.records; grown = load.grown; load = λ tells. omega (arith, load.load tells) }
 
+-- ---- where nothing may have been put
+
+pub none_so : (A B : Type 0) (before after : Space) → NoneOr A before after → (A → B) → NoneOr B before after
+none_so A B before after it so = elim it [
+  | inl none ↦ inl none
+  | inr spends ↦ inr (so spends)
+]
+
 -- ---- behind reads
+
+pub none_still : (A B : Type 0) (v w : Volume) (a b c : Space) → ReadsVolume v w a b → NoneOr A b c → (A → B) → NoneOr B a c
+none_still A B v w a b c reads it so = elim it [
+  | inl none ↦ inl (omega (arith, none, reads.looks.spare))
+  | inr spends ↦ inr (so spends)
+]
 
 pub spends_for_still : (edits : ℕ) (v w : Volume) (a b c : Space) → ReadsVolume v w a b → IsTrue a.tells → SpendsFor edits w b c → SpendsFor edits v a c
 spends_for_still edits v w a b c reads tells it =

@@ -15,6 +15,10 @@ pub record SpendsFor (edits : ℕ) (volume : Volume) (before after : Space) : Ty
   pub grown : growth volume.header.block_size catalog_key (catalog_cost volume) edits ≡ 0
   pub spent : before.spare ≤ after.spare + (1 + 4 * catalog_node volume + tree_load catalog_key (catalog_cost volume) edits 0)
 
+-- no sector was put, or what is told of those that were
+abbrev pub NoneOr : Type 0 → Space → Space → Type 0
+NoneOr spends before after = (before.spare ≤ after.spare) ⊎ spends
+
 -- a file lost its only name, where the private folder is there, or where it was made before
 abbrev pub SpendsName : Volume → Space → Space → Type 0
 SpendsName volume before after = ((is_some volume.private ≡ true) × SpendsFor 3 volume before after) ⊎ ((volume.private ≡ None) × SpendsFor 5 volume before after)

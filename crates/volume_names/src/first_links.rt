@@ -12,7 +12,7 @@ ghost use Rattle.hfs_volume.specs.Links.{node_name};
 ghost use Rattle.hfs_volume.specs.Naming.{LinksFirst};
 ghost use Rattle.hfs_volume.specs.Records.{placed_in, record_at};
 ghost use Rattle.hfs_volume.specs.TreeOf.{tree_of};
-ghost use Rattle.volume_names.specs.LinkLoads.{SpendsLink, SpendsOn};
+ghost use Rattle.volume_names.specs.LinkLoads.{PutsItsLoad};
 ghost use Rattle.volume_base.specs.Changing.{KeepsBlocks, catalog_node};
 ghost use Rattle.volume_base.specs.Linking.{IsLinking};
 ghost use Rattle.volume_names.specs.Linking.{LinksAnew};
@@ -72,8 +72,8 @@ fn link_under<P: SectorSpace>(
         × LinksFirst at (free_place way.now.folder name.now) (volume_of (P.SectorView.space space.old).content) (volume_of (P.SectorView.space space.new).content)) }
     ensures blocks { KeepsBlocks volume.old volume.new }
     ensures touches { (committed : Content) → Touches committed (λ s. Contains (own_sectors volume.old) s) (P.SectorView.space space.old) (P.SectorView.space space.new) }
-    // Sectors that its edits have room beside are left, but for those of three updates.
-    ensures leaves { IsTrue (P.SectorView.space space.old).tells → (beside : ℕ) → HasEditsLeft 7 (to_put_header (P.SectorView.space space.old) + beside) volume.old (P.SectorView.space space.old) → OnOk result (beside ≤ (P.SectorView.space space.new).spare + 3 * catalog_node volume.old) }
+    // Sectors that its edits have room beside are left, on a fault too, but for those of three updates.
+    ensures leaves { IsTrue (P.SectorView.space space.old).tells → (beside : ℕ) → HasEditsLeft 7 (to_put_header (P.SectorView.space space.old) + beside) volume.old (P.SectorView.space space.old) → beside ≤ (P.SectorView.space space.new).spare + 3 * catalog_node volume.old }
     ensures below { P.SectorView.follows space.old space.new }
     ensures cause { HasTroubleCause (P.SectorView.space space.old).faults (P.SectorView.space space.new).faults result }
 {
@@ -116,8 +116,8 @@ fn link_ready<P: SectorSpace>(
         × LinksFirst at (free_place way.now.folder name.now) (volume_of (P.SectorView.space space.old).content) (volume_of (P.SectorView.space space.new).content)) }
     ensures blocks { KeepsBlocks volume.old volume.new }
     ensures touches { (committed : Content) → Touches committed (λ s. Contains (own_sectors volume.old) s) (P.SectorView.space space.old) (P.SectorView.space space.new) }
-    // Sectors that its edits have room beside are left, but for those of three updates.
-    ensures leaves { IsTrue (P.SectorView.space space.old).tells → (beside : ℕ) → HasEditsLeft 7 (to_put_header (P.SectorView.space space.old) + beside) volume.old (P.SectorView.space space.old) → OnOk result (beside ≤ (P.SectorView.space space.new).spare + 3 * catalog_node volume.old) }
+    // Sectors that its edits have room beside are left, on a fault too, but for those of three updates.
+    ensures leaves { IsTrue (P.SectorView.space space.old).tells → (beside : ℕ) → HasEditsLeft 7 (to_put_header (P.SectorView.space space.old) + beside) volume.old (P.SectorView.space space.old) → beside ≤ (P.SectorView.space space.new).spare + 3 * catalog_node volume.old }
     ensures below { P.SectorView.follows space.old space.new }
     ensures cause { HasTroubleCause (P.SectorView.space space.old).faults (P.SectorView.space space.new).faults result }
 {
@@ -164,7 +164,9 @@ fn link_first<P: SectorSpace>(
         × LinksFirst at (free_place way.now.folder name.now) (volume_of (P.SectorView.space space.old).content) (volume_of (P.SectorView.space space.new).content)) }
     ensures blocks { KeepsBlocks volume.old volume.new }
     ensures touches { (committed : Content) → Touches committed (λ s. Contains (own_sectors volume.old) s) (P.SectorView.space space.old) (P.SectorView.space space.new) }
-    ensures spends { IsTrue (P.SectorView.space space.old).tells → OnOk result (SpendsOn 7 2 volume.old (P.SectorView.space space.old) (P.SectorView.space space.new)) }
+    // On a fault too, it puts no more sectors than its load names.
+    ensures loads { IsTrue (P.SectorView.space space.old).tells → (from to : List (List ℕ)) (at : PlainEntry) → IsLinking (tree_of (P.SectorView.space space.old).content) from to at way.now.parent old.now way.now.id way.now.folder name.now
+        → PutsItsLoad (command.Ln from to) volume.old (P.SectorView.space space.old) (P.SectorView.space space.new) }
     ensures below { P.SectorView.follows space.old space.new }
     ensures cause { HasTroubleCause (P.SectorView.space space.old).faults (P.SectorView.space space.new).faults result }
 {
@@ -203,8 +205,8 @@ fn link_dated<P: SectorSpace>(
         × LinksFirst at (free_place way.now.folder name.now) (volume_of (P.SectorView.space space.old).content) (volume_of (P.SectorView.space space.new).content)) }
     ensures blocks { KeepsBlocks volume.old volume.new }
     ensures touches { (committed : Content) → Touches committed (λ s. Contains (own_sectors volume.old) s) (P.SectorView.space space.old) (P.SectorView.space space.new) }
-    // Sectors that its edits have room beside are left, but for those of three updates.
-    ensures leaves { IsTrue (P.SectorView.space space.old).tells → (beside : ℕ) → HasEditsLeft 7 (to_put_header (P.SectorView.space space.old) + beside) volume.old (P.SectorView.space space.old) → OnOk result (beside ≤ (P.SectorView.space space.new).spare + 3 * catalog_node volume.old) }
+    // Sectors that its edits have room beside are left, on a fault too, but for those of three updates.
+    ensures leaves { IsTrue (P.SectorView.space space.old).tells → (beside : ℕ) → HasEditsLeft 7 (to_put_header (P.SectorView.space space.old) + beside) volume.old (P.SectorView.space space.old) → beside ≤ (P.SectorView.space space.new).spare + 3 * catalog_node volume.old }
     ensures below { P.SectorView.follows space.old space.new }
     ensures cause { HasTroubleCause (P.SectorView.space space.old).faults (P.SectorView.space space.new).faults result }
 {
@@ -239,7 +241,9 @@ fn link_anew<P: SectorSpace>(
         × LinksAnew at (free_place way.now.folder name.now) (P.SectorView.space space.old).content (P.SectorView.space space.new).content) }
     ensures blocks { KeepsBlocks volume.old volume.new }
     ensures touches { (committed : Content) → Touches committed (λ s. Contains (own_sectors volume.old) s) (P.SectorView.space space.old) (P.SectorView.space space.new) }
-    ensures spends { IsTrue (P.SectorView.space space.old).tells → OnOk result (SpendsOn 9 3 volume.old (P.SectorView.space space.old) (P.SectorView.space space.new)) }
+    // On a fault too, it puts no more sectors than its load names.
+    ensures loads { IsTrue (P.SectorView.space space.old).tells → (from to : List (List ℕ)) (at : PlainEntry) → IsLinking (tree_of (P.SectorView.space space.old).content) from to at way.now.parent old.now way.now.id way.now.folder name.now
+        → PutsItsLoad (command.Ln from to) volume.old (P.SectorView.space space.old) (P.SectorView.space space.new) }
     ensures below { P.SectorView.follows space.old space.new }
     ensures cause { HasTroubleCause (P.SectorView.space space.old).faults (P.SectorView.space space.new).faults result }
 {
@@ -282,7 +286,9 @@ pub(crate) fn link_own<P: SectorSpace>(
         × LinksAnew at (free_place way.now.folder name.now) (P.SectorView.space space.old).content (P.SectorView.space space.new).content) }
     ensures blocks { KeepsBlocks volume.old volume.new }
     ensures touches { (committed : Content) → Touches committed (λ s. Contains (own_sectors volume.old) s) (P.SectorView.space space.old) (P.SectorView.space space.new) }
-    ensures spends { IsTrue (P.SectorView.space space.old).tells → OnOk result (SpendsLink volume.old (P.SectorView.space space.old) (P.SectorView.space space.new)) }
+    // On a fault too, it puts no more sectors than its load names.
+    ensures loads { IsTrue (P.SectorView.space space.old).tells → (from to : List (List ℕ)) (at : PlainEntry) → IsLinking (tree_of (P.SectorView.space space.old).content) from to at way.now.parent old.now way.now.id way.now.folder name.now
+        → PutsItsLoad (command.Ln from to) volume.old (P.SectorView.space space.old) (P.SectorView.space space.new) }
     ensures below { P.SectorView.follows space.old space.new }
     ensures cause { HasTroubleCause (P.SectorView.space space.old).faults (P.SectorView.space space.new).faults result }
 {

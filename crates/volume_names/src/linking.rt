@@ -17,7 +17,7 @@ ghost use Rattle.hfs_model.specs.declared.plain.PlainEntry.{PlainEntry};
 ghost use Rattle.hfs_volume.specs.Entries.{AreThreaded};
 ghost use Rattle.hfs_volume.specs.Records.{id_in, is_thread, placed_in, record_at};
 ghost use Rattle.hfs_volume.specs.TreeOf.{tree_of};
-ghost use Rattle.volume_names.specs.LinkLoads.{PutsItsLoad, SpendsLink, SpendsOn};
+ghost use Rattle.volume_names.specs.LinkLoads.{PutsItsLoad};
 ghost use Rattle.volume_base.specs.Changing.{HasRoomToUpdate, KeepsBlocks, catalog_node};
 ghost use Rattle.volume_names.specs.Linking.{AddsName, CountsUp, HasLinked, LinksAgain, LinksName};
 ghost use Rattle.volume_base.specs.Linking.{IsLinkTo, IsLinking, name_record};
@@ -309,7 +309,9 @@ fn link_again<P: SectorSpace>(
         × LinksAgain at (free_place way.now.folder name.now) (P.SectorView.space space.old).content (P.SectorView.space space.new).content) }
     ensures blocks { KeepsBlocks volume.old volume.new }
     ensures touches { (committed : Content) → Touches committed (λ s. Contains (own_sectors volume.old) s) (P.SectorView.space space.old) (P.SectorView.space space.new) }
-    ensures spends { IsTrue (P.SectorView.space space.old).tells → OnOk result (SpendsOn 2 1 volume.old (P.SectorView.space space.old) (P.SectorView.space space.new)) }
+    // On a fault too, it puts no more sectors than its load names.
+    ensures loads { IsTrue (P.SectorView.space space.old).tells → (from to : List (List ℕ)) (at : PlainEntry) → IsLinking (tree_of (P.SectorView.space space.old).content) from to at way.now.parent old.now way.now.id way.now.folder name.now
+        → PutsItsLoad (command.Ln from to) volume.old (P.SectorView.space space.old) (P.SectorView.space space.new) }
     ensures below { P.SectorView.follows space.old space.new }
     ensures cause { HasTroubleCause (P.SectorView.space space.old).faults (P.SectorView.space space.new).faults result }
 {
@@ -352,7 +354,9 @@ fn link_named<P: SectorSpace>(
         × LinksName at (free_place way.now.folder name.now) (P.SectorView.space space.old).content (P.SectorView.space space.new).content) }
     ensures blocks { KeepsBlocks volume.old volume.new }
     ensures touches { (committed : Content) → Touches committed (λ s. Contains (own_sectors volume.old) s) (P.SectorView.space space.old) (P.SectorView.space space.new) }
-    ensures spends { IsTrue (P.SectorView.space space.old).tells → OnOk result (SpendsLink volume.old (P.SectorView.space space.old) (P.SectorView.space space.new)) }
+    // On a fault too, it puts no more sectors than its load names.
+    ensures loads { IsTrue (P.SectorView.space space.old).tells → (from to : List (List ℕ)) (at : PlainEntry) → IsLinking (tree_of (P.SectorView.space space.old).content) from to at way.now.parent old.now way.now.id way.now.folder name.now
+        → PutsItsLoad (command.Ln from to) volume.old (P.SectorView.space space.old) (P.SectorView.space space.new) }
     ensures below { P.SectorView.follows space.old space.new }
     ensures cause { HasTroubleCause (P.SectorView.space space.old).faults (P.SectorView.space space.new).faults result }
 {
@@ -389,7 +393,9 @@ fn link_way<P: SectorSpace>(
         × LinksName at (free_place way.now.folder name.now) (P.SectorView.space space.old).content (P.SectorView.space space.new).content) }
     ensures blocks { KeepsBlocks volume.old volume.new }
     ensures touches { (committed : Content) → Touches committed (λ s. Contains (own_sectors volume.old) s) (P.SectorView.space space.old) (P.SectorView.space space.new) }
-    ensures spends { IsTrue (P.SectorView.space space.old).tells → OnOk result (SpendsLink volume.old (P.SectorView.space space.old) (P.SectorView.space space.new)) }
+    // On a fault too, it puts no more sectors than its load names.
+    ensures loads { IsTrue (P.SectorView.space space.old).tells → (from to : List (List ℕ)) (at : PlainEntry) → IsLinking (tree_of (P.SectorView.space space.old).content) from to at way.now.parent old.now way.now.id way.now.folder name.now
+        → PutsItsLoad (command.Ln from to) volume.old (P.SectorView.space space.old) (P.SectorView.space space.new) }
     ensures below { P.SectorView.follows space.old space.new }
     ensures cause { HasTroubleCause (P.SectorView.space space.old).faults (P.SectorView.space space.new).faults result }
 {
@@ -426,7 +432,7 @@ fn ln_under<P: SectorSpace>(
     ensures service { IsInService volume.new (P.SectorView.space space.new) }
     ensures blocks { KeepsBlocks volume.old volume.new }
     ensures touches { (committed : Content) → Touches committed (λ s. Contains (own_sectors volume.old) s) (P.SectorView.space space.old) (P.SectorView.space space.new) }
-    ensures loads { IsTrue (P.SectorView.space space.old).tells → OnOk result (PutsItsLoad (command.Ln from.now to.now) volume.old (P.SectorView.space space.old) (P.SectorView.space space.new)) }
+    ensures loads { IsTrue (P.SectorView.space space.old).tells → PutsItsLoad (command.Ln from.now to.now) volume.old (P.SectorView.space space.old) (P.SectorView.space space.new) }
     ensures below { P.SectorView.follows space.old space.new }
     ensures cause { HasTroubleCause (P.SectorView.space space.old).faults (P.SectorView.space space.new).faults result }
 {
@@ -463,7 +469,7 @@ fn ln_fine<P: SectorSpace>(
     ensures service { IsInService volume.new (P.SectorView.space space.new) }
     ensures blocks { KeepsBlocks volume.old volume.new }
     ensures touches { (committed : Content) → Touches committed (λ s. Contains (own_sectors volume.old) s) (P.SectorView.space space.old) (P.SectorView.space space.new) }
-    ensures loads { IsTrue (P.SectorView.space space.old).tells → OnOk result (PutsItsLoad (command.Ln from.now to.now) volume.old (P.SectorView.space space.old) (P.SectorView.space space.new)) }
+    ensures loads { IsTrue (P.SectorView.space space.old).tells → PutsItsLoad (command.Ln from.now to.now) volume.old (P.SectorView.space space.old) (P.SectorView.space space.new) }
     ensures below { P.SectorView.follows space.old space.new }
     ensures cause { HasTroubleCause (P.SectorView.space space.old).faults (P.SectorView.space space.new).faults result }
 {
@@ -509,8 +515,8 @@ pub fn ln<P: SectorSpace>(
     ensures blocks { KeepsBlocks volume.old volume.new }
     // On a fault too, it puts sectors of its own alone, whatever was committed last.
     ensures touches { (committed : Content) → Touches committed (λ s. Contains (own_sectors volume.old) s) (P.SectorView.space space.old) (P.SectorView.space space.new) }
-    // Answered, it put no more sectors than its load names.
-    ensures loads { IsTrue (P.SectorView.space space.old).tells → OnOk result (PutsItsLoad (command.Ln from.now to.now) volume.old (P.SectorView.space space.old) (P.SectorView.space space.new)) }
+    // On a fault too, it puts no more sectors than its load names.
+    ensures loads { IsTrue (P.SectorView.space space.old).tells → PutsItsLoad (command.Ln from.now to.now) volume.old (P.SectorView.space space.old) (P.SectorView.space space.new) }
     ensures below { P.SectorView.follows space.old space.new }
     ensures cause { HasTroubleCause (P.SectorView.space space.old).faults (P.SectorView.space space.new).faults result }
 {

@@ -22,7 +22,7 @@ ghost use Rattle.volume_base.specs.Making.{HasRoomToMake, path_to};
 ghost use Rattle.volume_base.specs.Moving.{leave_load};
 ghost use Rattle.volume_names.specs.EditsLeft.{HasEditsLeft};
 ghost use Rattle.volume_names.specs.LinkLoads.{PutsItsLoad};
-ghost use Rattle.volume_names.specs.LossLoads.{SpendsFor, SpendsLoss, SpendsShared};
+ghost use Rattle.volume_names.specs.LossLoads.{NoneOr, SpendsFor, SpendsLoss, SpendsShared};
 ghost use Rattle.volume_base.specs.Removing.{HasRoomToRemove};
 ghost use Rattle.volume_base.specs.Service.{IsInService};
 ghost use Rattle.volume_base.specs.Standing.{IsSettled, StandsOver, own_sectors};
@@ -170,8 +170,8 @@ fn hide<P: SectorSpace>(
     // There is room to update the folder that it was in.
     ensures room { OnOk result (HasRoomToUpdate volume.new (P.SectorView.space space.new)) }
     ensures size { OnOk result ((numbers_of volume.new.catalog.file).node_size ≡ (numbers_of volume.old.catalog.file).node_size) }
-    // Sectors that its edits have room beside are left, but for those of an update.
-    ensures leaves { IsTrue (P.SectorView.space space.old).tells → (beside : ℕ) → HasEditsLeft 3 beside volume.old (P.SectorView.space space.old) → OnOk result (beside ≤ (P.SectorView.space space.new).spare + catalog_node volume.old) }
+    // Sectors that its edits have room beside are left, on a fault too, but for those of an update.
+    ensures leaves { IsTrue (P.SectorView.space space.old).tells → (beside : ℕ) → HasEditsLeft 3 beside volume.old (P.SectorView.space space.old) → beside ≤ (P.SectorView.space space.new).spare + catalog_node volume.old }
     ensures below { P.SectorView.follows space.old space.new }
     ensures cause { HasTroubleCause (P.SectorView.space space.old).faults (P.SectorView.space space.new).faults result }
 {
@@ -206,8 +206,8 @@ fn bury<P: SectorSpace>(
     ensures blocks { KeepsBlocks volume.old volume.new }
     ensures touches { (committed : Content) → Touches committed (λ s. Contains (own_sectors volume.old) s) (P.SectorView.space space.old) (P.SectorView.space space.new) }
     ensures spent { IsTrue (P.SectorView.space space.old).tells → (P.SectorView.space space.old).spare ≤ (P.SectorView.space space.new).spare + (leave_load volume.old + catalog_node volume.old) }
-    // Sectors that its edits have room beside are left, but for those of two updates.
-    ensures leaves { IsTrue (P.SectorView.space space.old).tells → (beside : ℕ) → HasEditsLeft 3 beside volume.old (P.SectorView.space space.old) → OnOk result (beside ≤ (P.SectorView.space space.new).spare + 2 * catalog_node volume.old) }
+    // Sectors that its edits have room beside are left, on a fault too, but for those of two updates.
+    ensures leaves { IsTrue (P.SectorView.space space.old).tells → (beside : ℕ) → HasEditsLeft 3 beside volume.old (P.SectorView.space space.old) → beside ≤ (P.SectorView.space space.new).spare + 2 * catalog_node volume.old }
     ensures below { P.SectorView.follows space.old space.new }
     ensures cause { HasTroubleCause (P.SectorView.space space.old).faults (P.SectorView.space space.new).faults result }
 {
@@ -243,7 +243,7 @@ fn bury_first<P: SectorSpace>(
         × Loses entry (P.SectorView.space space.old).content (P.SectorView.space space.new).content) }
     ensures blocks { KeepsBlocks volume.old volume.new }
     ensures touches { (committed : Content) → Touches committed (λ s. Contains (own_sectors volume.old) s) (P.SectorView.space space.old) (P.SectorView.space space.new) }
-    ensures spends { IsTrue (P.SectorView.space space.old).tells → OnOk result (SpendsFor 5 volume.old (P.SectorView.space space.old) (P.SectorView.space space.new)) }
+    ensures spends { IsTrue (P.SectorView.space space.old).tells → NoneOr (SpendsFor 5 volume.old (P.SectorView.space space.old) (P.SectorView.space space.new)) (P.SectorView.space space.old) (P.SectorView.space space.new) }
     ensures below { P.SectorView.follows space.old space.new }
     ensures cause { HasTroubleCause (P.SectorView.space space.old).faults (P.SectorView.space space.new).faults result }
 {
@@ -284,7 +284,7 @@ fn lose_link<P: SectorSpace>(
         × LosesLink entry (P.SectorView.space space.old).content (P.SectorView.space space.new).content) }
     ensures blocks { KeepsBlocks volume.old volume.new }
     ensures touches { (committed : Content) → Touches committed (λ s. Contains (own_sectors volume.old) s) (P.SectorView.space space.old) (P.SectorView.space space.new) }
-    ensures spends { IsTrue (P.SectorView.space space.old).tells → (entry : PlainEntry) → IsLoss (tree_of (P.SectorView.space space.old).content) path.now entry (place_of at name.now) → OnOk result (SpendsShared entry.id volume.old (P.SectorView.space space.old) (P.SectorView.space space.new)) }
+    ensures spends { IsTrue (P.SectorView.space space.old).tells → (entry : PlainEntry) → IsLoss (tree_of (P.SectorView.space space.old).content) path.now entry (place_of at name.now) → NoneOr (SpendsShared entry.id volume.old (P.SectorView.space space.old) (P.SectorView.space space.new)) (P.SectorView.space space.old) (P.SectorView.space space.new) }
     ensures below { P.SectorView.follows space.old space.new }
     ensures cause { HasTroubleCause (P.SectorView.space space.old).faults (P.SectorView.space space.new).faults result }
 {
@@ -324,7 +324,7 @@ fn lose<P: SectorSpace>(
         × LosesName entry (P.SectorView.space space.old).content (P.SectorView.space space.new).content) }
     ensures blocks { KeepsBlocks volume.old volume.new }
     ensures touches { (committed : Content) → Touches committed (λ s. Contains (own_sectors volume.old) s) (P.SectorView.space space.old) (P.SectorView.space space.new) }
-    ensures spends { IsTrue (P.SectorView.space space.old).tells → (entry : PlainEntry) → IsLoss (tree_of (P.SectorView.space space.old).content) path.now entry (place_of at name.now) → OnOk result (SpendsLoss at.link entry.id volume.old (P.SectorView.space space.old) (P.SectorView.space space.new)) }
+    ensures spends { IsTrue (P.SectorView.space space.old).tells → (entry : PlainEntry) → IsLoss (tree_of (P.SectorView.space space.old).content) path.now entry (place_of at name.now) → NoneOr (SpendsLoss at.link entry.id volume.old (P.SectorView.space space.old) (P.SectorView.space space.new)) (P.SectorView.space space.old) (P.SectorView.space space.new) }
     ensures below { P.SectorView.follows space.old space.new }
     ensures cause { HasTroubleCause (P.SectorView.space space.old).faults (P.SectorView.space space.new).faults result }
 {
@@ -371,7 +371,7 @@ fn rm_under<P: SectorSpace>(
     ensures service { IsInService volume.new (P.SectorView.space space.new) }
     ensures blocks { KeepsBlocks volume.old volume.new }
     ensures touches { (committed : Content) → Touches committed (λ s. Contains (own_sectors volume.old) s) (P.SectorView.space space.old) (P.SectorView.space space.new) }
-    ensures loads { IsTrue (P.SectorView.space space.old).tells → OnOk result (PutsItsLoad (command.Rm (path_to above.now name.now)) volume.old (P.SectorView.space space.old) (P.SectorView.space space.new)) }
+    ensures loads { IsTrue (P.SectorView.space space.old).tells → PutsItsLoad (command.Rm (path_to above.now name.now)) volume.old (P.SectorView.space space.old) (P.SectorView.space space.new) }
     ensures below { P.SectorView.follows space.old space.new }
     ensures cause { HasTroubleCause (P.SectorView.space space.old).faults (P.SectorView.space space.new).faults result }
 {
@@ -414,8 +414,8 @@ pub fn rm<P: SectorSpace>(
     ensures blocks { KeepsBlocks volume.old volume.new }
     // On a fault too, it puts sectors of its own alone, whatever was committed last.
     ensures touches { (committed : Content) → Touches committed (λ s. Contains (own_sectors volume.old) s) (P.SectorView.space space.old) (P.SectorView.space space.new) }
-    // Answered, it put no more sectors than its load names.
-    ensures loads { IsTrue (P.SectorView.space space.old).tells → OnOk result (PutsItsLoad (command.Rm path.now) volume.old (P.SectorView.space space.old) (P.SectorView.space space.new)) }
+    // On a fault too, it puts no more sectors than its load names.
+    ensures loads { IsTrue (P.SectorView.space space.old).tells → PutsItsLoad (command.Rm path.now) volume.old (P.SectorView.space space.old) (P.SectorView.space space.new) }
     ensures below { P.SectorView.follows space.old space.new }
     ensures cause { HasTroubleCause (P.SectorView.space space.old).faults (P.SectorView.space space.new).faults result }
 {

@@ -82,6 +82,8 @@ pub(crate) fn add_new<P: SectorSpace>(
     ensures spent { IsTrue (P.SectorView.space space.old).tells → (P.SectorView.space space.old).spare ≤ (P.SectorView.space space.new).spare + (1 + entry_load volume.old) }
     // Where the load of two edits more has room beside the header's sector and these sectors, the others have room beside these behind it.
     ensures left { (edits beside : ℕ) → HasLoadFor (2 + edits) (1 + beside) volume.old (P.SectorView.space space.old) → OnOk result (HasEditsLeft edits beside volume.new (P.SectorView.space space.new)) }
+    // On a fault too, these sectors are left.
+    ensures beside { (edits beside : ℕ) → HasLoadFor (2 + edits) (1 + beside) volume.old (P.SectorView.space space.old) → IsTrue (P.SectorView.space space.old).tells → beside ≤ (P.SectorView.space space.new).spare }
     ensures below { P.SectorView.follows space.old space.new }
     ensures cause { HasTroubleCause (P.SectorView.space space.old).faults (P.SectorView.space space.new).faults result }
 {

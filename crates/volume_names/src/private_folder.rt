@@ -147,6 +147,8 @@ fn make_private<P: SectorSpace>(
     ensures nodes { IsTrue (P.SectorView.space space.old).tells → OnOk result (catalog_node volume.new ≡ catalog_node volume.old) }
     // Where the load of two edits more has room beside the header's sector, a node and these sectors, the others have room beside these behind it.
     ensures left { (edits beside : ℕ) → HasLoadFor (2 + edits) (1 + (catalog_node volume.old + beside)) volume.old (P.SectorView.space space.old) → OnOk result (HasEditsLeft edits beside volume.new (P.SectorView.space space.new)) }
+    // On a fault too, these sectors are left.
+    ensures beside { (edits beside : ℕ) → HasLoadFor (2 + edits) (1 + (catalog_node volume.old + beside)) volume.old (P.SectorView.space space.old) → IsTrue (P.SectorView.space space.old).tells → beside ≤ (P.SectorView.space space.new).spare }
     ensures below { P.SectorView.follows space.old space.new }
     ensures cause { HasTroubleCause (P.SectorView.space space.old).faults (P.SectorView.space space.new).faults result }
 {
@@ -181,6 +183,8 @@ pub(crate) fn open_private<P: SectorSpace>(
     ensures nodes { IsTrue (P.SectorView.space space.old).tells → OnOk result (catalog_node volume.new ≡ catalog_node volume.old) }
     // Where the load of two edits more has room beside the header's sector, a node and these sectors, the others have room beside these behind it.
     ensures left { (edits beside : ℕ) → HasLoadFor (2 + edits) (1 + (catalog_node volume.old + beside)) volume.old (P.SectorView.space space.old) → OnOk result (HasEditsLeft edits beside volume.new (P.SectorView.space space.new)) }
+    // On a fault too, these sectors are left.
+    ensures beside { (edits beside : ℕ) → HasLoadFor (2 + edits) (1 + (catalog_node volume.old + beside)) volume.old (P.SectorView.space space.old) → IsTrue (P.SectorView.space space.old).tells → beside ≤ (P.SectorView.space space.new).spare }
     ensures below { P.SectorView.follows space.old space.new }
     ensures cause { HasTroubleCause (P.SectorView.space space.old).faults (P.SectorView.space space.new).faults result }
 {

@@ -104,6 +104,8 @@ fn share_file<P: SectorSpace>(
     ensures touches { (committed : Content) → Touches committed (λ s. Contains (own_sectors volume.old) s) (P.SectorView.space space.old) (P.SectorView.space space.new) }
     // The same beside any other sectors.
     ensures leaves { (beside : ℕ) → HasEditsLeft 7 (to_put_header (P.SectorView.space space.old) + beside) volume.old (P.SectorView.space space.old) → OnOk result (HasEditsLeft 4 beside volume.new (P.SectorView.space space.new)) }
+    // On a fault too, the sectors beside the edits are left.
+    ensures beside { (beside : ℕ) → HasEditsLeft 7 (to_put_header (P.SectorView.space space.old) + beside) volume.old (P.SectorView.space space.old) → IsTrue (P.SectorView.space space.old).tells → beside ≤ (P.SectorView.space space.new).spare }
     ensures below { P.SectorView.follows space.old space.new }
     ensures cause { HasTroubleCause (P.SectorView.space space.old).faults (P.SectorView.space space.new).faults result }
 {
@@ -135,6 +137,8 @@ fn put_link<P: SectorSpace>(
     ensures puts { IsTrue (P.SectorView.space space.old).tells → OnOk result (PutsLink folder name.now id number created volume.old volume.new (P.SectorView.space space.old).content (P.SectorView.space space.new).content) }
     // Of room for two edits more, that for the others is left.
     ensures left { (edits beside : ℕ) → HasEditsLeft (2 + edits) beside volume.old (P.SectorView.space space.old) → OnOk result (HasEditsLeft edits beside volume.new (P.SectorView.space space.new)) }
+    // On a fault too, the sectors beside them are left.
+    ensures beside { (edits beside : ℕ) → HasEditsLeft (2 + edits) beside volume.old (P.SectorView.space space.old) → IsTrue (P.SectorView.space space.old).tells → beside ≤ (P.SectorView.space space.new).spare }
     ensures size { OnOk result ((numbers_of volume.new.catalog.file).node_size ≡ (numbers_of volume.old.catalog.file).node_size) }
     ensures own { own_sectors volume.new ≡ own_sectors volume.old }
     ensures blocks { KeepsBlocks volume.old volume.new }
@@ -214,6 +218,8 @@ pub(crate) fn share<P: SectorSpace>(
     ensures touches { (committed : Content) → Touches committed (λ s. Contains (own_sectors volume.old) s) (P.SectorView.space space.old) (P.SectorView.space space.new) }
     // What other puts need beside its edits is left.
     ensures leaves { (beside : ℕ) → HasEditsLeft 7 (to_put_header (P.SectorView.space space.old) + beside) volume.old (P.SectorView.space space.old) → OnOk result (HasEditsLeft 0 beside volume.new (P.SectorView.space space.new)) }
+    // On a fault too, the sectors beside the edits are left.
+    ensures beside { (beside : ℕ) → HasEditsLeft 7 (to_put_header (P.SectorView.space space.old) + beside) volume.old (P.SectorView.space space.old) → IsTrue (P.SectorView.space space.old).tells → beside ≤ (P.SectorView.space space.new).spare }
     ensures size { OnOk result ((numbers_of volume.new.catalog.file).node_size ≡ (numbers_of volume.old.catalog.file).node_size) }
     ensures below { P.SectorView.follows space.old space.new }
     ensures cause { HasTroubleCause (P.SectorView.space space.old).faults (P.SectorView.space space.new).faults result }

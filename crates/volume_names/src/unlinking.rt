@@ -22,7 +22,7 @@ ghost use Rattle.volume_names.specs.Linking.{CountsUp};
 ghost use Rattle.volume_base.specs.Lists.{lists_of};
 ghost use Rattle.volume_base.specs.Losing.{IsLoss};
 ghost use Rattle.volume_names.specs.EditsLeft.{HasEditsLeft, HasLoadFor};
-ghost use Rattle.volume_names.specs.LossLoads.{SpendsFor, SpendsShared};
+ghost use Rattle.volume_names.specs.LossLoads.{NoneOr, SpendsFor, SpendsShared};
 ghost use Rattle.volume_base.specs.Making.{entry_load};
 ghost use Rattle.volume_base.specs.Removing.{HasRoomToRemove};
 ghost use Rattle.volume_base.specs.Service.{IsInService};
@@ -106,6 +106,8 @@ fn drop_name<P: SectorSpace>(
     ensures more { HasRoomToUnlinkLast volume.old (P.SectorView.space space.old) → OnOk result ((names : List ℕ) → IsTrue (P.SectorView.space space.new).tells → EditRoom 3 516 (state_of names volume.new.catalog.file (P.SectorView.space space.new))) }
     // Sectors that the load of five edits has room beside are left beside three.
     ensures leaves { (beside : ℕ) → HasLoadFor 5 (1 + beside) volume.old (P.SectorView.space space.old) → OnOk result (HasEditsLeft 3 beside volume.new (P.SectorView.space space.new)) }
+    // On a fault too, these sectors are left.
+    ensures beside { (beside : ℕ) → HasLoadFor 5 (1 + beside) volume.old (P.SectorView.space space.old) → IsTrue (P.SectorView.space space.old).tells → beside ≤ (P.SectorView.space space.new).spare }
     ensures own { own_sectors volume.new ≡ own_sectors volume.old }
     ensures touches { (committed : Content) → Touches committed (λ s. Contains (own_sectors volume.old) s) (P.SectorView.space space.old) (P.SectorView.space space.new) }
     ensures spent { IsTrue (P.SectorView.space space.old).tells → (P.SectorView.space space.old).spare ≤ (P.SectorView.space space.new).spare + (1 + entry_load volume.old) }
@@ -312,7 +314,7 @@ fn unlink_last<P: SectorSpace>(
         × UnlinksLast entry (P.SectorView.space space.old).content (P.SectorView.space space.new).content) }
     ensures blocks { KeepsBlocks volume.old volume.new }
     ensures touches { (committed : Content) → Touches committed (λ s. Contains (own_sectors volume.old) s) (P.SectorView.space space.old) (P.SectorView.space space.new) }
-    ensures spends { IsTrue (P.SectorView.space space.old).tells → OnOk result (SpendsFor 5 volume.old (P.SectorView.space space.old) (P.SectorView.space space.new)) }
+    ensures spends { IsTrue (P.SectorView.space space.old).tells → NoneOr (SpendsFor 5 volume.old (P.SectorView.space space.old) (P.SectorView.space space.new)) (P.SectorView.space space.old) (P.SectorView.space space.new) }
     ensures below { P.SectorView.follows space.old space.new }
     ensures cause { HasTroubleCause (P.SectorView.space space.old).faults (P.SectorView.space space.new).faults result }
 {
@@ -357,7 +359,7 @@ fn lose_one_of<P: SectorSpace>(
         × LosesLink entry (P.SectorView.space space.old).content (P.SectorView.space space.new).content) }
     ensures blocks { KeepsBlocks volume.old volume.new }
     ensures touches { (committed : Content) → Touches committed (λ s. Contains (own_sectors volume.old) s) (P.SectorView.space space.old) (P.SectorView.space space.new) }
-    ensures spends { IsTrue (P.SectorView.space space.old).tells → OnOk result (SpendsShared id volume.old (P.SectorView.space space.old) (P.SectorView.space space.new)) }
+    ensures spends { IsTrue (P.SectorView.space space.old).tells → NoneOr (SpendsShared id volume.old (P.SectorView.space space.old) (P.SectorView.space space.new)) (P.SectorView.space space.old) (P.SectorView.space space.new) }
     ensures below { P.SectorView.follows space.old space.new }
     ensures cause { HasTroubleCause (P.SectorView.space space.old).faults (P.SectorView.space space.new).faults result }
 {
@@ -402,7 +404,7 @@ pub(crate) fn lose_one<P: SectorSpace>(
         × LosesLink entry (P.SectorView.space space.old).content (P.SectorView.space space.new).content) }
     ensures blocks { KeepsBlocks volume.old volume.new }
     ensures touches { (committed : Content) → Touches committed (λ s. Contains (own_sectors volume.old) s) (P.SectorView.space space.old) (P.SectorView.space space.new) }
-    ensures spends { IsTrue (P.SectorView.space space.old).tells → OnOk result (SpendsShared id volume.old (P.SectorView.space space.old) (P.SectorView.space space.new)) }
+    ensures spends { IsTrue (P.SectorView.space space.old).tells → NoneOr (SpendsShared id volume.old (P.SectorView.space space.old) (P.SectorView.space space.new)) (P.SectorView.space space.old) (P.SectorView.space space.new) }
     ensures below { P.SectorView.follows space.old space.new }
     ensures cause { HasTroubleCause (P.SectorView.space space.old).faults (P.SectorView.space space.new).faults result }
 {

@@ -1,6 +1,6 @@
-use Rattle.volume_names.specs.LinkLoads.{SpendsOn}
+use Rattle.volume_names.proofs.LinkWeight.{anew_puts}
 use Rattle.volume_names.proofs.LinkLoads.{anew_spends, left_put, load_anew, rest_anew}
-use Rattle.std.proofs.Common.{◌≡◌, ◌*◌, ℕ, List, sym, ◌∙◌, subst, arith, ◌+◌, ◌≤◌}
+use Rattle.std.proofs.Common.{◌≡◌, ◌*◌, ℕ, List, sym, ◌∙◌, subst, arith}
 use Rattle.std.specs.List.{Contains}
 use Rattle.hfs_language.specs.declared.command.Command.TheVariants as command
 use Rattle.hfs_model.specs.Step.{step}
@@ -13,7 +13,7 @@ use Rattle.volume_base.specs.Standing.{IsSettled}
 use Rattle.volume_base.specs.Touching.{Touches}
 use Rattle.volume_base.proofs.Besides.{blocks_both, blocks_none}
 use Rattle.volume_base.proofs.Commanding.{touches_both, touches_none}
-use Rattle.volume_base.proofs.FoundEntry.{ok_so, ok_both}
+use Rattle.volume_base.proofs.FoundEntry.{ok_so}
 use Rattle.volume_base.specs.Changing.{catalog_node}
 use Rattle.volume_names.proofs.EditsLeft.{ready_behind}
 use Rattle.volume_names.proofs.LinkAnew.{anew_does, linking_then, only_then}
@@ -76,18 +76,23 @@ link_dated-requires-clause-left g c =
     ready_behind c.args.volume.now c.open_private.new.volume (g.P.SectorView.space c.open_private.new.space) (λ tells. c.in_ok-open_private.ensures.is_put (sym (c.open_private.ensures.touches (g.P.SectorView.space c.args.space.now).content).same.tells ∙ tells)) (λ tells. c.in_ok-open_private.ensures.nodes (sym (c.open_private.ensures.touches (g.P.SectorView.space c.args.space.now).content).same.tells ∙ tells))
     (c.in_ok-open_private.ensures.left 7 (3 * catalog_node c.args.volume.now) (c.fits_first.ensures.load c.if-not-fits_first.false))
 
-pub returns-in-Some-clause-spends : goal.returns-in-Some-clause-spends
-returns-in-Some-clause-spends g c tells =
+pub returns-in-Some-clause-loads : goal.returns-in-Some-clause-loads
+returns-in-Some-clause-loads g c tells from to entry linking =
     let later = (c.open_private.ensures.touches (g.P.SectorView.space c.args.space.now).content).same.tells ∙ tells in
-    let links = c.requires.links tells in
     let load = c.fits_first.ensures.load c.if-not-fits_first.false in
-    ok_both
-    (IsSettled c.link_dated.new.volume (g.P.SectorView.space c.link_dated.new.space).content × (tree_of (g.P.SectorView.space c.link_dated.new.space).content ≡ (step (tree_of (g.P.SectorView.space c.open_private.new.space).content) (command.Ln links.0 links.1)).1)
-    × LinksFirst links.2 (free_place c.args.way.now.folder c.args.name.now) (volume_of (g.P.SectorView.space c.open_private.new.space).content) (volume_of (g.P.SectorView.space c.link_dated.new.space).content))
-    (rest_anew c.args.volume.now (g.P.SectorView.space c.args.space.now) ≤ (g.P.SectorView.space c.link_dated.new.space).spare + 3 * catalog_node c.open_private.new.volume)
-    (SpendsOn 9 3 c.args.volume.now (g.P.SectorView.space c.args.space.now) (g.P.SectorView.space c.link_dated.new.space))
-    c.link_dated.result
-    (c.link_dated.ensures.does later links.0 links.1 links.2 (linking_then c.header_may_change.ensures c.args.volume.now (g.P.SectorView.space c.args.space.now) (c.requires.settled tells) (c.requires.stands.stands tells) links.0 links.1 links.2 c.args.way.now.parent c.args.old.now c.args.way.now.id c.args.way.now.folder c.args.name.now links.3 (c.requires.only tells) c.open_private.new.volume (g.P.SectorView.space c.open_private.new.space).content (c.in_ok-open_private.ensures.opens tells)))
-    (c.link_dated.ensures.leaves later (rest_anew c.args.volume.now (g.P.SectorView.space c.args.space.now)) (left_put (rest_anew c.args.volume.now (g.P.SectorView.space c.args.space.now)) c.open_private.new.volume (g.P.SectorView.space c.open_private.new.space) (λ told. c.in_ok-open_private.ensures.is_put (sym (c.open_private.ensures.touches (g.P.SectorView.space c.args.space.now).content).same.tells ∙ told))
-    (c.in_ok-open_private.ensures.left 7 (rest_anew c.args.volume.now (g.P.SectorView.space c.args.space.now)) (load_anew c.args.volume.now (g.P.SectorView.space c.args.space.now) load))))
-    (λ does rest. anew_spends c.args.volume.now c.open_private.new.volume (g.P.SectorView.space c.args.space.now) (g.P.SectorView.space c.open_private.new.space) (g.P.SectorView.space c.link_dated.new.space) (c.requires.settled tells) (c.in_ok-open_private.ensures.opens tells).settled tells c.in-Some.private c.in-Some.is (c.in_ok-open_private.ensures.ids tells) (c.in_ok-open_private.ensures.nodes tells) load links.2 (free_place c.args.way.now.folder c.args.name.now) does.2 rest)
+    let left = c.link_dated.ensures.leaves later (rest_anew c.args.volume.now (g.P.SectorView.space c.args.space.now)) (left_put (rest_anew c.args.volume.now (g.P.SectorView.space c.args.space.now)) c.open_private.new.volume (g.P.SectorView.space c.open_private.new.space) (λ told. c.in_ok-open_private.ensures.is_put (sym (c.open_private.ensures.touches (g.P.SectorView.space c.args.space.now).content).same.tells ∙ told))
+    (c.in_ok-open_private.ensures.left 7 (rest_anew c.args.volume.now (g.P.SectorView.space c.args.space.now)) (load_anew c.args.volume.now (g.P.SectorView.space c.args.space.now) load))) in
+    anew_puts c.args.volume.now (g.P.SectorView.space c.args.space.now) (c.requires.settled tells) (c.requires.stands.stands tells) from to entry c.args.way.now.parent c.args.old.now c.args.way.now.id c.args.way.now.folder c.args.name.now linking (c.requires.only tells) c.requires.absent (g.P.SectorView.space c.link_dated.new.space) (anew_spends c.args.volume.now (g.P.SectorView.space c.args.space.now) (g.P.SectorView.space c.link_dated.new.space) tells load (omega (arith, left, c.in_ok-open_private.ensures.nodes tells)))
+
+pub returns-in-None-clause-loads : goal.returns-in-None-clause-loads
+returns-in-None-clause-loads g c tells from to entry linking =
+    let load = c.fits_first.ensures.load c.if-not-fits_first.false in
+    anew_puts c.args.volume.now (g.P.SectorView.space c.args.space.now) (c.requires.settled tells) (c.requires.stands.stands tells) from to entry c.args.way.now.parent c.args.old.now c.args.way.now.id c.args.way.now.folder c.args.name.now linking (c.requires.only tells) c.requires.absent (g.P.SectorView.space c.open_private.new.space) (anew_spends c.args.volume.now (g.P.SectorView.space c.args.space.now) (g.P.SectorView.space c.open_private.new.space) tells load (omega (arith, c.open_private.ensures.beside 7 (rest_anew c.args.volume.now (g.P.SectorView.space c.args.space.now)) (load_anew c.args.volume.now (g.P.SectorView.space c.args.space.now) load) tells)))
+
+pub returns-in_err-open_private-clause-loads : goal.returns-in_err-open_private-clause-loads
+returns-in_err-open_private-clause-loads g c tells from to entry linking =
+    let load = c.fits_first.ensures.load c.if-not-fits_first.false in
+    anew_puts c.args.volume.now (g.P.SectorView.space c.args.space.now) (c.requires.settled tells) (c.requires.stands.stands tells) from to entry c.args.way.now.parent c.args.old.now c.args.way.now.id c.args.way.now.folder c.args.name.now linking (c.requires.only tells) c.requires.absent (g.P.SectorView.space c.open_private.new.space) (anew_spends c.args.volume.now (g.P.SectorView.space c.args.space.now) (g.P.SectorView.space c.open_private.new.space) tells load (omega (arith, c.open_private.ensures.beside 7 (rest_anew c.args.volume.now (g.P.SectorView.space c.args.space.now)) (load_anew c.args.volume.now (g.P.SectorView.space c.args.space.now) load) tells)))
+
+pub returns-then-not-fits_first-clause-loads : goal.returns-then-not-fits_first-clause-loads
+returns-then-not-fits_first-clause-loads g c tells from to entry linking n grow is = omega arith

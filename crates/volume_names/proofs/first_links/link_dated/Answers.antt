@@ -1,6 +1,5 @@
-use Rattle.volume_base.specs.Changing.{catalog_node}
-use Rattle.volume_base.proofs.FoundEntry.{ok_so, node_still}
-use Rattle.std.proofs.Common.{◌≡◌, ℕ, List, sym, ◌∙◌, ap, subst, arith, ◌+◌, ◌*◌, ◌≤◌}
+use Rattle.volume_base.proofs.FoundEntry.{node_still}
+use Rattle.std.proofs.Common.{◌≡◌, ℕ, List, sym, ◌∙◌, ap, subst, arith}
 use Rattle.std.specs.Prelude.{OnOk}
 use Rattle.std.specs.List.{Contains}
 use Rattle.sector_disk.specs.Lists.{Content}
@@ -73,6 +72,11 @@ link_ready-requires-clause-left g c = ready_still c.args.volume.now c.link_date.
 
 pub returns-clause-leaves : goal.returns-clause-leaves
 returns-clause-leaves g c tells beside had =
-    ok_so (beside ≤ (g.P.SectorView.space c.link_ready.new.space).spare + 3 * catalog_node c.link_date.new.volume) (beside ≤ (g.P.SectorView.space c.link_ready.new.space).spare + 3 * catalog_node c.args.volume.now) c.link_ready.result
-    (c.link_ready.ensures.leaves (c.link_date.ensures.reads.looks.same.tells ∙ tells) beside (ready_beside beside c.args.volume.now c.link_date.new.volume (g.P.SectorView.space c.args.space.now) (g.P.SectorView.space c.link_date.new.space) (λ told. node_large c.args.volume.now (g.P.SectorView.space c.args.space.now) c.requires.stands told) c.link_date.ensures.reads had))
-    (λ it. omega (arith, it, node_still c.args.volume.now c.link_date.new.volume (g.P.SectorView.space c.args.space.now) (g.P.SectorView.space c.link_date.new.space) c.link_date.ensures.reads))
+    omega (
+      arith,
+      c.link_ready.ensures.leaves (c.link_date.ensures.reads.looks.same.tells ∙ tells) beside (ready_beside beside c.args.volume.now c.link_date.new.volume (g.P.SectorView.space c.args.space.now) (g.P.SectorView.space c.link_date.new.space) (λ told. node_large c.args.volume.now (g.P.SectorView.space c.args.space.now) c.requires.stands told) c.link_date.ensures.reads had),
+      node_still c.args.volume.now c.link_date.new.volume (g.P.SectorView.space c.args.space.now) (g.P.SectorView.space c.link_date.new.space) c.link_date.ensures.reads,
+    )
+
+pub returns-in_err-created-clause-leaves : goal.returns-in_err-created-clause-leaves
+returns-in_err-created-clause-leaves g c tells beside had = omega (arith, (had.told tells).0, c.link_date.ensures.reads.looks.spare)

@@ -1,16 +1,7 @@
-use Rattle.volume_base.specs.Standing.{IsSettled}
-use Rattle.volume_base.specs.Making.{free_place}
-use Rattle.hfs_volume.specs.TreeOf.{tree_of}
-use Rattle.hfs_volume.specs.Naming.{LinksFirst}
-use Rattle.hfs_volume.specs.Content.{volume_of}
-use Rattle.hfs_model.specs.Step.{step}
-use Rattle.hfs_language.specs.declared.command.Command.TheVariants as command
+use Rattle.volume_names.proofs.LinkWeight.{first_puts}
 use Rattle.volume_base.proofs.Replaced.{node_large}
-use Rattle.volume_base.specs.Changing.{catalog_node}
-use Rattle.volume_names.specs.LinkLoads.{SpendsOn}
 use Rattle.volume_names.proofs.LinkLoads.{first_spends, rest_beside, rest_left}
-use Rattle.volume_base.proofs.FoundEntry.{ok_both}
-use Rattle.std.proofs.Common.{◌≡◌, ◌+◌, ◌*◌, ◌≤◌}
+use Rattle.std.proofs.Common.{arith}
 use Rattle.volume_base.proofs.Besides.{blocks_none}
 use Rattle.volume_base.proofs.Commanding.{touches_none}
 use Rattle.volume_names.proofs.first_links.link_first.Goals as goal
@@ -30,16 +21,12 @@ returns-then-not-fits_share-clause-blocks g c = blocks_none c.args.volume.now
 pub link_ready-requires-clause-ids : goal.link_ready-requires-clause-ids
 link_ready-requires-clause-ids g c = c.fits_share.ensures.ids c.if-not-fits_share.false
 
-pub returns-clause-spends : goal.returns-clause-spends
-returns-clause-spends g c tells =
-    let links = c.requires.links tells in
+pub returns-clause-loads : goal.returns-clause-loads
+returns-clause-loads g c tells from to entry linking =
     let load = c.fits_share.ensures.load c.if-not-fits_share.false in
-    ok_both
-    (IsSettled c.link_ready.new.volume (g.P.SectorView.space c.link_ready.new.space).content × (tree_of (g.P.SectorView.space c.link_ready.new.space).content ≡ (step (tree_of (g.P.SectorView.space c.args.space.now).content) (command.Ln links.0 links.1)).1)
-    × LinksFirst links.2 (free_place c.args.way.now.folder c.args.name.now) (volume_of (g.P.SectorView.space c.args.space.now).content) (volume_of (g.P.SectorView.space c.link_ready.new.space).content))
-    (rest_beside c.args.volume.now (g.P.SectorView.space c.args.space.now) ≤ (g.P.SectorView.space c.link_ready.new.space).spare + 3 * catalog_node c.args.volume.now)
-    (SpendsOn 7 2 c.args.volume.now (g.P.SectorView.space c.args.space.now) (g.P.SectorView.space c.link_ready.new.space))
-    c.link_ready.result
-    (c.link_ready.ensures.does tells links.0 links.1 links.2 links.3)
-    (c.link_ready.ensures.leaves tells (rest_beside c.args.volume.now (g.P.SectorView.space c.args.space.now)) (rest_left c.edits_have_room.ensures c.args.volume.now (g.P.SectorView.space c.args.space.now) (λ told. node_large c.args.volume.now (g.P.SectorView.space c.args.space.now) c.requires.stands told) load))
-    (λ does rest. first_spends c.args.volume.now (g.P.SectorView.space c.args.space.now) (g.P.SectorView.space c.link_ready.new.space) (c.requires.settled tells) tells c.args.private c.requires.private load links.2 (free_place c.args.way.now.folder c.args.name.now) does.2 rest)
+    first_puts c.args.volume.now (g.P.SectorView.space c.args.space.now) (c.requires.settled tells) (c.requires.stands.stands tells) from to entry c.args.way.now.parent c.args.old.now c.args.way.now.id c.args.way.now.folder c.args.name.now linking (c.requires.only tells) c.args.private c.requires.private (g.P.SectorView.space c.link_ready.new.space)
+    (first_spends c.args.volume.now (g.P.SectorView.space c.args.space.now) (g.P.SectorView.space c.link_ready.new.space) tells load
+    (c.link_ready.ensures.leaves tells (rest_beside c.args.volume.now (g.P.SectorView.space c.args.space.now)) (rest_left c.edits_have_room.ensures c.args.volume.now (g.P.SectorView.space c.args.space.now) (λ told. node_large c.args.volume.now (g.P.SectorView.space c.args.space.now) c.requires.stands told) load)))
+
+pub returns-then-not-fits_share-clause-loads : goal.returns-then-not-fits_share-clause-loads
+returns-then-not-fits_share-clause-loads g c tells from to entry linking n grow is = omega arith

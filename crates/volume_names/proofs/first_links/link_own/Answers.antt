@@ -1,6 +1,4 @@
-use Rattle.volume_names.specs.LinkLoads.{SpendsLink, SpendsOn}
-use Rattle.std.specs.Prelude.{Option, is_some}
-use Rattle.std.proofs.Common.{◌≡◌, ℕ, ap, inl, inr}
+use Rattle.std.proofs.Common.{◌≡◌}
 use Rattle.hfs_language.specs.declared.command.Command.TheVariants as command
 use Rattle.hfs_model.specs.Step.{step}
 use Rattle.hfs_volume.specs.Content.{volume_of}
@@ -24,11 +22,8 @@ returns-in-Some-clause-does g c tells from to entry linking =
     (c.link_first.ensures.does tells from to entry linking)
     (first_anew c.args.volume.now (g.P.SectorView.space c.args.space.now) (c.requires.settled tells) c.in-Some.private c.in-Some.is from to entry (free_place c.args.way.now.folder c.args.name.now) c.link_first.new.volume (g.P.SectorView.space c.link_first.new.space).content)
 
-pub returns-in-Some-clause-spends : goal.returns-in-Some-clause-spends
-returns-in-Some-clause-spends g c tells =
-    ok_so (SpendsOn 7 2 c.args.volume.now (g.P.SectorView.space c.args.space.now) (g.P.SectorView.space c.link_first.new.space)) (SpendsLink c.args.volume.now (g.P.SectorView.space c.args.space.now) (g.P.SectorView.space c.link_first.new.space)) c.link_first.result (c.link_first.ensures.spends tells)
-    (λ it. inr (inl (ap (λ (o : Option ℕ). is_some o) c.in-Some.is, it)))
+pub returns-in-Some-clause-loads : goal.returns-in-Some-clause-loads
+returns-in-Some-clause-loads g c tells from to entry linking = c.link_first.ensures.loads tells from to entry linking
 
-pub returns-in-None-clause-spends : goal.returns-in-None-clause-spends
-returns-in-None-clause-spends g c tells =
-    ok_so (SpendsOn 9 3 c.args.volume.now (g.P.SectorView.space c.args.space.now) (g.P.SectorView.space c.link_anew.new.space)) (SpendsLink c.args.volume.now (g.P.SectorView.space c.args.space.now) (g.P.SectorView.space c.link_anew.new.space)) c.link_anew.result (c.link_anew.ensures.spends tells) (λ it. inr (inr it))
+pub returns-in-None-clause-loads : goal.returns-in-None-clause-loads
+returns-in-None-clause-loads g c tells from to entry linking = c.link_anew.ensures.loads tells from to entry linking

@@ -1,6 +1,5 @@
-use Rattle.volume_base.specs.Changing.{catalog_node}
-use Rattle.volume_base.proofs.FoundEntry.{ok_so, node_still}
-use Rattle.std.proofs.Common.{◌≡◌, ℕ, List, sym, ◌∙◌, ap, subst, arith, ◌+◌, ◌*◌, ◌≤◌}
+use Rattle.volume_base.proofs.FoundEntry.{node_still}
+use Rattle.std.proofs.Common.{◌≡◌, ℕ, List, sym, ◌∙◌, ap, subst, arith}
 use Rattle.std.specs.Prelude.{OnOk}
 use Rattle.std.specs.List.{Contains}
 use Rattle.sector_disk.specs.Lists.{Content}
@@ -116,9 +115,20 @@ link_under-requires-clause-room g c = record {
 
 pub returns-clause-leaves : goal.returns-clause-leaves
 returns-clause-leaves g c tells beside had =
-    ok_so (beside ≤ (g.P.SectorView.space c.link_under.new.space).spare + 3 * catalog_node c.free_number.new.volume) (beside ≤ (g.P.SectorView.space c.link_under.new.space).spare + 3 * catalog_node c.args.volume.now) c.link_under.result
-    (c.link_under.ensures.leaves (c.free_number.ensures.reads.looks.same.tells ∙ tells) beside (ready_beside beside c.args.volume.now c.free_number.new.volume (g.P.SectorView.space c.args.space.now) (g.P.SectorView.space c.free_number.new.space) (λ told. node_large c.args.volume.now (g.P.SectorView.space c.args.space.now) c.requires.stands told) c.free_number.ensures.reads had))
-    (λ it. omega (arith, it, node_still c.args.volume.now c.free_number.new.volume (g.P.SectorView.space c.args.space.now) (g.P.SectorView.space c.free_number.new.space) c.free_number.ensures.reads))
+    omega (
+      arith,
+      c.link_under.ensures.leaves (c.free_number.ensures.reads.looks.same.tells ∙ tells) beside (ready_beside beside c.args.volume.now c.free_number.new.volume (g.P.SectorView.space c.args.space.now) (g.P.SectorView.space c.free_number.new.space) (λ told. node_large c.args.volume.now (g.P.SectorView.space c.args.space.now) c.requires.stands told) c.free_number.ensures.reads had),
+      node_still c.args.volume.now c.free_number.new.volume (g.P.SectorView.space c.args.space.now) (g.P.SectorView.space c.free_number.new.space) c.free_number.ensures.reads,
+    )
+
+pub returns-in_err-number-clause-leaves : goal.returns-in_err-number-clause-leaves
+returns-in_err-number-clause-leaves g c tells beside had = omega (arith, (had.told tells).0, c.free_number.ensures.reads.looks.spare)
+
+pub returns-in_err-node-clause-leaves : goal.returns-in_err-node-clause-leaves
+returns-in_err-node-clause-leaves g c tells beside had = omega (arith, (had.told tells).0, c.free_number.ensures.reads.looks.spare)
+
+pub returns-then-not-has_sector-clause-leaves : goal.returns-then-not-has_sector-clause-leaves
+returns-then-not-has_sector-clause-leaves g c tells beside had = omega (arith, (had.told tells).0, c.free_number.ensures.reads.looks.spare)
 
 pub returns-then-shape-lt4096-clause-leaves : goal.returns-then-shape-lt4096-clause-leaves
 returns-then-shape-lt4096-clause-leaves g c tells beside had =

@@ -1,4 +1,4 @@
-use Rattle.std.proofs.Common.{◌≡◌, ◌^◌, ℕ, List, sym, ◌∙◌, subst, ap, arith, ◌/◌, ◌+◌, ◌*◌, ◌≤◌}
+use Rattle.std.proofs.Common.{◌≡◌, ◌^◌, ℕ, List, sym, ◌∙◌, subst, ap, arith, ◌/◌}
 use Rattle.std.specs.List.{Contains}
 use Rattle.std.proofs.lemmas.Bool.{lt-ltb}
 use Rattle.hfs_language.specs.declared.command.Command.TheVariants as command
@@ -13,7 +13,7 @@ use Rattle.volume_base.specs.Touching.{Touches}
 use Rattle.volume_base.proofs.Besides.{blocks_both}
 use Rattle.volume_base.proofs.Commanding.{touches_both}
 use Rattle.volume_names.proofs.FirstBoth.{first_done, goal_said, private_linked, shared_filled, threads_filled, threads_linked, threads_said}
-use Rattle.volume_base.proofs.FoundEntry.{ok_both, ok_true}
+use Rattle.volume_base.proofs.FoundEntry.{ok_both}
 use Rattle.volume_names.proofs.EditsLeft.{first_update}
 use Rattle.volume_names.proofs.first_links.link_under.Goals as goal
 
@@ -127,15 +127,35 @@ returns-clause-leaves g c tells beside had =
     let middle = (c.share.ensures.touches (g.P.SectorView.space c.args.space.now).content).same.tells ∙ tells in
     let later = (c.touch.ensures.touches (g.P.SectorView.space c.args.space.now).content).same.tells ∙ middle in
     let last = (c.say_two.ensures.touches (g.P.SectorView.space c.args.space.now).content).same.tells ∙ later in
-    let left = c.in_ok-share.ensures.leaves beside had in
     let says = c.in_ok-say_two.ensures.says later in
-    ok_true c.touch-2.result (omega (
+    omega (
       arith,
-      (left.told middle).0,
+      c.share.ensures.beside beside had tells,
       c.touch.ensures.spent middle,
       c.say_two.ensures.spent later,
       c.touch-2.ensures.spent last,
       ap (λ n. n / 512) c.in_ok-share.ensures.size,
       ap (λ n. n / 512) c.touch.ensures.size,
       ap (λ n. n / 512) says.1.changes.nodes.1,
-    ))
+    )
+
+pub returns-in_err-say_two-clause-leaves : goal.returns-in_err-say_two-clause-leaves
+returns-in_err-say_two-clause-leaves g c tells beside had =
+    let middle = (c.share.ensures.touches (g.P.SectorView.space c.args.space.now).content).same.tells ∙ tells in
+    let later = (c.touch.ensures.touches (g.P.SectorView.space c.args.space.now).content).same.tells ∙ middle in
+    omega (
+      arith,
+      c.share.ensures.beside beside had tells,
+      c.touch.ensures.spent middle,
+      c.say_two.ensures.spent later,
+      ap (λ n. n / 512) c.in_ok-share.ensures.size,
+      ap (λ n. n / 512) c.touch.ensures.size,
+    )
+
+pub returns-in_err-touch-clause-leaves : goal.returns-in_err-touch-clause-leaves
+returns-in_err-touch-clause-leaves g c tells beside had =
+    let middle = (c.share.ensures.touches (g.P.SectorView.space c.args.space.now).content).same.tells ∙ tells in
+    omega (arith, c.share.ensures.beside beside had tells, c.touch.ensures.spent middle, ap (λ n. n / 512) c.in_ok-share.ensures.size)
+
+pub returns-in_err-share-clause-leaves : goal.returns-in_err-share-clause-leaves
+returns-in_err-share-clause-leaves g c tells beside had = omega (arith, c.share.ensures.beside beside had tells)

@@ -1,7 +1,5 @@
-use Rattle.hfs_volume.specs.Content.{volume_of}
-use Rattle.volume_names.specs.LinkLoads.{SpendsOn}
-use Rattle.volume_names.proofs.LinkLoads.{more_draws}
-use Rattle.std.proofs.Common.{◌≡◌, ℕ, List, sym, ◌∙◌, ap, subst, arith, ◌/◌, ◌+◌, ◌*◌, ◌≤◌}
+use Rattle.volume_names.proofs.LinkWeight.{again_puts}
+use Rattle.std.proofs.Common.{◌≡◌, ℕ, List, sym, ◌∙◌, ap, subst, arith, ◌/◌}
 use Rattle.std.specs.List.{Contains}
 use Rattle.btree_node.specs.declared.store.TreeShape.{TreeShape}
 use Rattle.hfs_language.specs.declared.command.Command.TheVariants as command
@@ -14,7 +12,7 @@ use Rattle.volume_base.specs.Standing.{IsSettled, StandsOver}
 use Rattle.volume_base.specs.Touching.{Touches}
 use Rattle.volume_base.proofs.Besides.{blocks_both, blocks_none}
 use Rattle.volume_base.proofs.Commanding.{touches_both, touches_none}
-use Rattle.volume_base.proofs.FoundEntry.{ok_both, ok_so}
+use Rattle.volume_base.proofs.FoundEntry.{ok_both}
 use Rattle.volume_names.proofs.LinkMade.{above_after, linked_does, shared_added, threads_added, threads_counted, vacant}
 use Rattle.volume_base.proofs.Replaced.{node_large}
 use Rattle.volume_names.proofs.linking.link_again.Goals as goal
@@ -125,24 +123,26 @@ returns-then-shape-lt4096-clause-service g c = c.requires.stands.service
 pub returns-then-shape-lt4096-clause-blocks : goal.returns-then-shape-lt4096-clause-blocks
 returns-then-shape-lt4096-clause-blocks g c = blocks_none c.args.volume.now
 
-pub returns-clause-spends : goal.returns-clause-spends
-returns-clause-spends g c tells =
+pub returns-clause-loads : goal.returns-clause-loads
+returns-clause-loads g c tells from to entry linking =
     let middle = (c.add_name.ensures.touches (g.P.SectorView.space c.args.space.now).content).same.tells ∙ tells in
     let later = (c.count_up.ensures.touches (g.P.SectorView.space c.args.space.now).content).same.tells ∙ middle in
-    let links = c.requires.links tells in
-    let adds = c.in_ok-add_name.ensures.adds tells in
-    let counts = c.in_ok-count_up.ensures.counts middle in
-    ok_so
-    (IsSettled c.touch.new.self (g.P.SectorView.space c.touch.new.space).content × (tree_of (g.P.SectorView.space c.touch.new.space).content ≡ (step (tree_of (g.P.SectorView.space c.args.space.now).content) (command.Ln links.0 links.1)).1)
-    × LinksAgain links.2 (free_place c.args.way.now.folder c.args.name.now) (g.P.SectorView.space c.args.space.now).content (g.P.SectorView.space c.touch.new.space).content)
-    (SpendsOn 2 1 c.args.volume.now (g.P.SectorView.space c.args.space.now) (g.P.SectorView.space c.touch.new.space))
-    c.touch.result (returns-clause-does g c tells links.0 links.1 links.2 links.3)
-    (λ does. record {
-      drawn = more_draws links.2 (free_place c.args.way.now.folder c.args.name.now) (volume_of (g.P.SectorView.space c.args.space.now).content) (volume_of (g.P.SectorView.space c.touch.new.space).content) does.2.links;
-      grown = (c.requires.room.told tells).2;
-      spent = omega (arith, c.add_name.ensures.spent tells, c.count_up.ensures.spent middle, c.touch.ensures.spent later, ap (λ n. n / 512) adds.changes.nodes.1, ap (λ n. n / 512) counts.changes.nodes.1);
-    })
+    again_puts c.args.volume.now (g.P.SectorView.space c.args.space.now) (c.requires.settled tells) (c.requires.stands.stands tells) from to entry c.args.way.now.parent c.args.old.now c.args.way.now.id c.args.way.now.folder c.args.name.now linking c.args.reference (c.requires.link tells) (g.P.SectorView.space c.touch.new.space)
+    (record { grown = (c.requires.room.told tells).2; spent = omega (arith, c.add_name.ensures.spent tells, c.count_up.ensures.spent middle, c.touch.ensures.spent later, ap (λ n. n / 512) (c.in_ok-add_name.ensures.adds tells).changes.nodes.1, ap (λ n. n / 512) (c.in_ok-count_up.ensures.counts middle).changes.nodes.1) })
 
-pub returns-then-shape-lt4096-clause-spends : goal.returns-then-shape-lt4096-clause-spends
-returns-then-shape-lt4096-clause-spends g c tells =
-    absurd (omega (arith, c.if-shape-lt4096.true, ap (λ (s : TreeShape). s.node_size) c.shape.ensures, node_large c.args.volume.now (g.P.SectorView.space c.args.space.now) c.requires.stands tells))
+pub returns-in_err-count_up-clause-loads : goal.returns-in_err-count_up-clause-loads
+returns-in_err-count_up-clause-loads g c tells from to entry linking =
+    let middle = (c.add_name.ensures.touches (g.P.SectorView.space c.args.space.now).content).same.tells ∙ tells in
+    again_puts c.args.volume.now (g.P.SectorView.space c.args.space.now) (c.requires.settled tells) (c.requires.stands.stands tells) from to entry c.args.way.now.parent c.args.old.now c.args.way.now.id c.args.way.now.folder c.args.name.now linking c.args.reference (c.requires.link tells) (g.P.SectorView.space c.count_up.new.space) (record { grown = (c.requires.room.told tells).2; spent = omega (arith, c.add_name.ensures.spent tells, c.count_up.ensures.spent middle, ap (λ n. n / 512) (c.in_ok-add_name.ensures.adds tells).changes.nodes.1) })
+
+pub returns-then-not-fits_update-clause-loads : goal.returns-then-not-fits_update-clause-loads
+returns-then-not-fits_update-clause-loads g c tells from to entry linking =
+    let middle = (c.add_name.ensures.touches (g.P.SectorView.space c.args.space.now).content).same.tells ∙ tells in
+    again_puts c.args.volume.now (g.P.SectorView.space c.args.space.now) (c.requires.settled tells) (c.requires.stands.stands tells) from to entry c.args.way.now.parent c.args.old.now c.args.way.now.id c.args.way.now.folder c.args.name.now linking c.args.reference (c.requires.link tells) (g.P.SectorView.space c.count_up.new.space) (record { grown = (c.requires.room.told tells).2; spent = omega (arith, c.add_name.ensures.spent tells, c.count_up.ensures.spent middle, ap (λ n. n / 512) (c.in_ok-add_name.ensures.adds tells).changes.nodes.1) })
+
+pub returns-in_err-add_name-clause-loads : goal.returns-in_err-add_name-clause-loads
+returns-in_err-add_name-clause-loads g c tells from to entry linking =
+    again_puts c.args.volume.now (g.P.SectorView.space c.args.space.now) (c.requires.settled tells) (c.requires.stands.stands tells) from to entry c.args.way.now.parent c.args.old.now c.args.way.now.id c.args.way.now.folder c.args.name.now linking c.args.reference (c.requires.link tells) (g.P.SectorView.space c.add_name.new.space) (record { grown = (c.requires.room.told tells).2; spent = omega (arith, c.add_name.ensures.spent tells) })
+
+pub returns-then-shape-lt4096-clause-loads : goal.returns-then-shape-lt4096-clause-loads
+returns-then-shape-lt4096-clause-loads g c tells from to entry linking n grow is = omega arith

@@ -1,6 +1,5 @@
-use Rattle.volume_names.specs.LinkLoads.{SpendsLink, SpendsOn}
-use Rattle.volume_names.proofs.LinkLoads.{spends_still}
-use Rattle.std.proofs.Common.{◌≡◌, ℕ, List, inl, inr, sym, ◌∙◌, subst}
+use Rattle.volume_names.proofs.LinkLoads.{puts_still}
+use Rattle.std.proofs.Common.{◌≡◌, ℕ, List, inl, inr, sym, ◌∙◌, subst, arith}
 use Rattle.std.specs.Prelude.{OnOk}
 use Rattle.std.specs.List.{Contains}
 use Rattle.sector_disk.specs.Lists.{Content}
@@ -124,12 +123,18 @@ returns-in_err-reference-clause-service g c = c.find_name.ensures.stands.service
 pub returns-in_err-reference-clause-blocks : goal.returns-in_err-reference-clause-blocks
 returns-in_err-reference-clause-blocks g c = blocks_read c.args.volume.now c.find_name.new.volume (g.P.SectorView.space c.args.space.now) (g.P.SectorView.space c.find_name.new.space) c.find_name.ensures.reads
 
-pub returns-in-Link-clause-spends : goal.returns-in-Link-clause-spends
-returns-in-Link-clause-spends g c tells =
-    ok_so (SpendsOn 2 1 c.find_name.new.volume (g.P.SectorView.space c.find_name.new.space) (g.P.SectorView.space c.link_again.new.space)) (SpendsLink c.args.volume.now (g.P.SectorView.space c.args.space.now) (g.P.SectorView.space c.link_again.new.space)) c.link_again.result
-    (c.link_again.ensures.spends (c.find_name.ensures.reads.looks.same.tells ∙ tells)) (λ it. spends_still c.args.volume.now c.find_name.new.volume (g.P.SectorView.space c.args.space.now) (g.P.SectorView.space c.find_name.new.space) (g.P.SectorView.space c.link_again.new.space) c.find_name.ensures.reads tells (inl it))
+pub returns-in-Link-clause-loads : goal.returns-in-Link-clause-loads
+returns-in-Link-clause-loads g c tells from to entry linking =
+    puts_still (command.Ln from to) c.args.volume.now c.find_name.new.volume (g.P.SectorView.space c.args.space.now) (g.P.SectorView.space c.find_name.new.space) (g.P.SectorView.space c.link_again.new.space) c.find_name.ensures.reads tells
+    (c.link_again.ensures.loads (c.find_name.ensures.reads.looks.same.tells ∙ tells) from to entry (subst (λ (k : Content). IsLinking (tree_of k) from to entry c.args.way.now.parent c.args.old.now c.args.way.now.id c.args.way.now.folder c.args.name.now) (sym (c.find_name.ensures.reads.looks.content tells)) linking))
 
-pub returns-in-Own-clause-spends : goal.returns-in-Own-clause-spends
-returns-in-Own-clause-spends g c tells =
-    ok_so (SpendsLink c.find_name.new.volume (g.P.SectorView.space c.find_name.new.space) (g.P.SectorView.space c.link_own.new.space)) (SpendsLink c.args.volume.now (g.P.SectorView.space c.args.space.now) (g.P.SectorView.space c.link_own.new.space)) c.link_own.result
-    (c.link_own.ensures.spends (c.find_name.ensures.reads.looks.same.tells ∙ tells)) (λ it. spends_still c.args.volume.now c.find_name.new.volume (g.P.SectorView.space c.args.space.now) (g.P.SectorView.space c.find_name.new.space) (g.P.SectorView.space c.link_own.new.space) c.find_name.ensures.reads tells it)
+pub returns-in-Own-clause-loads : goal.returns-in-Own-clause-loads
+returns-in-Own-clause-loads g c tells from to entry linking =
+    puts_still (command.Ln from to) c.args.volume.now c.find_name.new.volume (g.P.SectorView.space c.args.space.now) (g.P.SectorView.space c.find_name.new.space) (g.P.SectorView.space c.link_own.new.space) c.find_name.ensures.reads tells
+    (c.link_own.ensures.loads (c.find_name.ensures.reads.looks.same.tells ∙ tells) from to entry (subst (λ (k : Content). IsLinking (tree_of k) from to entry c.args.way.now.parent c.args.old.now c.args.way.now.id c.args.way.now.folder c.args.name.now) (sym (c.find_name.ensures.reads.looks.content tells)) linking))
+
+pub returns-in-Other-clause-loads : goal.returns-in-Other-clause-loads
+returns-in-Other-clause-loads g c tells from to entry linking n grow is = omega (arith, c.find_name.ensures.reads.looks.spare)
+
+pub returns-in_err-reference-clause-loads : goal.returns-in_err-reference-clause-loads
+returns-in_err-reference-clause-loads g c tells from to entry linking n grow is = omega (arith, c.find_name.ensures.reads.looks.spare)

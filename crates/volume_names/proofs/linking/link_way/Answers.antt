@@ -1,7 +1,5 @@
-use Rattle.volume_names.specs.LinkLoads.{SpendsLink}
-use Rattle.volume_names.proofs.LinkLoads.{spends_still}
-use Rattle.volume_base.proofs.FoundEntry.{ok_so}
-use Rattle.std.proofs.Common.{◌≡◌, ℕ, List, sym, ◌∙◌, subst}
+use Rattle.volume_names.proofs.LinkLoads.{puts_still}
+use Rattle.std.proofs.Common.{◌≡◌, ℕ, List, sym, ◌∙◌, subst, arith}
 use Rattle.std.specs.Prelude.{OnOk}
 use Rattle.std.specs.List.{Contains}
 use Rattle.sector_disk.specs.Lists.{Content}
@@ -57,7 +55,10 @@ returns-in_err-created-clause-service g c = c.link_date.ensures.stands.service
 pub returns-in_err-created-clause-blocks : goal.returns-in_err-created-clause-blocks
 returns-in_err-created-clause-blocks g c = blocks_read c.args.volume.now c.link_date.new.volume (g.P.SectorView.space c.args.space.now) (g.P.SectorView.space c.link_date.new.space) c.link_date.ensures.reads
 
-pub returns-clause-spends : goal.returns-clause-spends
-returns-clause-spends g c tells =
-    ok_so (SpendsLink c.link_date.new.volume (g.P.SectorView.space c.link_date.new.space) (g.P.SectorView.space c.link_named.new.space)) (SpendsLink c.args.volume.now (g.P.SectorView.space c.args.space.now) (g.P.SectorView.space c.link_named.new.space)) c.link_named.result
-    (c.link_named.ensures.spends (c.link_date.ensures.reads.looks.same.tells ∙ tells)) (λ it. spends_still c.args.volume.now c.link_date.new.volume (g.P.SectorView.space c.args.space.now) (g.P.SectorView.space c.link_date.new.space) (g.P.SectorView.space c.link_named.new.space) c.link_date.ensures.reads tells it)
+pub returns-clause-loads : goal.returns-clause-loads
+returns-clause-loads g c tells from to entry linking =
+    puts_still (command.Ln from to) c.args.volume.now c.link_date.new.volume (g.P.SectorView.space c.args.space.now) (g.P.SectorView.space c.link_date.new.space) (g.P.SectorView.space c.link_named.new.space) c.link_date.ensures.reads tells
+    (c.link_named.ensures.loads (c.link_date.ensures.reads.looks.same.tells ∙ tells) from to entry (subst (λ (k : Content). IsLinking (tree_of k) from to entry c.args.way.now.parent c.args.old.now c.args.way.now.id c.args.way.now.folder c.args.name.now) (sym (c.link_date.ensures.reads.looks.content tells)) linking))
+
+pub returns-in_err-created-clause-loads : goal.returns-in_err-created-clause-loads
+returns-in_err-created-clause-loads g c tells from to entry linking n grow is = omega (arith, c.link_date.ensures.reads.looks.spare)

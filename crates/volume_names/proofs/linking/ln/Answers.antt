@@ -1,7 +1,5 @@
-use Rattle.volume_names.specs.LinkLoads.{PutsItsLoad}
 use Rattle.volume_names.proofs.LinkLoads.{puts_still}
-use Rattle.volume_base.proofs.FoundEntry.{ok_so}
-use Rattle.std.proofs.Common.{◌≡◌, true, ℕ, List, sym, ◌∙◌, ap, subst, arith, ◌+◌, ◌≤◌}
+use Rattle.std.proofs.Common.{◌≡◌, true, ℕ, List, sym, ◌∙◌, ap, subst, arith}
 use Rattle.std.specs.Prelude.{IfOk, Ok, OnOk}
 use Rattle.std.specs.List.{Contains}
 use Rattle.sector_disk.specs.Lists.{Content}
@@ -93,9 +91,10 @@ returns-in_err-why-clause-blocks g c = blocks_read c.args.volume.now c.refused_l
 
 pub returns-in-None-clause-loads : goal.returns-in-None-clause-loads
 returns-in-None-clause-loads g c tells =
-    ok_so (PutsItsLoad (command.Ln c.args.from.now c.args.to.now) c.refused_ln.new.self (g.P.SectorView.space c.refused_ln.new.space) (g.P.SectorView.space c.ln_fine.new.space)) (PutsItsLoad (command.Ln c.args.from.now c.args.to.now) c.args.volume.now (g.P.SectorView.space c.args.space.now) (g.P.SectorView.space c.ln_fine.new.space)) c.ln_fine.result
-    (c.ln_fine.ensures.loads (c.refused_ln.ensures.reads.looks.same.tells ∙ tells))
-    (puts_still (command.Ln c.args.from.now c.args.to.now) c.args.volume.now c.refused_ln.new.self (g.P.SectorView.space c.args.space.now) (g.P.SectorView.space c.refused_ln.new.space) (g.P.SectorView.space c.ln_fine.new.space) c.refused_ln.ensures.reads tells)
+    puts_still (command.Ln c.args.from.now c.args.to.now) c.args.volume.now c.refused_ln.new.self (g.P.SectorView.space c.args.space.now) (g.P.SectorView.space c.refused_ln.new.space) (g.P.SectorView.space c.ln_fine.new.space) c.refused_ln.ensures.reads tells (c.ln_fine.ensures.loads (c.refused_ln.ensures.reads.looks.same.tells ∙ tells))
 
 pub returns-in-Some-clause-loads : goal.returns-in-Some-clause-loads
 returns-in-Some-clause-loads g c tells n grow is = omega (arith, c.refused_ln.ensures.reads.looks.spare)
+
+pub returns-in_err-why-clause-loads : goal.returns-in_err-why-clause-loads
+returns-in_err-why-clause-loads g c tells n grow is = omega (arith, c.refused_ln.ensures.reads.looks.spare)

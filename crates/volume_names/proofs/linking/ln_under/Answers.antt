@@ -1,5 +1,5 @@
-use Rattle.volume_names.proofs.LinkLoads.{puts_its_load, spends_still}
-use Rattle.std.proofs.Common.{◌≡◌, ℕ, List, sym, ◌∙◌, ap, subst}
+use Rattle.volume_names.proofs.LinkLoads.{puts_still}
+use Rattle.std.proofs.Common.{◌≡◌, ℕ, List, sym, ◌∙◌, ap, subst, arith}
 use Rattle.std.specs.List.{Contains}
 use Rattle.std.proofs.lemmas.Bool.{true≢false}
 use Rattle.sector_disk.specs.Lists.{Content}
@@ -131,6 +131,18 @@ returns-in_err-way-clause-blocks g c = blocks_read c.args.volume.now c.route.new
 
 pub returns-in_ok-link_way-in-Ok-clause-loads : goal.returns-in_ok-link_way-in-Ok-clause-loads
 returns-in_ok-link_way-in-Ok-clause-loads g c tells =
-    puts_its_load c.args.volume.now (g.P.SectorView.space c.args.space.now) (g.P.SectorView.space c.link_way.new.space) (c.requires.settled tells) c.args.from.now c.args.to.now
-    (returns-in_ok-link_way-in-Ok-clause-tree g c tells ∙ sym (linked_line (tree_of (g.P.SectorView.space c.args.space.now).content) c.args.from.now c.args.to.now (c.requires.fine tells)).1)
-    (spends_still c.args.volume.now c.route.new.self (g.P.SectorView.space c.args.space.now) (g.P.SectorView.space c.route.new.space) (g.P.SectorView.space c.link_way.new.space) c.route.ensures.reads tells (c.in_ok-link_way-in-Ok.ensures.spends (c.route.ensures.reads.looks.same.tells ∙ tells)))
+    puts_still (command.Ln c.args.from.now c.args.to.now) c.args.volume.now c.route.new.self (g.P.SectorView.space c.args.space.now) (g.P.SectorView.space c.route.new.space) (g.P.SectorView.space c.link_way.new.space) c.route.ensures.reads tells
+    (c.link_way.ensures.loads (c.route.ensures.reads.looks.same.tells ∙ tells) c.args.from.now c.args.to.now (linked_at c.sound_has_plain_tree.ensures c.args.volume.now (g.P.SectorView.space c.args.space.now).content (c.requires.stands.stands tells).trees (c.requires.settled tells) c.args.from.now c.args.to.now c.args.above.now c.args.under.now c.args.old.now c.args.name.now c.requires.split c.requires.goal_split (c.requires.fine tells) c.requires.from_fits c.requires.to_fits c.in_ok-way.field-0 (subst (λ (p : List (List ℕ)). c.in_ok-way.field-0 ≡ route_in (lists_of c.args.volume.now (g.P.SectorView.space c.args.space.now).content).catalog_pairs c.args.volume.now.private p c.args.above.now c.args.under.now c.args.name.now) c.as_slice.ensures (c.in_ok-way.ensures.found tells)) c.in-Ok.way c.in-Ok.is)
+    (subst (λ (k : Content). IsLinking (tree_of k) c.args.from.now c.args.to.now (linked_at c.sound_has_plain_tree.ensures c.args.volume.now (g.P.SectorView.space c.args.space.now).content (c.requires.stands.stands tells).trees (c.requires.settled tells) c.args.from.now c.args.to.now c.args.above.now c.args.under.now c.args.old.now c.args.name.now c.requires.split c.requires.goal_split (c.requires.fine tells) c.requires.from_fits c.requires.to_fits c.in_ok-way.field-0 (subst (λ (p : List (List ℕ)). c.in_ok-way.field-0 ≡ route_in (lists_of c.args.volume.now (g.P.SectorView.space c.args.space.now).content).catalog_pairs c.args.volume.now.private p c.args.above.now c.args.under.now c.args.name.now) c.as_slice.ensures (c.in_ok-way.ensures.found tells)) c.in-Ok.way c.in-Ok.is) c.in-Ok.way.parent c.args.old.now c.in-Ok.way.id c.in-Ok.way.folder c.args.name.now) (sym (c.route.ensures.reads.looks.content tells)) (is_linking c.sound_has_plain_tree.ensures c.args.volume.now (g.P.SectorView.space c.args.space.now).content (c.requires.stands.stands tells).trees (c.requires.settled tells) c.args.from.now c.args.to.now c.args.above.now c.args.under.now c.args.old.now c.args.name.now c.requires.split c.requires.goal_split (c.requires.fine tells) c.requires.from_fits c.requires.to_fits c.in_ok-way.field-0 (subst (λ (p : List (List ℕ)). c.in_ok-way.field-0 ≡ route_in (lists_of c.args.volume.now (g.P.SectorView.space c.args.space.now).content).catalog_pairs c.args.volume.now.private p c.args.above.now c.args.under.now c.args.name.now) c.as_slice.ensures (c.in_ok-way.ensures.found tells)) c.in-Ok.way c.in-Ok.is)))
+
+pub returns-in_err-link_way-in-Ok-clause-loads : goal.returns-in_err-link_way-in-Ok-clause-loads
+returns-in_err-link_way-in-Ok-clause-loads g c tells =
+    puts_still (command.Ln c.args.from.now c.args.to.now) c.args.volume.now c.route.new.self (g.P.SectorView.space c.args.space.now) (g.P.SectorView.space c.route.new.space) (g.P.SectorView.space c.link_way.new.space) c.route.ensures.reads tells
+    (c.link_way.ensures.loads (c.route.ensures.reads.looks.same.tells ∙ tells) c.args.from.now c.args.to.now (linked_at c.sound_has_plain_tree.ensures c.args.volume.now (g.P.SectorView.space c.args.space.now).content (c.requires.stands.stands tells).trees (c.requires.settled tells) c.args.from.now c.args.to.now c.args.above.now c.args.under.now c.args.old.now c.args.name.now c.requires.split c.requires.goal_split (c.requires.fine tells) c.requires.from_fits c.requires.to_fits c.in_ok-way.field-0 (subst (λ (p : List (List ℕ)). c.in_ok-way.field-0 ≡ route_in (lists_of c.args.volume.now (g.P.SectorView.space c.args.space.now).content).catalog_pairs c.args.volume.now.private p c.args.above.now c.args.under.now c.args.name.now) c.as_slice.ensures (c.in_ok-way.ensures.found tells)) c.in-Ok.way c.in-Ok.is)
+    (subst (λ (k : Content). IsLinking (tree_of k) c.args.from.now c.args.to.now (linked_at c.sound_has_plain_tree.ensures c.args.volume.now (g.P.SectorView.space c.args.space.now).content (c.requires.stands.stands tells).trees (c.requires.settled tells) c.args.from.now c.args.to.now c.args.above.now c.args.under.now c.args.old.now c.args.name.now c.requires.split c.requires.goal_split (c.requires.fine tells) c.requires.from_fits c.requires.to_fits c.in_ok-way.field-0 (subst (λ (p : List (List ℕ)). c.in_ok-way.field-0 ≡ route_in (lists_of c.args.volume.now (g.P.SectorView.space c.args.space.now).content).catalog_pairs c.args.volume.now.private p c.args.above.now c.args.under.now c.args.name.now) c.as_slice.ensures (c.in_ok-way.ensures.found tells)) c.in-Ok.way c.in-Ok.is) c.in-Ok.way.parent c.args.old.now c.in-Ok.way.id c.in-Ok.way.folder c.args.name.now) (sym (c.route.ensures.reads.looks.content tells)) (is_linking c.sound_has_plain_tree.ensures c.args.volume.now (g.P.SectorView.space c.args.space.now).content (c.requires.stands.stands tells).trees (c.requires.settled tells) c.args.from.now c.args.to.now c.args.above.now c.args.under.now c.args.old.now c.args.name.now c.requires.split c.requires.goal_split (c.requires.fine tells) c.requires.from_fits c.requires.to_fits c.in_ok-way.field-0 (subst (λ (p : List (List ℕ)). c.in_ok-way.field-0 ≡ route_in (lists_of c.args.volume.now (g.P.SectorView.space c.args.space.now).content).catalog_pairs c.args.volume.now.private p c.args.above.now c.args.under.now c.args.name.now) c.as_slice.ensures (c.in_ok-way.ensures.found tells)) c.in-Ok.way c.in-Ok.is)))
+
+pub returns-in-Err-clause-loads : goal.returns-in-Err-clause-loads
+returns-in-Err-clause-loads g c tells n grow is = omega (arith, c.route.ensures.reads.looks.spare)
+
+pub returns-in_err-way-clause-loads : goal.returns-in_err-way-clause-loads
+returns-in_err-way-clause-loads g c tells n grow is = omega (arith, c.route.ensures.reads.looks.spare)

@@ -11,7 +11,7 @@ use Rattle.volume_base.specs.Touching.{Touches}
 use Rattle.volume_names.proofs.Buried.{buried_does, from_after, threads_hidden}
 use Rattle.volume_base.proofs.Besides.{blocks_both, blocks_none}
 use Rattle.volume_base.proofs.Commanding.{touches_both, touches_none}
-use Rattle.volume_base.proofs.FoundEntry.{ok_both, ok_true}
+use Rattle.volume_base.proofs.FoundEntry.{ok_both}
 use Rattle.volume_base.proofs.Replaced.{node_large}
 use Rattle.volume_names.proofs.losing.bury.Goals as goal
 
@@ -74,8 +74,10 @@ touch-requires-clause-room g c = c.in_ok-hide.ensures.room
 pub returns-clause-leaves : goal.returns-clause-leaves
 returns-clause-leaves g c tells beside had =
     let later = (c.hide.ensures.touches (g.P.SectorView.space c.args.space.now).content).same.tells ∙ tells in
-    ok_true c.touch.result (omega (arith, c.in_ok-hide.ensures.leaves tells beside had, c.touch.ensures.spent later, ap (λ n. n / 512) c.in_ok-hide.ensures.size))
+    omega (arith, c.hide.ensures.leaves tells beside had, c.touch.ensures.spent later, ap (λ n. n / 512) c.in_ok-hide.ensures.size)
+
+pub returns-in_err-hide-clause-leaves : goal.returns-in_err-hide-clause-leaves
+returns-in_err-hide-clause-leaves g c tells beside had = omega (arith, c.hide.ensures.leaves tells beside had)
 
 pub returns-then-shape-lt4096-clause-leaves : goal.returns-then-shape-lt4096-clause-leaves
-returns-then-shape-lt4096-clause-leaves g c tells beside had =
-    absurd (omega (arith, c.if-shape-lt4096.true, ap (λ (s : TreeShape). s.node_size) c.shape.ensures, node_large c.args.volume.now (g.P.SectorView.space c.args.space.now) c.requires.stands tells))
+returns-then-shape-lt4096-clause-leaves g c tells beside had = omega (arith, (had.told tells).0)

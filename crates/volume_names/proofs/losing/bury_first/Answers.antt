@@ -1,4 +1,4 @@
-use Rattle.std.proofs.Common.{◌≡◌, ◌*◌, ℕ, List, sym, ◌∙◌, ap, subst, ◌+◌, ◌≤◌, arith}
+use Rattle.std.proofs.Common.{◌≡◌, ◌*◌, ℕ, List, sym, ◌∙◌, ap, subst, arith, inl, inr}
 use Rattle.std.specs.List.{Contains}
 use Rattle.hfs_language.specs.declared.command.Command.TheVariants as command
 use Rattle.hfs_model.specs.Step.{step}
@@ -13,7 +13,6 @@ use Rattle.volume_base.proofs.Commanding.{touches_both, touches_none}
 use Rattle.volume_base.proofs.FoundEntry.{ok_so}
 use Rattle.volume_names.proofs.PrivateLoss.{loss_then, lost_both, only_then}
 use Rattle.volume_names.proofs.LossLoads.{load_aside, rest_aside}
-use Rattle.volume_names.specs.LossLoads.{SpendsFor}
 use Rattle.volume_names.proofs.losing.bury_first.Goals as goal
 
 pub bury-requires-clause-settled : goal.bury-requires-clause-settled
@@ -74,6 +73,18 @@ pub returns-in-Some-clause-spends : goal.returns-in-Some-clause-spends
 returns-in-Some-clause-spends g c tells =
     let later = (c.open_private.ensures.touches (g.P.SectorView.space c.args.space.now).content).same.tells ∙ tells in
     let load = load_aside c.args.volume.now (g.P.SectorView.space c.args.space.now) (c.fits_aside.ensures.load c.if-not-fits_aside.false) in
-    ok_so (rest_aside c.args.volume.now (g.P.SectorView.space c.args.space.now) ≤ (g.P.SectorView.space c.bury.new.space).spare + 2 * catalog_node c.open_private.new.volume) (SpendsFor 5 c.args.volume.now (g.P.SectorView.space c.args.space.now) (g.P.SectorView.space c.bury.new.space)) c.bury.result
-    (c.bury.ensures.leaves later (rest_aside c.args.volume.now (g.P.SectorView.space c.args.space.now)) (c.in_ok-open_private.ensures.left 3 (rest_aside c.args.volume.now (g.P.SectorView.space c.args.space.now)) load))
-    (λ rest. record { grown = load.grown tells; spent = omega (arith, rest, load.load tells, c.in_ok-open_private.ensures.nodes tells) })
+    let left = c.bury.ensures.leaves later (rest_aside c.args.volume.now (g.P.SectorView.space c.args.space.now)) (c.in_ok-open_private.ensures.left 3 (rest_aside c.args.volume.now (g.P.SectorView.space c.args.space.now)) load) in
+    inr (record { grown = load.grown tells; spent = omega (arith, left, load.load tells, c.in_ok-open_private.ensures.nodes tells) })
+
+pub returns-in-None-clause-spends : goal.returns-in-None-clause-spends
+returns-in-None-clause-spends g c tells =
+    let load = load_aside c.args.volume.now (g.P.SectorView.space c.args.space.now) (c.fits_aside.ensures.load c.if-not-fits_aside.false) in
+    inr (record { grown = load.grown tells; spent = omega (arith, c.open_private.ensures.beside 3 (rest_aside c.args.volume.now (g.P.SectorView.space c.args.space.now)) load tells, load.load tells) })
+
+pub returns-in_err-open_private-clause-spends : goal.returns-in_err-open_private-clause-spends
+returns-in_err-open_private-clause-spends g c tells =
+    let load = load_aside c.args.volume.now (g.P.SectorView.space c.args.space.now) (c.fits_aside.ensures.load c.if-not-fits_aside.false) in
+    inr (record { grown = load.grown tells; spent = omega (arith, c.open_private.ensures.beside 3 (rest_aside c.args.volume.now (g.P.SectorView.space c.args.space.now)) load tells, load.load tells) })
+
+pub returns-then-not-fits_aside-clause-spends : goal.returns-then-not-fits_aside-clause-spends
+returns-then-not-fits_aside-clause-spends g c tells = inl (omega arith)

@@ -7,7 +7,7 @@ use Rattle.volume_base.proofs.Added.{own_edited}
 use Rattle.volume_names.proofs.Buried.{private_after, puts_aside, threads_aside}
 use Rattle.volume_base.proofs.Commanding.{touches_both}
 use Rattle.volume_base.proofs.FoundEntry.{ok_so, ok_true, settled_threads}
-use Rattle.volume_names.proofs.EditsLeft.{first_update, node_aside, room_aside, spent_aside, updates_aside, left_edited}
+use Rattle.volume_names.proofs.EditsLeft.{first_update, node_aside, room_aside, spare_edited, spent_aside, updates_aside}
 use Rattle.volume_base.proofs.Besides.{blocks_both, blocks_edit}
 use Rattle.volume_names.proofs.losing.hide.Goals as goal
 
@@ -77,6 +77,7 @@ returns-clause-room g c =
 
 pub returns-clause-leaves : goal.returns-clause-leaves
 returns-clause-leaves g c tells beside had =
-    let later = c.set_aside.ensures.frame.space.same.tells ∙ tells in
-    let left = left_edited 3 0 beside c.args.volume.now c.set_aside.new.volume (g.P.SectorView.space c.args.space.now) (g.P.SectorView.space c.set_aside.new.space) (λ told. c.requires.size) c.set_aside.ensures.frame.space.same.tells (c.in_ok-set_aside.ensures.edits []) had in
-    ok_true c.touch.result (omega (arith, (left.told later).0, c.touch.ensures.spent later, ap (λ n. n / 512) c.set_aside.ensures.frame.file.node_size))
+    omega (arith, spare_edited 3 0 beside c.args.volume.now c.set_aside.new.volume (g.P.SectorView.space c.args.space.now) (g.P.SectorView.space c.set_aside.new.space) (λ told. c.requires.size) (c.set_aside.ensures.takes []) had tells, c.touch.ensures.spent (c.set_aside.ensures.frame.space.same.tells ∙ tells), ap (λ n. n / 512) c.set_aside.ensures.frame.file.node_size)
+
+pub returns-in_err-set_aside-clause-leaves : goal.returns-in_err-set_aside-clause-leaves
+returns-in_err-set_aside-clause-leaves g c tells beside had = omega (arith, spare_edited 3 0 beside c.args.volume.now c.set_aside.new.volume (g.P.SectorView.space c.args.space.now) (g.P.SectorView.space c.set_aside.new.space) (λ told. c.requires.size) (c.set_aside.ensures.takes []) had tells)

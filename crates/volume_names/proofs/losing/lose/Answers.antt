@@ -1,3 +1,4 @@
+use Rattle.volume_names.proofs.LossLoads.{none_so}
 use Rattle.std.proofs.Common.{◌≡◌, inl, inr, length, sym, ap, subst, arith, ℕ, Bool}
 use Rattle.hard_links.specs.declared.place.EntryAt.{EntryAt}
 use Rattle.hfs_language.specs.declared.command.Command.TheVariants as command
@@ -9,7 +10,7 @@ use Rattle.volume_base.specs.Losing.{IsLoss, IsOnlyName}
 use Rattle.volume_base.specs.Standing.{IsSettled}
 use Rattle.volume_names.specs.Unlinking.{LosesLink}
 use Rattle.volume_names.proofs.Buried.{loses_there}
-use Rattle.volume_base.proofs.FoundEntry.{ok_so, ok_true}
+use Rattle.volume_base.proofs.FoundEntry.{ok_so}
 use Rattle.volume_base.proofs.Replaced.{node_large}
 use Rattle.volume_names.proofs.EditsLeft.{left_of_move}
 use Rattle.std.specs.Prelude.{Option, is_some}
@@ -89,15 +90,24 @@ returns-then-at-clause-does g c tells entry loss =
 
 pub returns-in_ok-place-in-Some-clause-spends : goal.returns-in_ok-place-in-Some-clause-spends
 returns-in_ok-place-in-Some-clause-spends g c tells entry loss =
-    ok_true c.bury.result (subst (λ (link : Bool). SpendsLoss link entry.id c.args.volume.now (g.P.SectorView.space c.args.space.now) (g.P.SectorView.space c.bury.new.space)) (sym c.if-at.false)
+    inr (subst (λ (link : Bool). SpendsLoss link entry.id c.args.volume.now (g.P.SectorView.space c.args.space.now) (g.P.SectorView.space c.bury.new.space)) (sym c.if-at.false)
     (inl (ap (λ (o : Option ℕ). is_some o) c.in-Some.is, record { grown = ((c.fits_move.ensures.room c.if-not-fits_move.false).told tells).2; spent = omega (arith, c.bury.ensures.spent tells) })))
 
 pub returns-in_ok-place-in-None-clause-spends : goal.returns-in_ok-place-in-None-clause-spends
 returns-in_ok-place-in-None-clause-spends g c tells entry loss =
-    ok_so (SpendsFor 5 c.args.volume.now (g.P.SectorView.space c.args.space.now) (g.P.SectorView.space c.bury_first.new.space)) (SpendsLoss c.args.at.link entry.id c.args.volume.now (g.P.SectorView.space c.args.space.now) (g.P.SectorView.space c.bury_first.new.space)) c.bury_first.result (c.bury_first.ensures.spends tells)
+    none_so (SpendsFor 5 c.args.volume.now (g.P.SectorView.space c.args.space.now) (g.P.SectorView.space c.bury_first.new.space)) (SpendsLoss c.args.at.link entry.id c.args.volume.now (g.P.SectorView.space c.args.space.now) (g.P.SectorView.space c.bury_first.new.space)) (g.P.SectorView.space c.args.space.now) (g.P.SectorView.space c.bury_first.new.space) (c.bury_first.ensures.spends tells)
     (λ it. subst (λ (link : Bool). SpendsLoss link entry.id c.args.volume.now (g.P.SectorView.space c.args.space.now) (g.P.SectorView.space c.bury_first.new.space)) (sym c.if-at.false) (inr (c.in-None.is, it)))
 
 pub returns-then-at-clause-spends : goal.returns-then-at-clause-spends
 returns-then-at-clause-spends g c tells entry loss =
-    ok_so (SpendsShared entry.id c.args.volume.now (g.P.SectorView.space c.args.space.now) (g.P.SectorView.space c.lose_link.new.space)) (SpendsLoss c.args.at.link entry.id c.args.volume.now (g.P.SectorView.space c.args.space.now) (g.P.SectorView.space c.lose_link.new.space)) c.lose_link.result (c.lose_link.ensures.spends tells entry loss)
+    none_so (SpendsShared entry.id c.args.volume.now (g.P.SectorView.space c.args.space.now) (g.P.SectorView.space c.lose_link.new.space)) (SpendsLoss c.args.at.link entry.id c.args.volume.now (g.P.SectorView.space c.args.space.now) (g.P.SectorView.space c.lose_link.new.space)) (g.P.SectorView.space c.args.space.now) (g.P.SectorView.space c.lose_link.new.space) (c.lose_link.ensures.spends tells entry loss)
     (λ it. subst (λ (link : Bool). SpendsLoss link entry.id c.args.volume.now (g.P.SectorView.space c.args.space.now) (g.P.SectorView.space c.lose_link.new.space)) (sym c.if-at.true) it)
+
+pub returns-then-not-fits_move-clause-spends : goal.returns-then-not-fits_move-clause-spends
+returns-then-not-fits_move-clause-spends g c tells entry loss = inl (omega arith)
+
+pub returns-in_err-place-in-Some-clause-spends : goal.returns-in_err-place-in-Some-clause-spends
+returns-in_err-place-in-Some-clause-spends g c tells entry loss = inl (omega arith)
+
+pub returns-in_err-place-in-None-clause-spends : goal.returns-in_err-place-in-None-clause-spends
+returns-in_err-place-in-None-clause-spends g c tells entry loss = inl (omega arith)

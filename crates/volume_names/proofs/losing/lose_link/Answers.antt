@@ -1,4 +1,4 @@
-use Rattle.std.proofs.Common.{◌≡◌, ℕ, List, length, sym, ◌∙◌, ap, subst, arith}
+use Rattle.std.proofs.Common.{◌≡◌, ℕ, List, length, sym, ◌∙◌, ap, subst, arith, inl}
 use Rattle.std.specs.Prelude.{OnOk}
 use Rattle.std.specs.List.{Contains}
 use Rattle.sector_disk.specs.Lists.{Content}
@@ -18,9 +18,8 @@ use Rattle.volume_base.proofs.Lost.{id_told}
 use Rattle.volume_base.proofs.RoomToRemove.{remove_room_still}
 use Rattle.volume_base.proofs.Still.{lists_still, own_still}
 use Rattle.volume_base.proofs.ToNode.{node_told}
-use Rattle.volume_names.proofs.LossLoads.{shared_still}
+use Rattle.volume_names.proofs.LossLoads.{none_still, shared_still}
 use Rattle.volume_names.specs.LossLoads.{SpendsShared}
-use Rattle.volume_base.proofs.FoundEntry.{ok_so}
 use Rattle.volume_names.proofs.losing.lose_link.Goals as goal
 
 pub lose_one-requires-clause-settled : goal.lose_one-requires-clause-settled
@@ -102,6 +101,15 @@ returns-in_err-id-clause-blocks g c = blocks_read c.args.volume.now c.owner.new.
 pub returns-in_ok-place-in-Ok-clause-spends : goal.returns-in_ok-place-in-Ok-clause-spends
 returns-in_ok-place-in-Ok-clause-spends g c tells entry loss =
     let n = node_told c.sound_has_plain_tree.ensures c.args.volume.now (g.P.SectorView.space c.args.space.now).content (c.requires.stands.stands tells).trees (c.requires.settled tells) c.args.path.now c.requires.not_own c.requires.fits c.in_ok-id.field-0 (c.in_ok-id.ensures.found tells) c.in-Ok.id c.in-Ok.is in
-    ok_so (SpendsShared c.in-Ok.id c.owner.new.self (g.P.SectorView.space c.owner.new.space) (g.P.SectorView.space c.lose_one.new.space)) (SpendsShared entry.id c.args.volume.now (g.P.SectorView.space c.args.space.now) (g.P.SectorView.space c.lose_one.new.space)) c.lose_one.result (c.lose_one.ensures.spends (c.owner.ensures.reads.looks.same.tells ∙ tells))
+    none_still (SpendsShared c.in-Ok.id c.owner.new.self (g.P.SectorView.space c.owner.new.space) (g.P.SectorView.space c.lose_one.new.space)) (SpendsShared entry.id c.args.volume.now (g.P.SectorView.space c.args.space.now) (g.P.SectorView.space c.lose_one.new.space)) c.args.volume.now c.owner.new.self (g.P.SectorView.space c.args.space.now) (g.P.SectorView.space c.owner.new.space) (g.P.SectorView.space c.lose_one.new.space) c.owner.ensures.reads (c.lose_one.ensures.spends (c.owner.ensures.reads.looks.same.tells ∙ tells))
     (λ it. subst (λ (id : ℕ). SpendsShared id c.args.volume.now (g.P.SectorView.space c.args.space.now) (g.P.SectorView.space c.lose_one.new.space)) (sym (id_told (tree_of (g.P.SectorView.space c.args.space.now).content) c.args.path.now entry n.0 loss.reaches_it n.1 ∙ n.2))
     (shared_still c.in-Ok.id c.args.volume.now c.owner.new.self (g.P.SectorView.space c.args.space.now) (g.P.SectorView.space c.owner.new.space) (g.P.SectorView.space c.lose_one.new.space) c.owner.ensures.reads tells it))
+
+pub returns-in-Err-clause-spends : goal.returns-in-Err-clause-spends
+returns-in-Err-clause-spends g c tells entry loss = inl (omega (arith, c.owner.ensures.reads.looks.spare))
+
+pub returns-in_err-id-clause-spends : goal.returns-in_err-id-clause-spends
+returns-in_err-id-clause-spends g c tells entry loss = inl (omega (arith, c.owner.ensures.reads.looks.spare))
+
+pub returns-in_err-place-in-Ok-clause-spends : goal.returns-in_err-place-in-Ok-clause-spends
+returns-in_err-place-in-Ok-clause-spends g c tells entry loss = inl (omega (arith, c.owner.ensures.reads.looks.spare))

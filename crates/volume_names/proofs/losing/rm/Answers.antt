@@ -79,7 +79,7 @@ rm_under-requires-clause-split g c = sym c.as_slice.ensures ∙ c.in-Some.ensure
 
 pub returns-in-Some-clause-loads : goal.returns-in-Some-clause-loads
 returns-in-Some-clause-loads g c tells =
-    subst (λ (p : List (List ℕ)). OnOk c.rm_under.result (PutsItsLoad (command.Rm p) c.args.volume.now (g.P.SectorView.space c.args.space.now) (g.P.SectorView.space c.rm_under.new.space))) (sym c.in-Some.ensures.cases.0 ∙ c.as_slice.ensures) (c.rm_under.ensures.loads tells)
+    subst (λ (p : List (List ℕ)). PutsItsLoad (command.Rm p) c.args.volume.now (g.P.SectorView.space c.args.space.now) (g.P.SectorView.space c.rm_under.new.space)) (sym c.in-Some.ensures.cases.0 ∙ c.as_slice.ensures) (c.rm_under.ensures.loads tells)
 
 pub returns-in-None-clause-loads : goal.returns-in-None-clause-loads
 returns-in-None-clause-loads g c tells n grow is = omega arith

@@ -1,4 +1,4 @@
-use Rattle.std.proofs.Common.{◌≡◌, ℕ, List, sym, ◌∙◌, ap, subst, arith}
+use Rattle.std.proofs.Common.{◌≡◌, ℕ, List, sym, ◌∙◌, ap, subst, arith, inl, inr}
 use Rattle.std.specs.List.{Contains}
 use Rattle.std.proofs.lemmas.Bool.{true≢false}
 use Rattle.sector_disk.specs.Lists.{Content}
@@ -22,7 +22,7 @@ use Rattle.volume_base.proofs.Sited.{fits_above, fits_name}
 use Rattle.volume_base.proofs.Still.{lists_still, own_still}
 use Rattle.volume_names.proofs.LossLoads.{loss_still}
 use Rattle.volume_names.proofs.LossWeight.{loss_load}
-use Rattle.volume_names.specs.LossLoads.{SpendsLoss}
+use Rattle.volume_names.specs.LossLoads.{NoneOr, SpendsLoss}
 use Rattle.volume_names.proofs.losing.rm_under.Goals as goal
 
 pub losing-requires-clause-fits : goal.losing-requires-clause-fits
@@ -165,10 +165,30 @@ pub returns-in_ok-lose-in-Ok-clause-loads : goal.returns-in_ok-lose-in-Ok-clause
 returns-in_ok-lose-in-Ok-clause-loads g c tells =
     let later = c.losing.ensures.reads.looks.same.tells ∙ tells in
     let loss = (is_loss c.sound_has_plain_tree.ensures c.args.volume.now (g.P.SectorView.space c.args.space.now).content (c.requires.stands.stands tells).trees (c.requires.settled tells) c.args.above.now c.args.name.now c.requires.not_own c.requires.fits c.in_ok-at.field-0 (c.in_ok-at.ensures.found tells) c.in-Ok.at c.in-Ok.is) in
-    let spends = (subst (λ (p : List (List ℕ)). (entry : PlainEntry) → IsLoss (tree_of (g.P.SectorView.space c.losing.new.space).content) p entry (place_of c.in-Ok.at c.args.name.now) → SpendsLoss c.in-Ok.at.link entry.id c.losing.new.volume (g.P.SectorView.space c.losing.new.space) (g.P.SectorView.space c.lose.new.space)) c.requires.split (c.in_ok-lose-in-Ok.ensures.spends later))
+    let spends = (subst (λ (p : List (List ℕ)). (entry : PlainEntry) → IsLoss (tree_of (g.P.SectorView.space c.losing.new.space).content) p entry (place_of c.in-Ok.at c.args.name.now) → NoneOr (SpendsLoss c.in-Ok.at.link entry.id c.losing.new.volume (g.P.SectorView.space c.losing.new.space) (g.P.SectorView.space c.lose.new.space)) (g.P.SectorView.space c.losing.new.space) (g.P.SectorView.space c.lose.new.space)) c.requires.split (c.lose.ensures.spends later))
     (lost c.sound_has_plain_tree.ensures c.args.volume.now (g.P.SectorView.space c.args.space.now).content (c.requires.stands.stands tells).trees (c.requires.settled tells) c.args.above.now c.args.name.now c.requires.not_own c.requires.fits c.in_ok-at.field-0 (c.in_ok-at.ensures.found tells) c.in-Ok.at c.in-Ok.is) (subst (λ (k : Content). IsLoss (tree_of k) (path_to c.args.above.now c.args.name.now) (lost c.sound_has_plain_tree.ensures c.args.volume.now (g.P.SectorView.space c.args.space.now).content (c.requires.stands.stands tells).trees (c.requires.settled tells) c.args.above.now c.args.name.now c.requires.not_own c.requires.fits c.in_ok-at.field-0 (c.in_ok-at.ensures.found tells) c.in-Ok.at c.in-Ok.is) (place_of c.in-Ok.at c.args.name.now)) (sym (c.losing.ensures.reads.looks.content tells)) loss) in
-    loss_load c.sound_has_plain_tree.ensures c.args.volume.now (g.P.SectorView.space c.args.space.now) (c.requires.stands.stands tells) (c.requires.settled tells) c.requires.stands.service.fits.next_catalog_id c.args.above.now c.args.name.now c.requires.not_own c.requires.fits c.in_ok-at.field-0 (c.in_ok-at.ensures.found tells) c.in-Ok.at c.in-Ok.is (g.P.SectorView.space c.lose.new.space)
-    (loss_still c.in-Ok.at.link (lost c.sound_has_plain_tree.ensures c.args.volume.now (g.P.SectorView.space c.args.space.now).content (c.requires.stands.stands tells).trees (c.requires.settled tells) c.args.above.now c.args.name.now c.requires.not_own c.requires.fits c.in_ok-at.field-0 (c.in_ok-at.ensures.found tells) c.in-Ok.at c.in-Ok.is).id c.args.volume.now c.losing.new.volume (g.P.SectorView.space c.args.space.now) (g.P.SectorView.space c.losing.new.space) (g.P.SectorView.space c.lose.new.space) c.losing.ensures.reads tells spends)
+    elim spends [
+      | inl none ↦ λ n grow is. omega (arith, none, c.losing.ensures.reads.looks.spare)
+      | inr it ↦
+          loss_load c.sound_has_plain_tree.ensures c.args.volume.now (g.P.SectorView.space c.args.space.now) (c.requires.stands.stands tells) (c.requires.settled tells) c.requires.stands.service.fits.next_catalog_id c.args.above.now c.args.name.now c.requires.not_own c.requires.fits c.in_ok-at.field-0 (c.in_ok-at.ensures.found tells) c.in-Ok.at c.in-Ok.is (g.P.SectorView.space c.lose.new.space)
+          (loss_still c.in-Ok.at.link (lost c.sound_has_plain_tree.ensures c.args.volume.now (g.P.SectorView.space c.args.space.now).content (c.requires.stands.stands tells).trees (c.requires.settled tells) c.args.above.now c.args.name.now c.requires.not_own c.requires.fits c.in_ok-at.field-0 (c.in_ok-at.ensures.found tells) c.in-Ok.at c.in-Ok.is).id c.args.volume.now c.losing.new.volume (g.P.SectorView.space c.args.space.now) (g.P.SectorView.space c.losing.new.space) (g.P.SectorView.space c.lose.new.space) c.losing.ensures.reads tells it)
+    ]
+
+pub returns-in_err-lose-in-Ok-clause-loads : goal.returns-in_err-lose-in-Ok-clause-loads
+returns-in_err-lose-in-Ok-clause-loads g c tells =
+    let later = c.losing.ensures.reads.looks.same.tells ∙ tells in
+    let loss = (is_loss c.sound_has_plain_tree.ensures c.args.volume.now (g.P.SectorView.space c.args.space.now).content (c.requires.stands.stands tells).trees (c.requires.settled tells) c.args.above.now c.args.name.now c.requires.not_own c.requires.fits c.in_ok-at.field-0 (c.in_ok-at.ensures.found tells) c.in-Ok.at c.in-Ok.is) in
+    let spends = (subst (λ (p : List (List ℕ)). (entry : PlainEntry) → IsLoss (tree_of (g.P.SectorView.space c.losing.new.space).content) p entry (place_of c.in-Ok.at c.args.name.now) → NoneOr (SpendsLoss c.in-Ok.at.link entry.id c.losing.new.volume (g.P.SectorView.space c.losing.new.space) (g.P.SectorView.space c.lose.new.space)) (g.P.SectorView.space c.losing.new.space) (g.P.SectorView.space c.lose.new.space)) c.requires.split (c.lose.ensures.spends later))
+    (lost c.sound_has_plain_tree.ensures c.args.volume.now (g.P.SectorView.space c.args.space.now).content (c.requires.stands.stands tells).trees (c.requires.settled tells) c.args.above.now c.args.name.now c.requires.not_own c.requires.fits c.in_ok-at.field-0 (c.in_ok-at.ensures.found tells) c.in-Ok.at c.in-Ok.is) (subst (λ (k : Content). IsLoss (tree_of k) (path_to c.args.above.now c.args.name.now) (lost c.sound_has_plain_tree.ensures c.args.volume.now (g.P.SectorView.space c.args.space.now).content (c.requires.stands.stands tells).trees (c.requires.settled tells) c.args.above.now c.args.name.now c.requires.not_own c.requires.fits c.in_ok-at.field-0 (c.in_ok-at.ensures.found tells) c.in-Ok.at c.in-Ok.is) (place_of c.in-Ok.at c.args.name.now)) (sym (c.losing.ensures.reads.looks.content tells)) loss) in
+    elim spends [
+      | inl none ↦ λ n grow is. omega (arith, none, c.losing.ensures.reads.looks.spare)
+      | inr it ↦
+          loss_load c.sound_has_plain_tree.ensures c.args.volume.now (g.P.SectorView.space c.args.space.now) (c.requires.stands.stands tells) (c.requires.settled tells) c.requires.stands.service.fits.next_catalog_id c.args.above.now c.args.name.now c.requires.not_own c.requires.fits c.in_ok-at.field-0 (c.in_ok-at.ensures.found tells) c.in-Ok.at c.in-Ok.is (g.P.SectorView.space c.lose.new.space)
+          (loss_still c.in-Ok.at.link (lost c.sound_has_plain_tree.ensures c.args.volume.now (g.P.SectorView.space c.args.space.now).content (c.requires.stands.stands tells).trees (c.requires.settled tells) c.args.above.now c.args.name.now c.requires.not_own c.requires.fits c.in_ok-at.field-0 (c.in_ok-at.ensures.found tells) c.in-Ok.at c.in-Ok.is).id c.args.volume.now c.losing.new.volume (g.P.SectorView.space c.args.space.now) (g.P.SectorView.space c.losing.new.space) (g.P.SectorView.space c.lose.new.space) c.losing.ensures.reads tells it)
+    ]
 
 pub returns-in-Err-clause-loads : goal.returns-in-Err-clause-loads
 returns-in-Err-clause-loads g c tells n grow is = omega (arith, c.losing.ensures.reads.looks.spare)
+
+pub returns-in_err-at-clause-loads : goal.returns-in_err-at-clause-loads
+returns-in_err-at-clause-loads g c tells n grow is = omega (arith, c.losing.ensures.reads.looks.spare)

@@ -14,7 +14,7 @@ use Rattle.volume_names.proofs.Made.{counts_fit, unused}
 use Rattle.volume_base.proofs.MakeRoom.{room_behind, room_for_entry, spent_entry}
 use Rattle.volume_base.proofs.Touched.{touches_header}
 use Rattle.volume_base.proofs.Besides.{blocks_both, blocks_edit, blocks_header}
-use Rattle.volume_names.proofs.EditsLeft.{left_added}
+use Rattle.volume_names.proofs.EditsLeft.{left_added, spare_added}
 use Rattle.volume_names.proofs.making.add_new.Goals as goal
 
 pub add-requires-clause-size : goal.add-requires-clause-size
@@ -98,3 +98,15 @@ returns-clause-left g c edits beside load =
 
 pub returns-clause-is_put : goal.returns-clause-is_put
 returns-clause-is_put g c tells = c.add.ensures.frame.space.still_put 2 (c.draw.ensures.is_put tells)
+
+pub returns-clause-beside : goal.returns-clause-beside
+returns-clause-beside g c edits beside load tells =
+    spare_added c.edits_have_room.ensures c.args.volume.now c.add.new.volume (g.P.SectorView.space c.args.space.now) (g.P.SectorView.space c.draw.new.space) (g.P.SectorView.space c.add.new.space) edits beside c.requires.size c.draw.ensures.within.same.tells c.draw.ensures.spent
+    (subst (λ (t : Tree). TakesAtMost 2 516 (state_of [] t.file (g.P.SectorView.space c.draw.new.space)) (state_of [] c.add.new.volume.catalog.file (g.P.SectorView.space c.add.new.space))) (ap (λ (x : Volume). x.catalog) c.draw.ensures.rest) (c.add.ensures.takes []))
+    load tells
+
+pub returns-in_err-add-clause-beside : goal.returns-in_err-add-clause-beside
+returns-in_err-add-clause-beside g c edits beside load tells =
+    spare_added c.edits_have_room.ensures c.args.volume.now c.add.new.volume (g.P.SectorView.space c.args.space.now) (g.P.SectorView.space c.draw.new.space) (g.P.SectorView.space c.add.new.space) edits beside c.requires.size c.draw.ensures.within.same.tells c.draw.ensures.spent
+    (subst (λ (t : Tree). TakesAtMost 2 516 (state_of [] t.file (g.P.SectorView.space c.draw.new.space)) (state_of [] c.add.new.volume.catalog.file (g.P.SectorView.space c.add.new.space))) (ap (λ (x : Volume). x.catalog) c.draw.ensures.rest) (c.add.ensures.takes []))
+    load tells

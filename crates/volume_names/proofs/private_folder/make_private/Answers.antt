@@ -96,3 +96,18 @@ returns-clause-nodes g c tells =
     ok_so (RecountsFolder 2 1 c.add_new.new.volume c.recount.new.volume (g.P.SectorView.space c.add_new.new.space).content (g.P.SectorView.space c.recount.new.space).content)
     (catalog_node c.recount.new.volume ≡ catalog_node c.args.volume.now) c.recount.result (c.recount.ensures.counts ((c.add_new.ensures.touches (g.P.SectorView.space c.args.space.now).content).same.tells ∙ tells))
     (λ r. ap (λ n. n / 512) (r.changes.nodes.1 ∙ (c.in_ok-add_new.ensures.adds tells).changes.nodes.1))
+
+pub returns-clause-beside : goal.returns-clause-beside
+returns-clause-beside g c edits beside load tells =
+    omega (
+      arith,
+      c.add_new.ensures.beside edits (catalog_node c.args.volume.now + beside) load tells,
+      c.recount.ensures.spent ((c.add_new.ensures.touches (g.P.SectorView.space c.args.space.now).content).same.tells ∙ tells),
+      ap (λ n. n / 512) (c.in_ok-add_new.ensures.adds tells).changes.nodes.1,
+    )
+
+pub returns-in_err-add_new-clause-beside : goal.returns-in_err-add_new-clause-beside
+returns-in_err-add_new-clause-beside g c edits beside load tells = omega (arith, c.add_new.ensures.beside edits (catalog_node c.args.volume.now + beside) load tells)
+
+pub returns-in_err-name-clause-beside : goal.returns-in_err-name-clause-beside
+returns-in_err-name-clause-beside g c edits beside load tells = omega (arith, load.load tells)

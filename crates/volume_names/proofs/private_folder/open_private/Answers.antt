@@ -47,3 +47,12 @@ returns-then-shape-lt4096-clause-ids g c tells = absurd (omega (arith, c.if-shap
 
 pub returns-then-shape-lt4096-clause-nodes : goal.returns-then-shape-lt4096-clause-nodes
 returns-then-shape-lt4096-clause-nodes g c tells = absurd (omega (arith, c.if-shape-lt4096.true, ap (λ (s : TreeShape). s.node_size) c.shape.ensures, node_large c.args.volume.now (g.P.SectorView.space c.args.space.now) c.requires.stands tells))
+
+pub returns-clause-beside : goal.returns-clause-beside
+returns-clause-beside g c edits beside load tells = c.make_private.ensures.beside edits beside load tells
+
+pub returns-in_err-make_private-clause-beside : goal.returns-in_err-make_private-clause-beside
+returns-in_err-make_private-clause-beside g c edits beside load tells = c.make_private.ensures.beside edits beside load tells
+
+pub returns-then-shape-lt4096-clause-beside : goal.returns-then-shape-lt4096-clause-beside
+returns-then-shape-lt4096-clause-beside g c edits beside load tells = omega (arith, load.load tells)

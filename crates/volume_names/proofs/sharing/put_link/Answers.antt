@@ -3,7 +3,7 @@ use Rattle.hfs_volume.specs.Records.{placed_in, record_at}
 use Rattle.volume_base.specs.Lists.{lists_of}
 use Rattle.volume_base.proofs.Added.{own_edited}
 use Rattle.volume_base.proofs.Besides.{blocks_edit}
-use Rattle.volume_names.proofs.EditsLeft.{left_edited}
+use Rattle.volume_names.proofs.EditsLeft.{left_edited, spare_edited}
 use Rattle.volume_names.proofs.Shared.{puts_link}
 use Rattle.volume_names.proofs.sharing.put_link.Goals as goal
 
@@ -32,3 +32,9 @@ returns-in_err-add-clause-blocks g c = blocks_edit c.args.volume.now c.add.new.v
 
 pub returns-clause-left : goal.returns-clause-left
 returns-clause-left g c edits beside = left_edited 2 edits beside c.args.volume.now c.add.new.volume (g.P.SectorView.space c.args.space.now) (g.P.SectorView.space c.add.new.space) (λ tells. c.requires.size) c.add.ensures.frame.space.same.tells (c.in_ok-add.ensures.edits [])
+
+pub returns-clause-beside : goal.returns-clause-beside
+returns-clause-beside g c edits beside had = spare_edited 2 edits beside c.args.volume.now c.add.new.volume (g.P.SectorView.space c.args.space.now) (g.P.SectorView.space c.add.new.space) (λ tells. c.requires.size) (c.add.ensures.takes []) had
+
+pub returns-in_err-add-clause-beside : goal.returns-in_err-add-clause-beside
+returns-in_err-add-clause-beside g c edits beside had = spare_edited 2 edits beside c.args.volume.now c.add.new.volume (g.P.SectorView.space c.args.space.now) (g.P.SectorView.space c.add.new.space) (λ tells. c.requires.size) (c.add.ensures.takes []) had

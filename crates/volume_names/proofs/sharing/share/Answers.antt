@@ -120,3 +120,15 @@ pub returns-clause-size : goal.returns-clause-size
 returns-clause-size g c =
     ok_so (c.put_link-2.new.volume.catalog.file.shape.node_size ≡ c.put_link.new.volume.catalog.file.shape.node_size) (c.put_link-2.new.volume.catalog.file.shape.node_size ≡ c.args.volume.now.catalog.file.shape.node_size) c.put_link-2.result c.put_link-2.ensures.size
     (λ size. size ∙ c.in_ok-put_link.ensures.size ∙ c.in_ok-share_file.ensures.size)
+
+pub returns-clause-beside : goal.returns-clause-beside
+returns-clause-beside g c beside had tells =
+    c.put_link-2.ensures.beside 0 beside (c.in_ok-put_link.ensures.left 2 beside (c.in_ok-share_file.ensures.leaves beside had))
+    ((c.put_link.ensures.touches (g.P.SectorView.space c.args.space.now).content).same.tells ∙ (c.share_file.ensures.touches (g.P.SectorView.space c.args.space.now).content).same.tells ∙ tells)
+
+pub returns-in_err-put_link-clause-beside : goal.returns-in_err-put_link-clause-beside
+returns-in_err-put_link-clause-beside g c beside had tells =
+    c.put_link.ensures.beside 2 beside (c.in_ok-share_file.ensures.leaves beside had) ((c.share_file.ensures.touches (g.P.SectorView.space c.args.space.now).content).same.tells ∙ tells)
+
+pub returns-in_err-share_file-clause-beside : goal.returns-in_err-share_file-clause-beside
+returns-in_err-share_file-clause-beside g c beside had tells = c.share_file.ensures.beside beside had tells

@@ -8,7 +8,7 @@ use Rattle.volume_base.proofs.Added.{own_added, own_drawn}
 use Rattle.volume_base.proofs.Commanding.{touches_both}
 use Rattle.volume_base.proofs.TakenOff.{threads_drawn}
 use Rattle.volume_names.proofs.Shared.{files_fit, shares_file}
-use Rattle.volume_names.proofs.EditsLeft.{left_behind_header, left_edited, room_left}
+use Rattle.volume_names.proofs.EditsLeft.{left_behind_header, left_edited, room_left, spare_edited}
 use Rattle.volume_base.proofs.Touched.{touches_header}
 use Rattle.volume_base.proofs.Besides.{blocks_both, blocks_edit, blocks_header}
 use Rattle.volume_names.proofs.sharing.share_file.Goals as goal
@@ -80,3 +80,13 @@ pub returns-clause-leaves : goal.returns-clause-leaves
 returns-clause-leaves g c beside had =
     left_edited 3 4 beside c.draw_two.new.volume c.relocate.new.volume (g.P.SectorView.space c.draw_two.new.space) (g.P.SectorView.space c.relocate.new.space) (λ tells. omega (arith, c.requires.size, ap (λ (x : Volume). (numbers_of x.catalog.file).node_size) c.draw_two.ensures.rest)) c.relocate.ensures.frame.space.same.tells (c.in_ok-relocate.ensures.edits [])
     (left_behind_header beside c.args.volume.now c.draw_two.new.volume (g.P.SectorView.space c.args.space.now) (g.P.SectorView.space c.draw_two.new.space) had c.requires.size c.requires.stands.stands c.draw_two.ensures.within c.draw_two.ensures.spent (ap (λ (x : Volume). x.catalog) c.draw_two.ensures.rest))
+
+pub returns-clause-beside : goal.returns-clause-beside
+returns-clause-beside g c beside had tells =
+    spare_edited 3 4 beside c.draw_two.new.volume c.relocate.new.volume (g.P.SectorView.space c.draw_two.new.space) (g.P.SectorView.space c.relocate.new.space) (λ tells. omega (arith, c.requires.size, ap (λ (x : Volume). (numbers_of x.catalog.file).node_size) c.draw_two.ensures.rest)) (c.relocate.ensures.takes [])
+    (left_behind_header beside c.args.volume.now c.draw_two.new.volume (g.P.SectorView.space c.args.space.now) (g.P.SectorView.space c.draw_two.new.space) had c.requires.size c.requires.stands.stands c.draw_two.ensures.within c.draw_two.ensures.spent (ap (λ (x : Volume). x.catalog) c.draw_two.ensures.rest)) (c.draw_two.ensures.within.same.tells ∙ tells)
+
+pub returns-in_err-relocate-clause-beside : goal.returns-in_err-relocate-clause-beside
+returns-in_err-relocate-clause-beside g c beside had tells =
+    spare_edited 3 4 beside c.draw_two.new.volume c.relocate.new.volume (g.P.SectorView.space c.draw_two.new.space) (g.P.SectorView.space c.relocate.new.space) (λ tells. omega (arith, c.requires.size, ap (λ (x : Volume). (numbers_of x.catalog.file).node_size) c.draw_two.ensures.rest)) (c.relocate.ensures.takes [])
+    (left_behind_header beside c.args.volume.now c.draw_two.new.volume (g.P.SectorView.space c.args.space.now) (g.P.SectorView.space c.draw_two.new.space) had c.requires.size c.requires.stands.stands c.draw_two.ensures.within c.draw_two.ensures.spent (ap (λ (x : Volume). x.catalog) c.draw_two.ensures.rest)) (c.draw_two.ensures.within.same.tells ∙ tells)

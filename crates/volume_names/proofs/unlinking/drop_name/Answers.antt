@@ -17,7 +17,7 @@ use Rattle.volume_names.proofs.LastRoom.{room_to_unlink}
 use Rattle.volume_names.proofs.Unlinked.{drops_name, link_there}
 use Rattle.volume_base.proofs.Touched.{touches_header}
 use Rattle.volume_base.proofs.Besides.{blocks_both, blocks_edit, blocks_header}
-use Rattle.volume_names.proofs.EditsLeft.{left_added}
+use Rattle.volume_names.proofs.EditsLeft.{left_added, spare_added}
 use Rattle.volume_names.proofs.unlinking.drop_name.Goals as goal
 
 pub remove-requires-clause-size : goal.remove-requires-clause-size
@@ -105,3 +105,15 @@ pub returns-clause-leaves : goal.returns-clause-leaves
 returns-clause-leaves g c beside load =
     left_added c.edits_have_room.ensures c.args.volume.now c.remove.new.self (g.P.SectorView.space c.args.space.now) (g.P.SectorView.space c.count_file_off.new.space) (g.P.SectorView.space c.remove.new.space) 3 beside c.requires.size c.count_file_off.ensures.within.same.tells c.remove.ensures.frame.space.same.tells c.count_file_off.ensures.spent
     (subst (λ (t : Tree). TakesEdits 2 516 (state_of [] t.file (g.P.SectorView.space c.count_file_off.new.space)) (state_of [] c.remove.new.self.catalog.file (g.P.SectorView.space c.remove.new.space))) (ap (λ (x : Volume). x.catalog) c.count_file_off.ensures.rest) (c.in_ok-remove.ensures.edits [])) load
+
+pub returns-clause-beside : goal.returns-clause-beside
+returns-clause-beside g c beside load tells =
+    spare_added c.edits_have_room.ensures c.args.volume.now c.remove.new.self (g.P.SectorView.space c.args.space.now) (g.P.SectorView.space c.count_file_off.new.space) (g.P.SectorView.space c.remove.new.space) 3 beside c.requires.size c.count_file_off.ensures.within.same.tells c.count_file_off.ensures.spent
+    (subst (λ (t : Tree). TakesAtMost 2 516 (state_of [] t.file (g.P.SectorView.space c.count_file_off.new.space)) (state_of [] c.remove.new.self.catalog.file (g.P.SectorView.space c.remove.new.space))) (ap (λ (x : Volume). x.catalog) c.count_file_off.ensures.rest) (c.remove.ensures.takes []))
+    load tells
+
+pub returns-in_err-remove-clause-beside : goal.returns-in_err-remove-clause-beside
+returns-in_err-remove-clause-beside g c beside load tells =
+    spare_added c.edits_have_room.ensures c.args.volume.now c.remove.new.self (g.P.SectorView.space c.args.space.now) (g.P.SectorView.space c.count_file_off.new.space) (g.P.SectorView.space c.remove.new.space) 3 beside c.requires.size c.count_file_off.ensures.within.same.tells c.count_file_off.ensures.spent
+    (subst (λ (t : Tree). TakesAtMost 2 516 (state_of [] t.file (g.P.SectorView.space c.count_file_off.new.space)) (state_of [] c.remove.new.self.catalog.file (g.P.SectorView.space c.remove.new.space))) (ap (λ (x : Volume). x.catalog) c.count_file_off.ensures.rest) (c.remove.ensures.takes []))
+    load tells

@@ -1,4 +1,4 @@
-use Rattle.std.proofs.Common.{◌≡◌, ◌≤◌, ℕ, List, length, sym, ◌∙◌, ap, subst}
+use Rattle.std.proofs.Common.{◌≡◌, ◌≤◌, ℕ, List, length, sym, ◌∙◌, ap, subst, arith, inl}
 use Rattle.std.specs.Prelude.{OnOk, Option, IfSome}
 use Rattle.std.specs.List.{Contains}
 use Rattle.sector_disk.specs.Lists.{Content}
@@ -15,10 +15,10 @@ use Rattle.volume_names.specs.Unlinking.{LosesLink}
 use Rattle.volume_base.specs.declared.entries.Entry.{Entry}
 use Rattle.volume_base.proofs.Besides.{blocks_both, blocks_edit}
 use Rattle.volume_base.proofs.Commanding.{touches_both, touches_looks}
-use Rattle.volume_base.proofs.FoundEntry.{settled_threads, ok_so}
+use Rattle.volume_base.proofs.FoundEntry.{settled_threads}
 use Rattle.volume_base.proofs.RoomToRemove.{remove_room_still}
 use Rattle.volume_base.proofs.Still.{lists_still, own_still, settled_still}
-use Rattle.volume_names.proofs.LossLoads.{shared_still}
+use Rattle.volume_names.proofs.LossLoads.{none_still, shared_still}
 use Rattle.volume_names.specs.LossLoads.{SpendsShared}
 use Rattle.volume_names.proofs.unlinking.lose_one.Goals as goal
 
@@ -87,5 +87,11 @@ returns-in_err-file-clause-blocks g c = blocks_edit c.args.volume.now c.entry.ne
 
 pub returns-in-Some-clause-spends : goal.returns-in-Some-clause-spends
 returns-in-Some-clause-spends g c tells =
-    ok_so (SpendsShared c.args.id c.entry.new.self (g.P.SectorView.space c.entry.new.space) (g.P.SectorView.space c.lose_one_of.new.space)) (SpendsShared c.args.id c.args.volume.now (g.P.SectorView.space c.args.space.now) (g.P.SectorView.space c.lose_one_of.new.space)) c.lose_one_of.result (c.lose_one_of.ensures.spends (c.entry.ensures.reads.looks.same.tells ∙ tells))
+    none_still (SpendsShared c.args.id c.entry.new.self (g.P.SectorView.space c.entry.new.space) (g.P.SectorView.space c.lose_one_of.new.space)) (SpendsShared c.args.id c.args.volume.now (g.P.SectorView.space c.args.space.now) (g.P.SectorView.space c.lose_one_of.new.space)) c.args.volume.now c.entry.new.self (g.P.SectorView.space c.args.space.now) (g.P.SectorView.space c.entry.new.space) (g.P.SectorView.space c.lose_one_of.new.space) c.entry.ensures.reads (c.lose_one_of.ensures.spends (c.entry.ensures.reads.looks.same.tells ∙ tells))
     (shared_still c.args.id c.args.volume.now c.entry.new.self (g.P.SectorView.space c.args.space.now) (g.P.SectorView.space c.entry.new.space) (g.P.SectorView.space c.lose_one_of.new.space) c.entry.ensures.reads tells)
+
+pub returns-in-None-clause-spends : goal.returns-in-None-clause-spends
+returns-in-None-clause-spends g c tells = inl (omega (arith, c.entry.ensures.reads.looks.spare))
+
+pub returns-in_err-file-clause-spends : goal.returns-in_err-file-clause-spends
+returns-in_err-file-clause-spends g c tells = inl (omega (arith, c.entry.ensures.reads.looks.spare))

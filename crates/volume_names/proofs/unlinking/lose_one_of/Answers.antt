@@ -1,3 +1,4 @@
+use Rattle.volume_names.proofs.LossLoads.{none_so}
 use Rattle.std.proofs.Common.{◌≡◌, inl, inr, ℕ, List, length, sym, ◌∙◌, ap, subst, arith}
 use Rattle.std.proofs.lemmas.Bool.{eqb-false}
 use Rattle.hfs_language.specs.declared.command.Command.TheVariants as command
@@ -6,7 +7,7 @@ use Rattle.hfs_volume.specs.TreeOf.{tree_of}
 use Rattle.volume_base.specs.Lists.{lists_of}
 use Rattle.volume_base.specs.Standing.{IsSettled}
 use Rattle.volume_names.specs.Unlinking.{IsLastOf, LosesLink, Unlinks, UnlinksLast, links_in}
-use Rattle.volume_base.proofs.FoundEntry.{ok_so, ok_true}
+use Rattle.volume_base.proofs.FoundEntry.{ok_so}
 use Rattle.volume_names.proofs.LastFile.{last_of, file_of}
 use Rattle.volume_names.specs.LossLoads.{SpendsFor, SpendsShared}
 use Rattle.volume_names.proofs.unlinking.lose_one_of.Goals as goal
@@ -48,7 +49,7 @@ pub returns-then-links_in-gt1-clause-spends : goal.returns-then-links_in-gt1-cla
 returns-then-links_in-gt1-clause-spends g c tells =
     let loses = c.requires.loses tells in
     let it = file_of c.args.volume.now (g.P.SectorView.space c.args.space.now) (c.requires.settled tells) (c.requires.stands.stands tells) loses.0 loses.1 c.args.at.now loses.2 (c.requires.link tells) c.args.id loses.3 c.requires.stands.service.fits.next_catalog_id c.args.file.now (c.requires.found tells) in
-    ok_true c.unlink.result (record {
+    inr (record {
       file = it.0;
       stands = it.1;
       number = it.2;
@@ -62,5 +63,14 @@ pub returns-in_ok-copy_name-in-Some-clause-spends : goal.returns-in_ok-copy_name
 returns-in_ok-copy_name-in-Some-clause-spends g c tells =
     let loses = c.requires.loses tells in
     let it = file_of c.args.volume.now (g.P.SectorView.space c.args.space.now) (c.requires.settled tells) (c.requires.stands.stands tells) loses.0 loses.1 c.args.at.now loses.2 (c.requires.link tells) c.args.id loses.3 c.requires.stands.service.fits.next_catalog_id c.args.file.now (c.requires.found tells) in
-    ok_so (SpendsFor 5 c.args.volume.now (g.P.SectorView.space c.args.space.now) (g.P.SectorView.space c.unlink_last.new.space)) (SpendsShared c.args.id c.args.volume.now (g.P.SectorView.space c.args.space.now) (g.P.SectorView.space c.unlink_last.new.space)) c.unlink_last.result (c.unlink_last.ensures.spends tells)
+    none_so (SpendsFor 5 c.args.volume.now (g.P.SectorView.space c.args.space.now) (g.P.SectorView.space c.unlink_last.new.space)) (SpendsShared c.args.id c.args.volume.now (g.P.SectorView.space c.args.space.now) (g.P.SectorView.space c.unlink_last.new.space)) (g.P.SectorView.space c.args.space.now) (g.P.SectorView.space c.unlink_last.new.space) (c.unlink_last.ensures.spends tells)
     (λ five. record { file = it.0; stands = it.1; number = it.2; spends = inr (omega (arith, c.links_in.ensures, c.if-links_in-gt1.false, ap links_in it.3), five) })
+
+pub returns-then-is_empty-clause-spends : goal.returns-then-is_empty-clause-spends
+returns-then-is_empty-clause-spends g c tells = inl (omega arith)
+
+pub returns-in-None-clause-spends : goal.returns-in-None-clause-spends
+returns-in-None-clause-spends g c tells = inl (omega arith)
+
+pub returns-in_err-copy_name-in-Some-clause-spends : goal.returns-in_err-copy_name-in-Some-clause-spends
+returns-in_err-copy_name-in-Some-clause-spends g c tells = inl (omega arith)

@@ -1,4 +1,4 @@
-use Rattle.std.proofs.Common.{◌≡◌, ℕ, List, sym, ◌∙◌, ap, subst, arith, [], ◌/◌}
+use Rattle.std.proofs.Common.{◌≡◌, ℕ, List, sym, ◌∙◌, ap, subst, arith, [], ◌/◌, inl, inr}
 use Rattle.std.specs.List.{Contains}
 use Rattle.btree_node.specs.declared.store.TreeShape.{TreeShape}
 use Rattle.hfs_language.specs.declared.command.Command.TheVariants as command
@@ -12,11 +12,11 @@ use Rattle.volume_base.proofs.Besides.{blocks_both, blocks_edit, blocks_none}
 use Rattle.volume_base.proofs.Added.{own_edited}
 use Rattle.volume_names.proofs.Buried.{puts_aside}
 use Rattle.volume_base.proofs.Commanding.{touches_both, touches_none}
-use Rattle.volume_base.proofs.FoundEntry.{ok_both, ok_true}
+use Rattle.volume_base.proofs.FoundEntry.{ok_both}
 use Rattle.volume_names.proofs.LastLost.{above_waiting, file_left, last_does, named_file, threads_waiting}
 use Rattle.volume_names.proofs.LinkLost.{threads_dropped}
 use Rattle.volume_base.proofs.Replaced.{node_large}
-use Rattle.volume_names.proofs.EditsLeft.{left_edited}
+use Rattle.volume_names.proofs.EditsLeft.{spare_edited}
 use Rattle.volume_names.proofs.LossLoads.{load_last, rest_last}
 use Rattle.volume_names.proofs.unlinking.unlink_last.Goals as goal
 
@@ -139,20 +139,36 @@ returns-clause-spends g c tells =
     let middle = (c.drop_name.ensures.touches (g.P.SectorView.space c.args.space.now).content).same.tells ∙ tells in
     let later = c.set_aside.ensures.frame.space.same.tells ∙ middle in
     let load = load_last c.args.volume.now (g.P.SectorView.space c.args.space.now) (c.fits_unlink_last.ensures c.if-not-fits_unlink_last.false) in
-    let left = left_edited 3 0 (rest_last c.args.volume.now (g.P.SectorView.space c.args.space.now)) c.drop_name.new.volume c.set_aside.new.volume (g.P.SectorView.space c.drop_name.new.space) (g.P.SectorView.space c.set_aside.new.space)
-    (λ told. omega (arith, c.if-shape-lt4096.false, ap (λ (s : TreeShape). s.node_size) c.shape.ensures, c.in_ok-drop_name.ensures.size)) c.set_aside.ensures.frame.space.same.tells (c.in_ok-set_aside.ensures.edits []) (c.in_ok-drop_name.ensures.leaves (rest_last c.args.volume.now (g.P.SectorView.space c.args.space.now)) load) in
-    ok_true c.touch.result (record {
+    let left = spare_edited 3 0 (rest_last c.args.volume.now (g.P.SectorView.space c.args.space.now)) c.drop_name.new.volume c.set_aside.new.volume (g.P.SectorView.space c.drop_name.new.space) (g.P.SectorView.space c.set_aside.new.space)
+    (λ told. omega (arith, c.if-shape-lt4096.false, ap (λ (s : TreeShape). s.node_size) c.shape.ensures, c.in_ok-drop_name.ensures.size)) (c.set_aside.ensures.takes []) (c.in_ok-drop_name.ensures.leaves (rest_last c.args.volume.now (g.P.SectorView.space c.args.space.now)) load) middle in
+    inr (record {
       grown = load.grown tells;
-      spent = omega (
-        arith,
-        (left.told later).0,
-        c.touch.ensures.spent later,
-        load.load tells,
-        ap (λ n. n / 512) c.set_aside.ensures.frame.file.node_size,
-        ap (λ n. n / 512) c.in_ok-drop_name.ensures.size,
-      );
+      spent = omega (arith, left, c.touch.ensures.spent later, load.load tells, ap (λ n. n / 512) c.set_aside.ensures.frame.file.node_size, ap (λ n. n / 512) c.in_ok-drop_name.ensures.size);
     })
 
+pub returns-in_err-set_aside-clause-spends : goal.returns-in_err-set_aside-clause-spends
+returns-in_err-set_aside-clause-spends g c tells =
+    let middle = (c.drop_name.ensures.touches (g.P.SectorView.space c.args.space.now).content).same.tells ∙ tells in
+    let load = load_last c.args.volume.now (g.P.SectorView.space c.args.space.now) (c.fits_unlink_last.ensures c.if-not-fits_unlink_last.false) in
+    let left = spare_edited 3 0 (rest_last c.args.volume.now (g.P.SectorView.space c.args.space.now)) c.drop_name.new.volume c.set_aside.new.volume (g.P.SectorView.space c.drop_name.new.space) (g.P.SectorView.space c.set_aside.new.space)
+    (λ told. omega (arith, c.if-shape-lt4096.false, ap (λ (s : TreeShape). s.node_size) c.shape.ensures, c.in_ok-drop_name.ensures.size)) (c.set_aside.ensures.takes []) (c.in_ok-drop_name.ensures.leaves (rest_last c.args.volume.now (g.P.SectorView.space c.args.space.now)) load) middle in
+    inr (record { grown = load.grown tells; spent = omega (arith, left, load.load tells) })
+
+pub returns-then-not-fits_update-clause-spends : goal.returns-then-not-fits_update-clause-spends
+returns-then-not-fits_update-clause-spends g c tells =
+    let middle = (c.drop_name.ensures.touches (g.P.SectorView.space c.args.space.now).content).same.tells ∙ tells in
+    let load = load_last c.args.volume.now (g.P.SectorView.space c.args.space.now) (c.fits_unlink_last.ensures c.if-not-fits_unlink_last.false) in
+    let left = spare_edited 3 0 (rest_last c.args.volume.now (g.P.SectorView.space c.args.space.now)) c.drop_name.new.volume c.set_aside.new.volume (g.P.SectorView.space c.drop_name.new.space) (g.P.SectorView.space c.set_aside.new.space)
+    (λ told. omega (arith, c.if-shape-lt4096.false, ap (λ (s : TreeShape). s.node_size) c.shape.ensures, c.in_ok-drop_name.ensures.size)) (c.set_aside.ensures.takes []) (c.in_ok-drop_name.ensures.leaves (rest_last c.args.volume.now (g.P.SectorView.space c.args.space.now)) load) middle in
+    inr (record { grown = load.grown tells; spent = omega (arith, left, load.load tells) })
+
+pub returns-in_err-drop_name-clause-spends : goal.returns-in_err-drop_name-clause-spends
+returns-in_err-drop_name-clause-spends g c tells =
+    let load = load_last c.args.volume.now (g.P.SectorView.space c.args.space.now) (c.fits_unlink_last.ensures c.if-not-fits_unlink_last.false) in
+    inr (record { grown = load.grown tells; spent = omega (arith, c.drop_name.ensures.beside (rest_last c.args.volume.now (g.P.SectorView.space c.args.space.now)) load tells, load.load tells) })
+
 pub returns-then-shape-lt4096-clause-spends : goal.returns-then-shape-lt4096-clause-spends
-returns-then-shape-lt4096-clause-spends g c tells =
-    absurd (omega (arith, c.if-shape-lt4096.true, ap (λ (s : TreeShape). s.node_size) c.shape.ensures, node_large c.args.volume.now (g.P.SectorView.space c.args.space.now) c.requires.stands tells))
+returns-then-shape-lt4096-clause-spends g c tells = inl (omega arith)
+
+pub returns-then-not-fits_unlink_last-clause-spends : goal.returns-then-not-fits_unlink_last-clause-spends
+returns-then-not-fits_unlink_last-clause-spends g c tells = inl (omega arith)
