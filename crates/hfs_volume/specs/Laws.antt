@@ -206,7 +206,7 @@ TreeGrown =
     (id more : ℕ) (fresh : List ℕ) (old new : VolumeState) → IsTreeFork id → GrowsFile id more fresh old new → HasRightBits old → IsShaped old
     → IsShaped new × HasRightBits new × CountsBlocks (length fresh) 0 old new
 
--- Each overflow record of a fork has an extent in use; those of bad blocks alone are of none.
+-- Each overflow record that is none of bad blocks has an extent in use.
 abbrev pub RecordsHaveExtents : Type 0
 RecordsHaveExtents = (volume : VolumeState) → HasForks volume → (more : Overflow) → Contains (overflow_in_volume volume) more → more.id ≢ bad_blocks_id → 0 < length (in_use more.extents)
 
