@@ -293,7 +293,7 @@ const ENTRIES: [Damage; 13] = [
     },
 ];
 
-const BLOCKS: [Damage; 10] = [
+const BLOCKS: [Damage; 11] = [
     Damage {
         shows: "a bit of a block that nothing uses",
         patches: &[(BITMAP + 250, &[0x80])],
@@ -362,6 +362,34 @@ const BLOCKS: [Damage; 10] = [
             (EXTENTS + 8_188, &[0, 90, 0, 14]),
         ],
         finds: &[(17, 17, 0, 1)],
+    },
+    Damage {
+        shows: "an overflow record without an extent in use, behind a fork of eight extents",
+        patches: &[
+            (BITMAP + 250, &[0xFF]),
+            (HEAD + 48, &[0, 0, 6, 0x94]),
+            (HEAD + 444, &[0, 0, 0, 8]),
+            (HEAD + 448, &[0, 0, 7, 0xD0, 0, 0, 0, 1]),
+            (HEAD + 456, &[0, 0, 7, 0xD1, 0, 0, 0, 1]),
+            (HEAD + 464, &[0, 0, 7, 0xD2, 0, 0, 0, 1]),
+            (HEAD + 472, &[0, 0, 7, 0xD3, 0, 0, 0, 1]),
+            (HEAD + 480, &[0, 0, 7, 0xD4, 0, 0, 0, 1]),
+            (HEAD + 488, &[0, 0, 7, 0xD5, 0, 0, 0, 1]),
+            (HEAD + 496, &[0, 0, 7, 0xD6, 0, 0, 0, 1]),
+            (HEAD + 504, &[0, 0, 7, 0xD7, 0, 0, 0, 1]),
+            (
+                EXTENTS + 15,
+                &[1, 0, 0, 0, 1, 0, 0, 0, 1, 0, 0, 0, 1, 0, 0, 0, 1],
+            ),
+            (EXTENTS + 43, &[14]),
+            (EXTENTS + 248, &[0xC0]),
+            (
+                EXTENTS + 4_096 + 8,
+                &[0xFF, 1, 0, 1, 0, 0, 0, 10, 0, 0, 0, 0, 0, 7, 0, 0, 0, 8],
+            ),
+            (EXTENTS + 8_188, &[0, 90, 0, 14]),
+        ],
+        finds: &[(17, 7, 0, 1)],
     },
     Damage {
         shows: "bad blocks that don't begin at 0",

@@ -9,7 +9,7 @@ use Rattle.hx_bytes.specs.declared.extents.Extent.{Extent}
 use Rattle.fork_map.specs.Blocks.{blocks_of}
 use Rattle.hfs_model.specs.Sorted.{kept}
 use Rattle.hfs_volume.specs.Records.{Overflow}
-use Rattle.hfs_volume.specs.Forks.{Owned, in_use, is_of, is_full, extents_of, extents_id, overflow_in as overflow_of_fork, blocks_owned}
+use Rattle.hfs_volume.specs.Forks.{Owned, in_use, is_of, is_full, has_extents, extents_of, extents_id, overflow_in as overflow_of_fork, blocks_owned}
 use Rattle.hfs_volume.specs.Blocks.{GoOn, GoesOn}
 use Rattle.fsck_core.specs.Overflows.{overflow_in, overflows_in}
 use Rattle.fsck_core.specs.Owners.{next_front, follow}
@@ -42,7 +42,7 @@ many more = length (flat_map (λ (m : Overflow). blocks_of m.extents) more)
 pub goes : (id kind : ℕ) (front : Front) (rows : List OverflowRow)
     → MatchOption (follow id kind (Some front) rows) (¬ GoOn front.place front.full (mine id kind rows)) (λ last. GoOn front.place front.full (mine id kind rows) × (last.place ≡ front.place + many (mine id kind rows)))
 goes id kind front [] = (tt, omega arith)
-goes id kind front (row ∷ rows) = at (goes id kind front rows) (goes id kind next rows) (is_of id kind more) (row.start == front.place) front.full refl refl
+goes id kind front (row ∷ rows) = at (goes id kind front rows) (goes id kind next rows) (is_of id kind more) (row.start == front.place) front.full (has_extents row.extents.extents) refl refl refl
   where
     more : Overflow
     more = overflow_in row
@@ -53,27 +53,30 @@ goes id kind front (row ∷ rows) = at (goes id kind front rows) (goes id kind n
     all : Bool → List Overflow
     all b = (if b then more ∷ [] else []) ++ mine id kind rows
 
-    Goal : Bool → Bool → Bool → Type 0
-    Goal b c d = MatchOption (follow id kind (if not b then Some front else if not c then None else if not d then None else Some next) rows) (¬ GoOn front.place front.full (all b)) (λ last. GoOn front.place front.full (all b) × (last.place ≡ front.place + many (all b)))
+    Told : Option Front → Bool → Type 0
+    Told o b = MatchOption o (¬ GoOn front.place front.full (all b)) (λ last. GoOn front.place front.full (all b) × (last.place ≡ front.place + many (all b)))
+
+    Goal : Bool → Bool → Bool → Bool → Type 0
+    Goal b c d e = Told (follow id kind (if not b then Some front else if not c then None else if not d then None else if not e then None else Some next) rows) b
 
     Onward : Front → Type 0
     Onward f = MatchOption (follow id kind (Some f) rows) (¬ GoOn f.place f.full (mine id kind rows)) (λ last. GoOn f.place f.full (mine id kind rows) × (last.place ≡ f.place + many (mine id kind rows)))
 
-    at : Onward front → Onward next → (b c d : Bool) → (row.start == front.place) ≡ c → front.full ≡ d → Goal b c d
-    at here onward false c d same full = here
-    at here onward true false d same full =
-        subst (λ (o : Option Front). MatchOption o (¬ GoOn front.place front.full (all true)) (λ last. GoOn front.place front.full (all true) × (last.place ≡ front.place + many (all true)))) (sym (follow_none id kind rows))
-        (λ (go : GoOn front.place front.full (all true)). true≢false (sym (eq-eqb row.start front.place go.0) ∙ same))
-    at here onward true true false same full =
-        subst (λ (o : Option Front). MatchOption o (¬ GoOn front.place front.full (all true)) (λ last. GoOn front.place front.full (all true) × (last.place ≡ front.place + many (all true)))) (sym (follow_none id kind rows))
-        (λ (go : GoOn front.place front.full (all true)). true≢false (sym go.1 ∙ full))
-    at here onward true true true same full =
+    stops : ¬ GoOn front.place front.full (all true) → Told (follow id kind None rows) true
+    stops not_on = subst (λ (o : Option Front). Told o true) (sym (follow_none id kind rows)) not_on
+
+    at : Onward front → Onward next → (b c d e : Bool) → (row.start == front.place) ≡ c → front.full ≡ d → has_extents row.extents.extents ≡ e → Goal b c d e
+    at here onward false c d e same full some = here
+    at here onward true false d e same full some = stops (λ (go : GoOn front.place front.full (all true)). true≢false (sym (eq-eqb row.start front.place go.0) ∙ same))
+    at here onward true true false e same full some = stops (λ (go : GoOn front.place front.full (all true)). true≢false (sym go.1 ∙ full))
+    at here onward true true true false same full some = stops (λ (go : GoOn front.place front.full (all true)). true≢false (sym go.3 ∙ some))
+    at here onward true true true true same full some =
         let place : row.start ≡ front.place = eqb-true row.start front.place same in
         match_as (λ last. GoOn next.place next.full (mine id kind rows) × (last.place ≡ next.place + many (mine id kind rows))) (λ last. GoOn front.place front.full (all true) × (last.place ≡ front.place + many (all true)))
         (follow id kind (Some next) rows) onward
         (λ not_on go. not_on (subst (λ n. GoOn (n + length (blocks_of row.extents.extents)) (is_full row.extents.extents) (mine id kind rows)) (sym place) go.2))
         (λ last on. (
-          (place, full, subst (λ n. GoOn (n + length (blocks_of row.extents.extents)) (is_full row.extents.extents) (mine id kind rows)) place on.0),
+          (place, full, subst (λ n. GoOn (n + length (blocks_of row.extents.extents)) (is_full row.extents.extents) (mine id kind rows)) place on.0, some),
           omega (arith, on.1, place, length-append (blocks_of row.extents.extents) (flat_map (λ (m : Overflow). blocks_of m.extents) (mine id kind rows))),
         ))
 

@@ -4,7 +4,7 @@ use Rattle.hx_bytes.specs.declared.extents.Extent.{Extent}
 use Rattle.volume_header.specs.declared.header.VolumeHeader.{VolumeHeader}
 use Rattle.fork_map.specs.Blocks.{blocks_of}
 use Rattle.hfs_volume.specs.Records.{Overflow}
-use Rattle.hfs_volume.specs.Forks.{Owned, is_of, is_full, blocks_owned}
+use Rattle.hfs_volume.specs.Forks.{Owned, is_of, is_full, has_extents, blocks_owned}
 use Rattle.hfs_volume.specs.Broken.{Want, want, extent_wants}
 use Rattle.fsck_core.specs.Overflows.{overflow_in}
 use Rattle.fsck_core.specs.declared.overflow.OverflowRow.{OverflowRow}
@@ -19,12 +19,14 @@ owned_in row = record { id = row.id; kind = row.kind; fork = row.fork }
 abbrev pub owned_all : List OwnedFork → List Owned
 owned_all rows = map owned_in rows
 
--- the front behind a row of this fork: it begins there, and the one before it is full; a row of another fork leaves it as it is
+-- the front behind a row of this fork: it begins there, the one before it is full, and it has an extent in use; a row of another fork leaves it
+-- as it is
 abbrev pub next_front : ℕ → ℕ → Front → OverflowRow → Option Front
 next_front id kind front row =
     if not (is_of id kind (overflow_in row)) then Some front
     else if not (row.start == front.place) then None
     else if not front.full then None
+    else if not (has_extents row.extents.extents) then None
     else Some (record { place = row.start + length (blocks_of row.extents.extents); full = is_full row.extents.extents })
 
 -- the front behind one row more, where those before it went on

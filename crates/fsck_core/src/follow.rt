@@ -1,7 +1,7 @@
 //! Overflow records that go on behind each other (rule 17).
 ghost use Rattle.std.specs.Prelude.{◌≡◌, ◌≤◌, ◌==◌, ◌^◌, length, MatchOption, None, Some};
 ghost use Rattle.fork_map.specs.Blocks.{blocks_of};
-ghost use Rattle.hfs_volume.specs.Forks.{is_full, blocks_owned};
+ghost use Rattle.hfs_volume.specs.Forks.{is_full, has_extents, blocks_owned};
 ghost use Rattle.hfs_volume.specs.Blocks.{GoesOn};
 ghost use Rattle.fsck_core.specs.Overflows.{overflows_in};
 ghost use Rattle.fsck_core.specs.Owners.{owned_in, next_front, follow};
@@ -36,6 +36,13 @@ fn has_no_room(extents: &ExtentRecord) -> bool
     extents.extents.iter().all(|extent| extent.count != 0)
 }
 
+/// Whether one of the extents of a record is in use.
+fn has_extents(extents: &ExtentRecord) -> bool
+    ensures { result ≡ has_extents extents.now.extents }
+{
+    extents.extents.iter().any(|extent| extent.count != 0)
+}
+
 /// How many blocks up to eight extents have.
 fn count_blocks(extents: &[Extent]) -> u64
     requires { length extents.now ≤ 8 }
@@ -49,7 +56,7 @@ fn count_blocks(extents: &[Extent]) -> u64
     count
 }
 
-/// The front behind a row, if it goes on there; a row of another fork leaves it as it is.
+/// The front behind a row, if it goes on there and has an extent in use; a row of another fork leaves it as it is.
 fn next_front(id: u32, kind: u8, front: Front, row: &OverflowRow) -> Option<Front>
     ensures { result ≡ next_front id kind front row.now }
 {
@@ -63,6 +70,9 @@ fn next_front(id: u32, kind: u8, front: Front, row: &OverflowRow) -> Option<Fron
         return None;
     }
     if !front.full {
+        return None;
+    }
+    if !has_extents(&row.extents) {
         return None;
     }
     Some(Front {
@@ -85,8 +95,8 @@ pub(crate) fn follow(rows: &[OverflowRow], id: u32, kind: u8, first: Front) -> O
     Some(front)
 }
 
-/// How many blocks a fork has, if its overflow records go on behind its record: each begins where the one before it ends, and that one has
-/// no extent to spare (TN1150, "Extents Overflow File").
+/// How many blocks a fork has, if its overflow records go on behind its record: each begins where the one before it ends, that one has no
+/// extent to spare, and it has an extent in use itself (TN1150, "Extents Overflow File").
 pub fn follow_fork(rows: &[OverflowRow], owned: &OwnedFork) -> Option<u64>
     ensures { MatchOption result (¬ GoesOn (overflows_in rows.now) (owned_in owned.now)) (λ blocks. GoesOn (overflows_in rows.now) (owned_in owned.now) × (blocks ≡ length (blocks_owned (overflows_in rows.now) (owned_in owned.now)))) }
 {
