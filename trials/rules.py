@@ -346,6 +346,7 @@ class Reading:
     def go_on(self, place, full, records):
         for _, _, start, extents in records:
             want(start == place and full, 17, "an overflow record that doesn't go on")
+            want(in_use(extents), 17, "an overflow record without an extent in use")
             place += sum(count for _, count in extents)
             full = is_full(extents)
 

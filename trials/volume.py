@@ -103,7 +103,7 @@ class Volume:
     def __init__(self, sectors=16384, block=4096, journal=2048, node=4096, spare=16, filled=1.0, name="untitled", bare=False, mounted=b"HFSJ", pieces=1, moment=0, emptied=False):
         # A bare volume has no attributes file. `mounted` is the version that mounted it last; one of another system wasn't unmounted cleanly,
         # as bit 8 says. The tree files are in so many pieces, and all dates are the moment. An emptied volume has, behind each
-        # fork whose extents fill its records to the last, an overflow record that has no extent in use.
+        # fork whose extents fill its records to the last, an overflow record that has no extent in use, which makes it unsound.
         self.bare, self.mounted, self.pieces, self.moment, self.emptied = bare, mounted, pieces, moment, emptied
         self.sectors, self.block, self.journal, self.node, self.spare, self.filled = sectors, block, journal, node, spare, filled
         self.total = sectors * 512 // block
