@@ -1,5 +1,6 @@
 -- The extents of a file's fork: where they stand, and the room to store those that a cut leaves.
 use Rattle.std.proofs.Common.{◌≡◌, ◌≢◌, ◌⊎◌, inl, inr, ◌<◌, ◌≤◌, ℕ, zero, suc, ◌+◌, ◌-◌, ◌*◌, ◌/◌, ◌==◌, min, Bool, true, false, List, [], ◌∷◌, ◌++◌, length, map, take, drop, refl, sym, ◌∙◌, ap, subst, arith, length-append, length-take}
+use Rattle.volume_space.specs.Spreading.{ChangesFew}
 use Rattle.std.specs.Prelude.{Contains, not, Option, None, Some, if◌then◌else◌}
 use Rattle.std.specs.List.{range_with_len}
 use Rattle.std.specs.Option.{option_map}
@@ -168,9 +169,13 @@ module _ (keep : ℕ) (list : List Extent) (cut : Cut) (last : IsLastCut keep li
             subst (λ n. AreFew 2 (changes_to [] (records_from n 8 cut.stays))) (sym none) (refl, omega arith)
         by (one ∷ more) on whole_now = absurd (both_ways false refl on.1)
 
+    -- two changes at most, which add no record
+    pub few_twice : AreFew 2 (changes_to (map record_of records) (records_for (in_use cut.stays)))
+    few_twice = subst (λ (l : List Extent). AreFew 2 (changes_to (map record_of records) (records_for l))) (sym (all_in_use cut.stays stays_used)) (few_changes (is_full fork.extents.extents) refl)
+
     pub room_to_store : HasRoom (2 * edit_writes store.shape.depth) store → HasStoreRoom store id kind cut.stays
     room_to_store room =
-        let changes : AreFew 2 (changes_to (map record_of records) (records_for (in_use cut.stays))) = subst (λ (l : List Extent). AreFew 2 (changes_to (map record_of records) (records_for l))) (sym (all_in_use cut.stays stays_used)) (few_changes (is_full fork.extents.extents) refl) in
+        let changes = few_twice in
         inr (record {
           light = changes.0;
           writes = omega (arith, room, mul-le-mul_right {m = length (changes_to (map record_of records) (records_for (in_use cut.stays)))} {n = 2} (edit_writes store.shape.depth) changes.1);
@@ -204,9 +209,13 @@ module _ (keep : ℕ) (list : List Extent) (cut : Cut) (last : IsLastCut keep li
         by (one ∷ more) on whole_now = absurd (both_ways false refl on.1)
 
     -- one change, where each record has an extent in use
+    pub few_one : length records ≡ parts_for (length list - 8) 8 → AreFew 1 (changes_to (map record_of records) (records_for (in_use cut.stays)))
+    few_one filled = subst (λ (l : List Extent). AreFew 1 (changes_to (map record_of records) (records_for l))) (sym (all_in_use cut.stays stays_used)) (few_once filled (is_full fork.extents.extents) refl)
+
+    -- room for it
     pub room_once : length records ≡ parts_for (length list - 8) 8 → HasRoom (1 * edit_writes store.shape.depth) store → HasStoreRoom store id kind cut.stays
     room_once filled room =
-        let changes : AreFew 1 (changes_to (map record_of records) (records_for (in_use cut.stays))) = subst (λ (l : List Extent). AreFew 1 (changes_to (map record_of records) (records_for l))) (sym (all_in_use cut.stays stays_used)) (few_once filled (is_full fork.extents.extents) refl) in
+        let changes = few_one filled in
         inr (record {
           light = changes.0;
           writes = omega (arith, room, mul-le-mul_right {m = length (changes_to (map record_of records) (records_for (in_use cut.stays)))} {n = 1} (edit_writes store.shape.depth) changes.1);
@@ -251,6 +260,14 @@ module _ (v : Volume) (content : Content) (settled : IsSettled v content) (k : F
       (is_list ∙ (λ i. extents_of (sym same i) file.fields.id (sym is i) (fork_at (kind_of k) file)))
       (subst (λ (o : List Overflow × ℕ). GoesOn o.0 (record { id = file.fields.id; kind = o.1; fork = fork_at (kind_of k) file })) {x = (overflow_in_volume (volume_of content), kind_of k)} {y = (overflow_in_store store, kind)} (λ i. (sym same i, sym is i)) (goes_on_for v content settled k file has))
       room
+
+  -- two changes at most make its overflow records those of what a cut leaves
+  pub store_few : (keep : ℕ) (cut : Cut) → IsLastCut keep list cut → (store : Store) (kind : ℕ) → kind ≡ kind_of k → overflow_in_store store ≡ overflow_in_volume (volume_of content) → 16 ≤ file.fields.id
+      → ChangesFew 2 store file.fields.id kind cut.stays
+  store_few keep cut last store kind is same user =
+      few_twice keep list cut last store file.fields.id kind (λ own. absurd (omega (arith, own, user))) (fork_at (kind_of k) file) eight
+      (is_list ∙ (λ i. extents_of (sym same i) file.fields.id (sym is i) (fork_at (kind_of k) file)))
+      (subst (λ (o : List Overflow × ℕ). GoesOn o.0 (record { id = file.fields.id; kind = o.1; fork = fork_at (kind_of k) file })) {x = (overflow_in_volume (volume_of content), kind_of k)} {y = (overflow_in_store store, kind)} (λ i. (sym same i, sym is i)) (goes_on_for v content settled k file has))
 
 -- the extents that a cut leaves all have blocks
 pub stays_in_use : (keep : ℕ) (list : List Extent) (cut : Cut) (kind : ℕ) (file : FileRecord) (content : Content) → IsLastCut keep list cut → IsForkOf list kind file content → in_use cut.stays ≡ cut.stays

@@ -1,5 +1,6 @@
 -- What a cut's store of a fork's overflow records asks for: room for two changes of them, or for one where each has an extent in use.
 use Rattle.std.proofs.Common.{◌≡◌, ◌≢◌, ◌≤◌, ℕ, ◌-◌, ◌*◌, Bool, true, false, List, length, refl, sym, ◌∙◌, subst, arith}
+use Rattle.volume_space.specs.Spreading.{ChangesFew}
 use Rattle.hx_bytes.specs.declared.extents.Extent.{Extent}
 use Rattle.sector_disk.specs.Lists.{Content}
 use Rattle.btree_node.specs.Store.{Store, HasRoom}
@@ -23,7 +24,7 @@ use Rattle.volume_base.specs.declared.volume.Volume.{Volume}
 use Rattle.volume_runs.specs.Rest.{has_empty_record}
 use Rattle.volume_space.specs.Cutting.{changes_in}
 use Rattle.volume_space.proofs.EmptyRecords.{filled}
-use Rattle.volume_space.proofs.SpreadFile.{goes_on_for, has_extents, room_once, store_room}
+use Rattle.volume_space.proofs.SpreadFile.{goes_on_for, has_extents, room_once, store_room, few_one, store_few}
 
 module _ (v : Volume) (content : Content) (settled : IsSettled v content) (k : ForkKind) (file : FileRecord) (has : HasFile (records_of (volume_of content)) file) (eight : length (fork_at (kind_of k) file).extents.extents ≡ 8) (list : List Extent) (is_list : IsForkOf list (kind_of k) file content) where
   -- the same for one change, where each overflow record has an extent in use
@@ -42,3 +43,19 @@ module _ (v : Volume) (content : Content) (settled : IsSettled v content) (k : F
       → emptied ≡ has_empty_record (volume_of content) file.fields.id (kind_of k) → HasRoom (changes_in emptied * edit_writes store.shape.depth) store → HasStoreRoom store file.fields.id kind cut.stays
   store_room_by true keep cut last store kind is same user told room = store_room v content settled k file has eight list is_list keep cut last store kind is same user room
   store_room_by false keep cut last store kind is same user told room = store_room_once keep cut last store kind is same user (sym told) room
+
+  -- one change, where each overflow record has an extent in use
+  store_few_once : (keep : ℕ) (cut : Cut) → IsLastCut keep list cut → (store : Store) (kind : ℕ) → kind ≡ kind_of k → overflow_in_store store ≡ overflow_in_volume (volume_of content) → 16 ≤ file.fields.id
+      → has_empty_record (volume_of content) file.fields.id (kind_of k) ≡ false → ChangesFew 1 store file.fields.id kind cut.stays
+  store_few_once keep cut last store kind is same user none =
+      let other : file.fields.id ≢ extents_id = λ own. absurd (omega (arith, own, user)) in
+      few_one keep list cut last store file.fields.id kind other (fork_at (kind_of k) file) eight
+      (is_list ∙ (λ i. extents_of (sym same i) file.fields.id (sym is i) (fork_at (kind_of k) file)))
+      (subst (λ (o : List Overflow × ℕ). GoesOn o.0 (record { id = file.fields.id; kind = o.1; fork = fork_at (kind_of k) file })) {x = (overflow_in_volume (volume_of content), kind_of k)} {y = (overflow_in_store store, kind)} (λ i. (sym same i, sym is i)) (goes_on_for v content settled k file has))
+      ((λ i. length (kept (is_of file.fields.id (is i)) (same i))) ∙ filled file.fields.id (kind_of k) (volume_of content).overflow_pairs list other (has_extents v content settled k file has eight list is_list (overflow_in_volume (volume_of content)) (kind_of k) refl refl) none)
+
+  -- so many changes as it is taken for, and they add no record
+  pub store_few_by : (emptied : Bool) (keep : ℕ) (cut : Cut) → IsLastCut keep list cut → (store : Store) (kind : ℕ) → kind ≡ kind_of k → overflow_in_store store ≡ overflow_in_volume (volume_of content) → 16 ≤ file.fields.id
+      → emptied ≡ has_empty_record (volume_of content) file.fields.id (kind_of k) → ChangesFew (changes_in emptied) store file.fields.id kind cut.stays
+  store_few_by true keep cut last store kind is same user told = store_few v content settled k file has eight list is_list keep cut last store kind is same user
+  store_few_by false keep cut last store kind is same user told = store_few_once keep cut last store kind is same user (sym told)

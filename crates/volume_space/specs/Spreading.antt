@@ -1,5 +1,9 @@
 -- The extents of a fork, of which those behind the eight of its record stand in overflow records.
-use Rattle.std.specs.Prelude.{◌≡◌, ◌<◌, ℕ, ◌==◌, ◌&&◌, Bool, false, not, nat_le, List, [], ◌∷◌, slice_index}
+use Rattle.std.specs.Prelude.{◌≡◌, ◌<◌, ℕ, ◌==◌, ◌&&◌, Bool, false, not, nat_le, List, [], ◌∷◌, slice_index, ◌≤◌, ◌*◌, ◌/◌, min, true, length}
+use Rattle.overflow.specs.Room.{changes_for, edits_for}
+use Rattle.overflow.specs.Changes.{are_light}
+use Rattle.btree_edit.specs.Editing.{edit_writes}
+use Rattle.btree_node.specs.Store.{Store}
 use Rattle.std.specs.List.{Contains}
 use Rattle.hx_bytes.specs.declared.extents.Extent.{Extent}
 use Rattle.hx_bytes.specs.declared.extents.ForkRecord.{ForkRecord}
@@ -66,3 +70,11 @@ cost_of_shape shape = record { node_size = shape.node_size; depth = shape.depth;
 -- the sectors that so many edits of an extents overflow file of this shape put at most, where it doesn't grow
 abbrev pub edits_load : TreeShape → ℕ → ℕ
 edits_load shape edits = tree_load extents_key (cost_of_shape shape) edits 0
+
+-- The changes that make a fork's overflow records those for other extents add no record, and are no more than so many.
+abbrev pub ChangesFew : ℕ → Store → ℕ → ℕ → List Extent → Type 0
+ChangesFew most store id kind new = (are_light (changes_for store id kind new) ≡ true) × (edits_for store id kind new ≤ most)
+
+-- the sectors that so many changes put at most in a tree of this shape, where they add no record
+abbrev pub light_load : TreeShape → ℕ → ℕ
+light_load shape changes = shape.node_size / 512 * min (changes * edit_writes shape.depth) shape.total

@@ -26,7 +26,7 @@ ghost use Rattle.volume_base.specs.Looking.{ReadsVolume};
 ghost use Rattle.volume_base.specs.Reading.{HasFile};
 ghost use Rattle.volume_base.specs.Service.{IsInService};
 ghost use Rattle.volume_space.specs.Recording.{records_held};
-ghost use Rattle.volume_space.specs.Spreading.{SpreadsExtents, StoresExtents, edits_load, is_met_extents, needs_extents};
+ghost use Rattle.volume_space.specs.Spreading.{SpreadsExtents, StoresExtents, edits_load, is_met_extents, needs_extents, ChangesFew, light_load};
 ghost use Rattle.volume_base.specs.Spreading.{StoresFork};
 ghost use Rattle.volume_base.specs.Standing.{IsSettled, StandsOver, own_sectors};
 ghost use Rattle.volume_base.specs.Touching.{Touches};
@@ -194,6 +194,8 @@ pub(crate) fn store_records<P: SectorSpace>(
     ensures desk { IsDeskOf (numbers_of tree.new).node_size desk.new }
     // On a fault too, it puts no more sectors than the load counts for so many edits.
     ensures spent { IsTrue (P.SectorView.space space.old).tells → (edits : ℕ) → ((names : List ℕ) → edits_for (state_of names tree.old (P.SectorView.space space.old)) id kind new.now ≤ edits) → (P.SectorView.space space.old).spare ≤ (P.SectorView.space space.new).spare + edits_load tree.old.shape edits }
+    // Where they add no record, no more than so many changes write.
+    ensures light { IsTrue (P.SectorView.space space.old).tells → (changes : ℕ) → ((names : List ℕ) → ChangesFew changes (state_of names tree.old (P.SectorView.space space.old)) id kind new.now) → (P.SectorView.space space.old).spare ≤ (P.SectorView.space space.new).spare + light_load tree.old.shape changes }
     ensures below { P.SectorView.follows space.old space.new }
     ensures cause { HasTroubleCause (P.SectorView.space space.old).faults (P.SectorView.space space.new).faults result }
 {
@@ -290,6 +292,8 @@ pub(crate) fn store_extents<P: SectorSpace>(
     // On a fault too, it puts sectors of its own alone, whatever was committed last, and no more than the load counts for so many edits.
     ensures touches { (committed : Content) → Touches committed (λ s. Contains (own_sectors volume.old) s) (P.SectorView.space space.old) (P.SectorView.space space.new) }
     ensures spent { IsTrue (P.SectorView.space space.old).tells → (edits : ℕ) → ((names : List ℕ) → edits_for (state_of names volume.old.extents.file (P.SectorView.space space.old)) id kind new.now ≤ edits) → (P.SectorView.space space.old).spare ≤ (P.SectorView.space space.new).spare + edits_load volume.old.extents.file.shape edits }
+    // Where they add no record, no more than so many changes write.
+    ensures light { IsTrue (P.SectorView.space space.old).tells → (changes : ℕ) → ((names : List ℕ) → ChangesFew changes (state_of names volume.old.extents.file (P.SectorView.space space.old)) id kind new.now) → (P.SectorView.space space.old).spare ≤ (P.SectorView.space space.new).spare + light_load volume.old.extents.file.shape changes }
     ensures below { P.SectorView.follows space.old space.new }
     ensures cause { HasTroubleCause (P.SectorView.space space.old).faults (P.SectorView.space space.new).faults result }
 {

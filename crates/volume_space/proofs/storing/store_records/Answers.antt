@@ -11,7 +11,7 @@ use Rattle.overflow.specs.Reading.{HasExtents}
 use Rattle.volume_base.specs.Spreading.{StoresFork}
 use Rattle.volume_base.proofs.EditsOn.{pairs_again}
 use Rattle.volume_space.proofs.ExtentsEdited.{holds_again, stores_both, told_so}
-use Rattle.volume_space.proofs.EditsTaken.{stored_taken}
+use Rattle.volume_space.proofs.EditsTaken.{stored_taken, light_taken}
 use Rattle.volume_space.proofs.storing.store_records.Goals as goal
 
 pub store_fork-requires-clause-tree : goal.store_fork-requires-clause-tree
@@ -60,3 +60,8 @@ pub returns-clause-spent : goal.returns-clause-spent
 returns-clause-spent g c tells edits few =
     let space_is = c.space-1.given.1 (sym (ap (λ (l : List ℕ). get_or l 1 0) c.store_fork.ensures.same.names)) in
     rw space_is (stored_taken c.edits_take_their_load.ensures _ c.args.tree.now (g.P.SectorView.space c.args.space.now) _ c.args.id c.args.kind c.args.new.now edits tells c.store_fork.ensures.same c.store_fork.ensures.takes few)
+
+pub returns-clause-light : goal.returns-clause-light
+returns-clause-light g c tells changes few =
+    let space_is = c.space-1.given.1 (sym (ap (λ (l : List ℕ). get_or l 1 0) c.store_fork.ensures.same.names)) in
+    rw space_is (light_taken _ c.args.tree.now (g.P.SectorView.space c.args.space.now) _ c.args.id c.args.kind c.args.new.now changes (c.store_fork.ensures.light tells) few)
