@@ -14,7 +14,7 @@ use Rattle.hfs_volume.specs.Content.{VolumeState, overflow_in_volume, volume_of}
 use Rattle.hfs_volume.specs.Entries.{AreSpelled}
 use Rattle.hfs_volume.specs.Records.{overflow_of}
 use Rattle.overflow.specs.Reading.{overflow_in_store}
-use Rattle.volume_base.specs.Changing.{ReplacesRecord}
+use Rattle.volume_base.specs.Changing.{ReplacesRecord, catalog_node}
 use Rattle.volume_space.specs.Cutting.{CutsFile, PutsGiven, kind_of}
 use Rattle.volume_base.specs.Cutting.{cut_fork_of, fork_at}
 use Rattle.volume_base.specs.Keeping.{shrunk_of}
@@ -30,7 +30,7 @@ use Rattle.volume_base.proofs.FoundEntry.{ok_both, settled_spelled}
 use Rattle.volume_space.proofs.KeptUsed.{used_blocks, used_both}
 use Rattle.volume_base.proofs.Seeing.{cause_since}
 use Rattle.volume_space.proofs.SpreadFile.{blocks_stored, eight_in, few_stay, has_extents, has_file, kind_is, stays_in_use}
-use Rattle.volume_space.proofs.StoreRoom.{store_room_by}
+use Rattle.volume_space.proofs.StoreRoom.{store_room_by, store_spent}
 use Rattle.volume_space.proofs.cutting.cut_fork.Goals as goal
 
 -- ---- the overflow records
@@ -148,3 +148,39 @@ returns-in_err-store_extents-clause-touches g c committed = touches_both committ
 
 pub returns-in_err-store_extents-clause-below : goal.returns-in_err-store_extents-clause-below
 returns-in_err-store_extents-clause-below g c = g.met.P.SectorView.follows_trans c.args.space.now c.put_back.new.space c.store_extents.new.space c.put_back.ensures.below c.store_extents.ensures.below
+
+-- ---- what it puts
+
+pub returns-in_err-put_back-clause-spent : goal.returns-in_err-put_back-clause-spent
+returns-in_err-put_back-clause-spent g c tells = omega (arith, c.put_back.ensures.spent)
+
+pub returns-then-not-fits_spread-clause-spent : goal.returns-then-not-fits_spread-clause-spent
+returns-then-not-fits_spread-clause-spent g c tells = omega (arith, c.put_back.ensures.spent)
+
+pub returns-in_err-store_extents-clause-spent : goal.returns-in_err-store_extents-clause-spent
+returns-in_err-store_extents-clause-spent g c tells =
+    let between = (c.put_back.ensures.touches []).same.tells ∙ tells in
+    let file_is = has_file c.args.volume.now (g.P.SectorView.space c.args.space.now).content (c.requires.settled tells) c.args.entry.now c.args.file.now (c.requires.there tells) c.requires.is in
+    let stored = store_spent c.args.volume.now (g.P.SectorView.space c.args.space.now).content (c.requires.settled tells) c.args.kind c.args.file.now file_is (eight_in c.args.kind c.args.file.now c.requires.fits) c.args.list.now (c.requires.list tells)
+            c.args.emptied c.args._keep c.args.cut.now c.requires.cut.last c.put_back.new.volume (g.P.SectorView.space c.put_back.new.space) (c.in_ok-put_back.ensures.stands.stands between).trees.extents c.in_ok-put_back.ensures.gives (c.in_ok-put_back.ensures.puts tells)
+            c.number_of.result c.number_of.ensures.same c.requires.number (c.requires.emptied tells) (g.P.SectorView.space c.store_extents.new.space).spare (c.store_extents.ensures.light between) in
+    omega (arith, c.put_back.ensures.spent, stored)
+
+pub returns-then-not-fits_update-clause-spent : goal.returns-then-not-fits_update-clause-spent
+returns-then-not-fits_update-clause-spent g c tells =
+    let between = (c.put_back.ensures.touches []).same.tells ∙ tells in
+    let file_is = has_file c.args.volume.now (g.P.SectorView.space c.args.space.now).content (c.requires.settled tells) c.args.entry.now c.args.file.now (c.requires.there tells) c.requires.is in
+    let stored = store_spent c.args.volume.now (g.P.SectorView.space c.args.space.now).content (c.requires.settled tells) c.args.kind c.args.file.now file_is (eight_in c.args.kind c.args.file.now c.requires.fits) c.args.list.now (c.requires.list tells)
+            c.args.emptied c.args._keep c.args.cut.now c.requires.cut.last c.put_back.new.volume (g.P.SectorView.space c.put_back.new.space) (c.in_ok-put_back.ensures.stands.stands between).trees.extents c.in_ok-put_back.ensures.gives (c.in_ok-put_back.ensures.puts tells)
+            c.number_of.result c.number_of.ensures.same c.requires.number (c.requires.emptied tells) (g.P.SectorView.space c.store_extents.new.space).spare (c.store_extents.ensures.light between) in
+    omega (arith, c.put_back.ensures.spent, stored)
+
+pub returns-clause-spent : goal.returns-clause-spent
+returns-clause-spent g c tells =
+    let between = (c.put_back.ensures.touches []).same.tells ∙ tells in
+    let file_is = has_file c.args.volume.now (g.P.SectorView.space c.args.space.now).content (c.requires.settled tells) c.args.entry.now c.args.file.now (c.requires.there tells) c.requires.is in
+    let stored = store_spent c.args.volume.now (g.P.SectorView.space c.args.space.now).content (c.requires.settled tells) c.args.kind c.args.file.now file_is (eight_in c.args.kind c.args.file.now c.requires.fits) c.args.list.now (c.requires.list tells)
+            c.args.emptied c.args._keep c.args.cut.now c.requires.cut.last c.put_back.new.volume (g.P.SectorView.space c.put_back.new.space) (c.in_ok-put_back.ensures.stands.stands between).trees.extents c.in_ok-put_back.ensures.gives (c.in_ok-put_back.ensures.puts tells)
+            c.number_of.result c.number_of.ensures.same c.requires.number (c.requires.emptied tells) (g.P.SectorView.space c.store_extents.new.space).spare (c.store_extents.ensures.light between) in
+    let node : catalog_node c.store_extents.new.volume ≡ catalog_node c.args.volume.now = ap (λ (x : Volume). catalog_node x) c.store_extents.ensures.rest ∙ ap (λ (x : Volume). catalog_node x) c.in_ok-put_back.ensures.gives in
+    omega (arith, c.put_back.ensures.spent, stored, c.put_shorter.ensures.spent ((c.store_extents.ensures.touches []).same.tells ∙ between), node)
