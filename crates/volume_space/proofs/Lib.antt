@@ -106,6 +106,7 @@ pub mod SpreadStands
 pub mod SpreadStored
 pub mod SpreadTrees
 pub mod Spreads
+pub mod StepSpent
 pub mod StoreRoom
 pub mod Stripped
 pub mod TakenOut

@@ -31,7 +31,7 @@ unfolding reclaim_cost_with
 short_bare v a id name never = not_met (is_met (cost_of (needs_of (wants 0 0 1 1)) (room_with (capacity_of v) (free_of v.map) (volume_of a.content))) a.spare) never
 
 -- what a cut puts by the volume's own numbers
-trim_is : (emptied : Bool) (v : Volume) (content : Content) → IsSettled v content → trim_load emptied v ≡ cut_puts (changes_in emptied) (room_on blocks.All v)
+pub trim_is : (emptied : Bool) (v : Volume) (content : Content) → IsSettled v content → trim_load emptied v ≡ cut_puts (changes_in emptied) (room_on blocks.All v)
 trim_is emptied v content settled =
     let sizes : parts_for v.header.total_blocks 4096 ≡ sectors_for (length v.map.used) = omega (arith, settled.blocks) in
     omega (arith, ap (λ n. min n 10) sizes)

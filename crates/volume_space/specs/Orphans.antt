@@ -1,5 +1,5 @@
 -- Files that lost their last name and wait in the private folder: how a step of housekeeping finds the first of them, and what it does to it.
-use Rattle.std.specs.Prelude.{◌≡◌, ◌⊎◌, ◌<◌, ◌==◌, ◌&&◌, ◌||◌, nat_lt, ℕ, Bool, true, false, not, List, [], ◌∷◌, length, drop, slice_index, Option, Some, None, if◌then◌else◌}
+use Rattle.std.specs.Prelude.{◌≡◌, ◌⊎◌, ◌<◌, ◌==◌, ◌&&◌, ◌||◌, nat_lt, ℕ, Bool, true, false, not, List, [], ◌∷◌, length, drop, slice_index, Option, Some, None, if◌then◌else◌, ◌≤◌, ◌+◌}
 use Rattle.std.specs.List.{list_all}
 use Rattle.sector_disk.specs.Lists.{Content}
 use Rattle.jnl_format.specs.Recovery.{header_of_volume}
@@ -148,6 +148,23 @@ pub record HasCut (capacity : ℕ) (shrunk : Option ℕ) (before after : Content
 -- the next step was made
 abbrev pub HasMade : ℕ → Option ℕ → Content → Content → Type 0
 HasMade capacity shrunk before after = HasDropped capacity shrunk before after ⊎ (HasBared capacity shrunk before after ⊎ HasCut capacity shrunk before after)
+
+-- So many sectors may be put behind a step, of those that could be before it: a cut puts no more than a cut puts at most, and a drop, where its cost is a
+-- load, no more than that load.
+abbrev pub PutsStep : ℕ → VolumeState → Reclaim → ℕ → ℕ → Type 0
+PutsStep capacity volume (CutShrunk id) before after = before ≤ after + cut_puts (changes_in (cuts_emptied volume (CutShrunk id))) (room_with capacity (free_blocks volume) volume)
+PutsStep capacity volume (CutOrphan id kind) before after = before ≤ after + cut_puts (changes_in (cuts_emptied volume (CutOrphan id kind))) (room_with capacity (free_blocks volume) volume)
+PutsStep capacity volume (DropAttribute id name) before after = (load : ℕ) (grow : List ℕ) → reclaim_cost capacity volume (DropAttribute id name) ≡ cost.Load load grow → before ≤ after + load
+PutsStep capacity volume (DropOrphan id) before after = (load : ℕ) (grow : List ℕ) → reclaim_cost capacity volume (DropOrphan id) ≡ cost.Load load grow → before ≤ after + load
+
+-- nothing was put, or no more than the next step puts
+abbrev pub PutsNext : ℕ → Option ℕ → VolumeState → ℕ → ℕ → Type 0
+PutsNext capacity shrunk volume before after = (before ≤ after) ⊎ ((step : Reclaim) × (next_reclaim volume shrunk ≡ Some step) × PutsStep capacity volume step before after)
+
+-- Where the cost of the next step is a load, and it cuts no fork with an overflow record without an extent in use, no more was put than that load.
+abbrev pub TakesNextLoad : ℕ → Option ℕ → VolumeState → ℕ → ℕ → Type 0
+TakesNextLoad capacity shrunk volume before after =
+    (step : Reclaim) (load : ℕ) (grow : List ℕ) → next_reclaim volume shrunk ≡ Some step → cuts_emptied volume step ≡ false → reclaim_cost capacity volume step ≡ cost.Load load grow → before ≤ after + load
 
 -- where these blocks may be taken and so many sectors be put, there is too little room for a step: a cut may put more, and a drop isn't met by what it costs
 abbrev pub IsShort : ℕ → List Bool → ℕ → VolumeState → Reclaim → Type 0

@@ -1,5 +1,5 @@
 //! An attribute of a file that lost its last name, dropped.
-ghost use Rattle.std.specs.Prelude.{◌≡◌, ◌≤◌, ℕ, true, false, Option, Some, IsTrue, IfOk, IfSome, length, List, OnOk};
+ghost use Rattle.std.specs.Prelude.{◌≡◌, ◌≤◌, ℕ, true, false, Option, Some, IsTrue, IfOk, IfSome, length, List, OnOk, ◌+◌};
 ghost use Rattle.std.specs.List.{Contains};
 ghost use Rattle.sector_disk.specs.Lists.{Content};
 ghost use Rattle.alloc_bitmap.specs.Map.{free_of};
@@ -18,11 +18,12 @@ ghost use Rattle.volume_space.specs.Cutting.{KeepsUsed};
 ghost use Rattle.volume_base.specs.Keeping.{shrunk_of};
 ghost use Rattle.volume_base.specs.Lists.{lists_of};
 ghost use Rattle.volume_base.specs.Looking.{ReadsVolume};
-ghost use Rattle.volume_space.specs.Orphans.{AffordsStep, BaresWaiting, TidiesAs, bare_edits};
+ghost use Rattle.volume_space.specs.Orphans.{AffordsStep, BaresWaiting, TidiesAs, bare_edits, PutsNext};
 ghost use Rattle.volume_base.specs.Orphans.{IsFirstName, is_blockless};
 ghost use Rattle.volume_base.specs.Room.{capacity_of, free_in};
 ghost use Rattle.volume_base.specs.Weighing.{needs_asked};
 ghost use Rattle.volume_base.specs.declared.room.FreeBlocks.TheVariants as blocks;
+ghost use Rattle.volume_base.specs.Removing.{bare_load};
 ghost use Rattle.volume_base.specs.Service.{IsInService};
 ghost use Rattle.volume_base.specs.Standing.{IsSettled, StandsOver, own_sectors};
 ghost use Rattle.volume_base.specs.Touching.{Touches};
@@ -37,7 +38,7 @@ use hfs_volume::{
 use hx_bytes::{OutOfMemory, Trouble, Units};
 use sector_disk::SectorSpace;
 use std::alloc::Global;
-use tree_weights::edits_have_room;
+use tree_weights::{edits_have_room, edits_take_their_load};
 use volume_base::{Edits, Entry, FreeBlocks, Volume, copy_name};
 
 /// The first of these names, if there is one.
@@ -158,12 +159,14 @@ fn strip<P: SectorSpace>(
     ensures does { IsTrue (P.SectorView.space space.old).tells
         → OnOk result (IsSettled volume.new (P.SectorView.space space.new).content × ((waiting : BaresWaiting (shrunk_of volume.old) (P.SectorView.space space.old).content (P.SectorView.space space.new).content) × (waiting.id ≡ id) × (waiting.name ≡ name.now))) }
     ensures touches { (committed : Content) → Touches committed (λ s. Contains (own_sectors volume.old) s) (P.SectorView.space space.old) (P.SectorView.space space.new) }
+    ensures spent { IsTrue (P.SectorView.space space.old).tells → (P.SectorView.space space.old).spare ≤ (P.SectorView.space space.new).spare + bare_load volume.old 1 }
     ensures below { P.SectorView.follows space.old space.new }
     ensures cause { HasTroubleCause (P.SectorView.space space.old).faults (P.SectorView.space space.new).faults result }
 {
     reclaim_drops_an_attribute();
     reclaim_drops_attributes_of_orphans();
     edits_have_room();
+    edits_take_their_load();
     volume.delete(alloc, space, id, name)?;
     Ok(())
 }
@@ -185,6 +188,7 @@ fn tidy_attribute<P: SectorSpace>(
     ensures service { IsInService volume.new (P.SectorView.space space.new) }
     ensures blocks { KeepsBlocks volume.old volume.new }
     ensures touches { (committed : Content) → Touches committed (λ s. Contains (own_sectors volume.old) s) (P.SectorView.space space.old) (P.SectorView.space space.new) }
+    ensures spent { IsTrue (P.SectorView.space space.old).tells → PutsNext (capacity_of volume.old) (shrunk_of volume.old) (volume_of (P.SectorView.space space.old).content) (P.SectorView.space space.old).spare (P.SectorView.space space.new).spare }
     ensures below { P.SectorView.follows space.old space.new }
     ensures cause { HasTroubleCause (P.SectorView.space space.old).faults (P.SectorView.space space.new).faults result }
 {
@@ -230,6 +234,7 @@ pub(crate) fn tidy_owner<P: SectorSpace>(
     ensures service { IsInService volume.new (P.SectorView.space space.new) }
     ensures used { KeepsUsed volume.old volume.new }
     ensures touches { (committed : Content) → Touches committed (λ s. Contains (own_sectors volume.old) s) (P.SectorView.space space.old) (P.SectorView.space space.new) }
+    ensures spent { IsTrue (P.SectorView.space space.old).tells → PutsNext (capacity_of volume.old) (shrunk_of volume.old) (volume_of (P.SectorView.space space.old).content) (P.SectorView.space space.old).spare (P.SectorView.space space.new).spare }
     ensures below { P.SectorView.follows space.old space.new }
     ensures cause { HasTroubleCause (P.SectorView.space space.old).faults (P.SectorView.space space.new).faults result }
 {

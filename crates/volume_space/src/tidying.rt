@@ -16,7 +16,7 @@ ghost use Rattle.volume_space.specs.Cutting.{KeepsUsed};
 ghost use Rattle.volume_base.specs.Keeping.{shrunk_of};
 ghost use Rattle.volume_base.specs.Lists.{lists_of};
 ghost use Rattle.volume_base.specs.Looking.{ReadsVolume};
-ghost use Rattle.volume_space.specs.Orphans.{AffordsStep, IsToDrop, TidiesAs, drop_edits, grows_none, is_refused};
+ghost use Rattle.volume_space.specs.Orphans.{AffordsStep, IsToDrop, TidiesAs, drop_edits, grows_none, is_refused, PutsNext, TakesNextLoad};
 ghost use Rattle.volume_base.specs.Orphans.{is_blockless};
 ghost use Rattle.volume_base.specs.Room.{capacity_of, free_in};
 ghost use Rattle.volume_base.specs.Weighing.{needs_asked};
@@ -191,6 +191,7 @@ fn tidy_entry<P: SectorSpace>(
     ensures service { IsInService volume.new (P.SectorView.space space.new) }
     ensures blocks { KeepsBlocks volume.old volume.new }
     ensures touches { (committed : Content) → Touches committed (λ s. Contains (own_sectors volume.old) s) (P.SectorView.space space.old) (P.SectorView.space space.new) }
+    ensures spent { IsTrue (P.SectorView.space space.old).tells → PutsNext (capacity_of volume.old) (shrunk_of volume.old) (volume_of (P.SectorView.space space.old).content) (P.SectorView.space space.old).spare (P.SectorView.space space.new).spare }
     ensures below { P.SectorView.follows space.old space.new }
     ensures cause { HasTroubleCause (P.SectorView.space space.old).faults (P.SectorView.space space.new).faults result }
 {
@@ -232,6 +233,7 @@ fn tidy_waiting<P: SectorSpace>(
     ensures service { IsInService volume.new (P.SectorView.space space.new) }
     ensures used { KeepsUsed volume.old volume.new }
     ensures touches { (committed : Content) → Touches committed (λ s. Contains (own_sectors volume.old) s) (P.SectorView.space space.old) (P.SectorView.space space.new) }
+    ensures spent { IsTrue (P.SectorView.space space.old).tells → PutsNext (capacity_of volume.old) (shrunk_of volume.old) (volume_of (P.SectorView.space space.old).content) (P.SectorView.space space.old).spare (P.SectorView.space space.new).spare }
     ensures below { P.SectorView.follows space.old space.new }
     ensures cause { HasTroubleCause (P.SectorView.space space.old).faults (P.SectorView.space space.new).faults result }
 {
@@ -256,6 +258,7 @@ pub(crate) fn tidy_unshrunk<P: SectorSpace>(
     ensures service { IsInService volume.new (P.SectorView.space space.new) }
     ensures used { KeepsUsed volume.old volume.new }
     ensures touches { (committed : Content) → Touches committed (λ s. Contains (own_sectors volume.old) s) (P.SectorView.space space.old) (P.SectorView.space space.new) }
+    ensures spent { IsTrue (P.SectorView.space space.old).tells → PutsNext (capacity_of volume.old) (shrunk_of volume.old) (volume_of (P.SectorView.space space.old).content) (P.SectorView.space space.old).spare (P.SectorView.space space.new).spare }
     ensures below { P.SectorView.follows space.old space.new }
     ensures cause { HasTroubleCause (P.SectorView.space space.old).faults (P.SectorView.space space.new).faults result }
 {
@@ -287,6 +290,10 @@ pub fn tidy<P: SectorSpace>(
     ensures used { KeepsUsed volume.old volume.new }
     // On a fault too, it puts sectors of its own alone, whatever was committed last.
     ensures touches { (committed : Content) → Touches committed (λ s. Contains (own_sectors volume.old) s) (P.SectorView.space space.old) (P.SectorView.space space.new) }
+    // On a fault too, it puts no more sectors than the next step puts at most; and than its load, but where a cut is of a fork that has an
+    // overflow record without an extent in use.
+    ensures spent { IsTrue (P.SectorView.space space.old).tells → PutsNext (capacity_of volume.old) (shrunk_of volume.old) (volume_of (P.SectorView.space space.old).content) (P.SectorView.space space.old).spare (P.SectorView.space space.new).spare }
+    ensures loads { IsTrue (P.SectorView.space space.old).tells → TakesNextLoad (capacity_of volume.old) (shrunk_of volume.old) (volume_of (P.SectorView.space space.old).content) (P.SectorView.space space.old).spare (P.SectorView.space space.new).spare }
     ensures below { P.SectorView.follows space.old space.new }
     ensures cause { HasTroubleCause (P.SectorView.space space.old).faults (P.SectorView.space space.new).faults result }
 {

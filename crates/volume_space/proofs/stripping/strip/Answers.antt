@@ -1,8 +1,9 @@
-use Rattle.std.proofs.Common.{refl, ◌∙◌}
+use Rattle.std.proofs.Common.{refl, ◌∙◌, []}
 use Rattle.volume_base.specs.Keeping.{shrunk_of}
 use Rattle.volume_base.proofs.Besides.{blocks_owned}
 use Rattle.volume_base.proofs.MarkRoom.{room_for_edits}
 use Rattle.volume_base.proofs.OwnedChange.{settled_inline}
+use Rattle.volume_space.proofs.StepSpent.{bare_taken}
 use Rattle.volume_space.proofs.Stripped.{bared_one}
 use Rattle.volume_space.proofs.stripping.strip.Goals as goal
 
@@ -23,3 +24,11 @@ returns-clause-blocks g c = blocks_owned c.args.volume.now c.delete.new.self c.d
 
 pub returns-in_err-delete-clause-blocks : goal.returns-in_err-delete-clause-blocks
 returns-in_err-delete-clause-blocks g c = blocks_owned c.args.volume.now c.delete.new.self c.delete.ensures.rest
+
+-- ---- what it puts
+
+pub returns-clause-spent : goal.returns-clause-spent
+returns-clause-spent g c tells = bare_taken c.edits_take_their_load.ensures 1 c.args.volume.now c.delete.new.self (g.P.SectorView.space c.args.space.now) (g.P.SectorView.space c.delete.new.space) tells c.requires.size (c.delete.ensures.takes [])
+
+pub returns-in_err-delete-clause-spent : goal.returns-in_err-delete-clause-spent
+returns-in_err-delete-clause-spent g c tells = bare_taken c.edits_take_their_load.ensures 1 c.args.volume.now c.delete.new.self (g.P.SectorView.space c.args.space.now) (g.P.SectorView.space c.delete.new.space) tells c.requires.size (c.delete.ensures.takes [])

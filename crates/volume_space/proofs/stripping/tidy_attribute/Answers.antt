@@ -7,6 +7,8 @@ use Rattle.volume_base.specs.Room.{capacity_of}
 use Rattle.volume_base.proofs.Besides.{blocks_none}
 use Rattle.volume_base.proofs.Commanding.{touches_none}
 use Rattle.volume_base.proofs.Still.{has_them}
+use Rattle.volume_base.specs.Keeping.{shrunk_of}
+use Rattle.volume_space.proofs.StepSpent.{bare_spent}
 use Rattle.volume_space.proofs.Shorts.{short_bare}
 use Rattle.volume_space.proofs.stripping.tidy_attribute.Goals as goal
 
@@ -108,3 +110,29 @@ returns-then-not-affords_bare-clause-cause g c = record { later = omega arith; f
 pub returns-then-not-fits_delattr-clause-tidied : goal.returns-then-not-fits_delattr-clause-tidied
 returns-then-not-fits_delattr-clause-tidied g c tells =
     (refl, (DropAttribute c.args.id c.args.name.now, c.requires.waits tells, short_bare c.args.volume.now (g.P.SectorView.space c.args.space.now) c.args.id c.args.name.now (λ met. absurd (true≢false (sym (c.fits_delattr.ensures.met tells met) ∙ c.if-not-fits_delattr.true)))))
+
+-- ---- what it puts
+
+pub returns-then-len-gt127-clause-spent : goal.returns-then-len-gt127-clause-spent
+returns-then-len-gt127-clause-spent g c tells = inl (omega arith)
+
+pub returns-then-volume-eq0-clause-spent : goal.returns-then-volume-eq0-clause-spent
+returns-then-volume-eq0-clause-spent g c tells = inl (omega arith)
+
+pub returns-then-shape-lt4096-clause-spent : goal.returns-then-shape-lt4096-clause-spent
+returns-then-shape-lt4096-clause-spent g c tells = inl (omega arith)
+
+pub returns-then-lacks_bare-clause-spent : goal.returns-then-lacks_bare-clause-spent
+returns-then-lacks_bare-clause-spent g c tells = inl (omega arith)
+
+pub returns-then-not-affords_bare-clause-spent : goal.returns-then-not-affords_bare-clause-spent
+returns-then-not-affords_bare-clause-spent g c tells = inl (omega arith)
+
+pub returns-then-not-fits_delattr-clause-spent : goal.returns-then-not-fits_delattr-clause-spent
+returns-then-not-fits_delattr-clause-spent g c tells = inl (omega arith)
+
+pub returns-clause-spent : goal.returns-clause-spent
+returns-clause-spent g c tells = bare_spent c.args.volume.now (g.P.SectorView.space c.args.space.now).content (c.requires.settled tells) (has_them c.args.volume.now.header c.if-volume-eq0.false) (g.P.SectorView.space c.args.space.now).spare (g.P.SectorView.space c.strip.new.space).spare (c.strip.ensures.spent tells) (shrunk_of c.args.volume.now) c.args.id c.args.name.now (c.requires.waits tells)
+
+pub returns-in_err-strip-clause-spent : goal.returns-in_err-strip-clause-spent
+returns-in_err-strip-clause-spent g c tells = bare_spent c.args.volume.now (g.P.SectorView.space c.args.space.now).content (c.requires.settled tells) (has_them c.args.volume.now.header c.if-volume-eq0.false) (g.P.SectorView.space c.args.space.now).spare (g.P.SectorView.space c.strip.new.space).spare (c.strip.ensures.spent tells) (shrunk_of c.args.volume.now) c.args.id c.args.name.now (c.requires.waits tells)

@@ -1,4 +1,4 @@
-use Rattle.std.proofs.Common.{◌≡◌, ◌≤◌, ℕ, false, true, length, List, arith, sym, ◌∙◌, ap, subst, refl}
+use Rattle.std.proofs.Common.{◌≡◌, ◌≤◌, ℕ, false, true, length, List, arith, sym, ◌∙◌, ap, subst, refl, inl}
 use Rattle.std.specs.Prelude.{Option, IfSome, Some, None, IsTrue}
 use Rattle.std.specs.List.{Contains}
 use Rattle.sector_disk.specs.Lists.{Content}
@@ -12,6 +12,7 @@ use Rattle.hfs_volume.specs.Reclaim.{DropAttribute, has_surplus_left, least, nex
 use Rattle.volume_base.specs.Keeping.{shrunk_of}
 use Rattle.volume_base.specs.Room.{capacity_of}
 use Rattle.volume_base.specs.Touching.{Touches}
+use Rattle.volume_space.proofs.StepSpent.{next_behind}
 use Rattle.volume_space.proofs.Affording.{tidied_behind}
 use Rattle.volume_base.proofs.Commanding.{touches_both, touches_looks}
 use Rattle.volume_space.proofs.KeptUsed.{used_blocks, used_both, used_read}
@@ -86,3 +87,18 @@ returns-in_err-name-clause-touches g c committed = touches_looks committed _ (g.
 
 pub returns-in_err-name-clause-used : goal.returns-in_err-name-clause-used
 returns-in_err-name-clause-used g c = used_read c.args.volume.now c.next_owned.new.volume (g.P.SectorView.space c.args.space.now) (g.P.SectorView.space c.next_owned.new.space) c.next_owned.ensures.reads
+
+-- ---- what it puts
+
+pub returns-in-Some-clause-spent : goal.returns-in-Some-clause-spent
+returns-in-Some-clause-spent g c tells = 
+    next_behind (g.P.SectorView.space c.args.space.now).content (g.P.SectorView.space c.next_owned.new.space).content (c.next_owned.ensures.reads.looks.content tells) (capacity_of c.args.volume.now) (capacity_of c.next_owned.new.volume) c.next_owned.ensures.reads.keeps.capacity (shrunk_of c.args.volume.now) (shrunk_of c.next_owned.new.volume) c.next_owned.ensures.reads.keeps.shrunk (g.P.SectorView.space c.args.space.now).spare (g.P.SectorView.space c.next_owned.new.space).spare c.next_owned.ensures.reads.looks.spare (g.P.SectorView.space c.tidy_attribute.new.space).spare
+    (c.tidy_attribute.ensures.spent (c.next_owned.ensures.reads.looks.same.tells ∙ tells))
+
+pub returns-in-None-clause-spent : goal.returns-in-None-clause-spent
+returns-in-None-clause-spent g c tells = 
+    next_behind (g.P.SectorView.space c.args.space.now).content (g.P.SectorView.space c.next_owned.new.space).content (c.next_owned.ensures.reads.looks.content tells) (capacity_of c.args.volume.now) (capacity_of c.next_owned.new.volume) c.next_owned.ensures.reads.keeps.capacity (shrunk_of c.args.volume.now) (shrunk_of c.next_owned.new.volume) c.next_owned.ensures.reads.keeps.shrunk (g.P.SectorView.space c.args.space.now).spare (g.P.SectorView.space c.next_owned.new.space).spare c.next_owned.ensures.reads.looks.spare (g.P.SectorView.space c.tidy_blocks.new.space).spare
+    (c.tidy_blocks.ensures.spent (c.next_owned.ensures.reads.looks.same.tells ∙ tells))
+
+pub returns-in_err-name-clause-spent : goal.returns-in_err-name-clause-spent
+returns-in_err-name-clause-spent g c tells = inl (omega (arith, c.next_owned.ensures.reads.looks.spare))

@@ -4,6 +4,8 @@ use Rattle.btree_node.specs.declared.store.TreeShape.{TreeShape}
 use Rattle.hfs_volume.specs.Reclaim.{DropOrphan}
 use Rattle.volume_base.proofs.Besides.{blocks_none}
 use Rattle.volume_base.proofs.Commanding.{touches_none}
+use Rattle.volume_base.specs.Keeping.{shrunk_of}
+use Rattle.volume_space.proofs.StepSpent.{drop_spent}
 use Rattle.volume_space.proofs.Shorts.{short_drop}
 use Rattle.volume_space.proofs.tidying.tidy_entry.Goals as goal
 
@@ -84,3 +86,26 @@ pub returns-then-not-fits_remove-clause-tidied : goal.returns-then-not-fits_remo
 returns-then-not-fits_remove-clause-tidied g c tells =
     let waits = c.requires.waits tells in
     (refl, (DropOrphan waits.id, waits.next, short_drop c.args.volume.now (g.P.SectorView.space c.args.space.now) waits.id (λ met. absurd (true≢false (sym (c.fits_remove.ensures.met tells met) ∙ c.if-not-fits_remove.true)))))
+
+-- ---- what it puts
+
+pub returns-then-is_empty-clause-spent : goal.returns-then-is_empty-clause-spent
+returns-then-is_empty-clause-spent g c tells = inl (omega arith)
+
+pub returns-then-shape-lt4096-clause-spent : goal.returns-then-shape-lt4096-clause-spent
+returns-then-shape-lt4096-clause-spent g c tells = inl (omega arith)
+
+pub returns-then-lacks_drop-clause-spent : goal.returns-then-lacks_drop-clause-spent
+returns-then-lacks_drop-clause-spent g c tells = inl (omega arith)
+
+pub returns-then-not-affords_drop-clause-spent : goal.returns-then-not-affords_drop-clause-spent
+returns-then-not-affords_drop-clause-spent g c tells = inl (omega arith)
+
+pub returns-then-not-fits_remove-clause-spent : goal.returns-then-not-fits_remove-clause-spent
+returns-then-not-fits_remove-clause-spent g c tells = inl (omega arith)
+
+pub returns-clause-spent : goal.returns-clause-spent
+returns-clause-spent g c tells = drop_spent c.args.volume.now (g.P.SectorView.space c.args.space.now).content (c.requires.settled tells) (g.P.SectorView.space c.args.space.now).spare (g.P.SectorView.space c.drop_waiting.new.space).spare (c.drop_waiting.ensures.spent tells) (shrunk_of c.args.volume.now) (c.requires.waits tells).id (c.requires.waits tells).next
+
+pub returns-in_err-drop_waiting-clause-spent : goal.returns-in_err-drop_waiting-clause-spent
+returns-in_err-drop_waiting-clause-spent g c tells = drop_spent c.args.volume.now (g.P.SectorView.space c.args.space.now).content (c.requires.settled tells) (g.P.SectorView.space c.args.space.now).spare (g.P.SectorView.space c.drop_waiting.new.space).spare (c.drop_waiting.ensures.spent tells) (shrunk_of c.args.volume.now) (c.requires.waits tells).id (c.requires.waits tells).next

@@ -1,4 +1,4 @@
-use Rattle.std.proofs.Common.{ℕ, List, sym, ◌∙◌, ap, subst}
+use Rattle.std.proofs.Common.{ℕ, List, sym, ◌∙◌, ap, subst, inl, arith}
 use Rattle.std.specs.List.{Contains}
 use Rattle.sector_disk.specs.Lists.{Content}
 use Rattle.alloc_bitmap.specs.Map.{BlockMap, free_of}
@@ -8,6 +8,7 @@ use Rattle.hfs_volume.specs.Reclaim.{has_surplus_left, least}
 use Rattle.volume_base.specs.Keeping.{shrunk_of}
 use Rattle.volume_base.specs.Room.{capacity_of}
 use Rattle.volume_base.specs.Touching.{Touches}
+use Rattle.volume_space.proofs.StepSpent.{next_behind}
 use Rattle.volume_space.proofs.Affording.{tidied_behind}
 use Rattle.volume_base.proofs.Commanding.{touches_both, touches_looks}
 use Rattle.volume_space.proofs.HeldUp.{rests_none}
@@ -65,3 +66,16 @@ returns-in_err-id-clause-used g c = used_read c.args.volume.now c.next_waiting.n
 pub returns-in-None-clause-tidied : goal.returns-in-None-clause-tidied
 returns-in-None-clause-tidied g c tells =
     (c.next_waiting.ensures.reads.looks.content tells, rests_none (capacity_of c.args.volume.now) (shrunk_of c.args.volume.now) (volume_of (g.P.SectorView.space c.args.space.now).content) (c.requires.kept tells) (sym (c.in_ok-id.ensures.found tells) ∙ c.in-None.is))
+
+-- ---- what it puts
+
+pub returns-in-Some-clause-spent : goal.returns-in-Some-clause-spent
+returns-in-Some-clause-spent g c tells = 
+    next_behind (g.P.SectorView.space c.args.space.now).content (g.P.SectorView.space c.next_waiting.new.space).content (c.next_waiting.ensures.reads.looks.content tells) (capacity_of c.args.volume.now) (capacity_of c.next_waiting.new.volume) c.next_waiting.ensures.reads.keeps.capacity (shrunk_of c.args.volume.now) (shrunk_of c.next_waiting.new.volume) c.next_waiting.ensures.reads.keeps.shrunk (g.P.SectorView.space c.args.space.now).spare (g.P.SectorView.space c.next_waiting.new.space).spare c.next_waiting.ensures.reads.looks.spare (g.P.SectorView.space c.tidy_waiting.new.space).spare
+    (c.tidy_waiting.ensures.spent (c.next_waiting.ensures.reads.looks.same.tells ∙ tells))
+
+pub returns-in-None-clause-spent : goal.returns-in-None-clause-spent
+returns-in-None-clause-spent g c tells = inl (omega (arith, c.next_waiting.ensures.reads.looks.spare))
+
+pub returns-in_err-id-clause-spent : goal.returns-in_err-id-clause-spent
+returns-in_err-id-clause-spent g c tells = inl (omega (arith, c.next_waiting.ensures.reads.looks.spare))

@@ -1,4 +1,4 @@
-use Rattle.std.proofs.Common.{◌≡◌, ◌≤◌, ℕ, false, true, length, List, arith, sym, ◌∙◌, ap, subst, refl}
+use Rattle.std.proofs.Common.{◌≡◌, ◌≤◌, ℕ, false, true, length, List, arith, sym, ◌∙◌, ap, subst, refl, inl}
 use Rattle.std.specs.Prelude.{Option, IfSome, Some, None, IsTrue}
 use Rattle.std.specs.List.{Contains}
 use Rattle.sector_disk.specs.Lists.{Content}
@@ -14,6 +14,7 @@ use Rattle.volume_space.specs.Orphans.{IsToDrop}
 use Rattle.volume_base.specs.Room.{capacity_of}
 use Rattle.volume_base.specs.Touching.{Touches}
 use Rattle.volume_base.specs.declared.entries.Entry.{Entry}
+use Rattle.volume_space.proofs.StepSpent.{next_behind}
 use Rattle.volume_space.proofs.Affording.{tidied_behind}
 use Rattle.volume_base.proofs.Commanding.{touches_both, touches_looks}
 use Rattle.volume_space.proofs.KeptUsed.{used_blocks, used_both, used_read}
@@ -92,3 +93,18 @@ returns-in_err-entry-clause-touches g c committed = touches_looks committed _ (g
 
 pub returns-in_err-entry-clause-used : goal.returns-in_err-entry-clause-used
 returns-in_err-entry-clause-used g c = used_read c.args.volume.now c.bare_waiting.new.volume (g.P.SectorView.space c.args.space.now) (g.P.SectorView.space c.bare_waiting.new.space) c.bare_waiting.ensures.reads
+
+-- ---- what it puts
+
+pub returns-in-Some-clause-spent : goal.returns-in-Some-clause-spent
+returns-in-Some-clause-spent g c tells = 
+    next_behind (g.P.SectorView.space c.args.space.now).content (g.P.SectorView.space c.bare_waiting.new.space).content (c.bare_waiting.ensures.reads.looks.content tells) (capacity_of c.args.volume.now) (capacity_of c.bare_waiting.new.volume) c.bare_waiting.ensures.reads.keeps.capacity (shrunk_of c.args.volume.now) (shrunk_of c.bare_waiting.new.volume) c.bare_waiting.ensures.reads.keeps.shrunk (g.P.SectorView.space c.args.space.now).spare (g.P.SectorView.space c.bare_waiting.new.space).spare c.bare_waiting.ensures.reads.looks.spare (g.P.SectorView.space c.tidy_entry.new.space).spare
+    (c.tidy_entry.ensures.spent (c.bare_waiting.ensures.reads.looks.same.tells ∙ tells))
+
+pub returns-in-None-clause-spent : goal.returns-in-None-clause-spent
+returns-in-None-clause-spent g c tells = 
+    next_behind (g.P.SectorView.space c.args.space.now).content (g.P.SectorView.space c.bare_waiting.new.space).content (c.bare_waiting.ensures.reads.looks.content tells) (capacity_of c.args.volume.now) (capacity_of c.bare_waiting.new.volume) c.bare_waiting.ensures.reads.keeps.capacity (shrunk_of c.args.volume.now) (shrunk_of c.bare_waiting.new.volume) c.bare_waiting.ensures.reads.keeps.shrunk (g.P.SectorView.space c.args.space.now).spare (g.P.SectorView.space c.bare_waiting.new.space).spare c.bare_waiting.ensures.reads.looks.spare (g.P.SectorView.space c.tidy_owner.new.space).spare
+    (c.tidy_owner.ensures.spent (c.bare_waiting.ensures.reads.looks.same.tells ∙ tells))
+
+pub returns-in_err-entry-clause-spent : goal.returns-in_err-entry-clause-spent
+returns-in_err-entry-clause-spent g c tells = inl (omega (arith, c.bare_waiting.ensures.reads.looks.spare))

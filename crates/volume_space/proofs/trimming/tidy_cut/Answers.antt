@@ -40,3 +40,11 @@ returns-in-Thread-clause-cause g c = record { later = omega arith; failed = tt }
 
 pub tidy_fork-requires-clause-fits : goal.tidy_fork-requires-clause-fits
 tidy_fork-requires-clause-fits g c = subst FitsRecord c.in-File.is (c.requires.fits (ap is_thread c.in-File.is))
+
+-- ---- what it puts
+
+pub returns-in-Folder-clause-spent : goal.returns-in-Folder-clause-spent
+returns-in-Folder-clause-spent g c tells = inl (omega arith)
+
+pub returns-in-Thread-clause-spent : goal.returns-in-Thread-clause-spent
+returns-in-Thread-clause-spent g c tells = inl (omega arith)

@@ -36,3 +36,8 @@ returns-in_err-cut-clause-cause g c =
 
 pub tidy_part-requires-clause-cut : goal.tidy_part-requires-clause-cut
 tidy_part-requires-clause-cut g c = subst (λ (f : ForkRecord). IsCutOf c.args.list.now f c.args.surplus.keep c.in_ok-cut.cut) c.fork_of-fork.ensures c.in_ok-cut.ensures.cut
+
+-- ---- what it puts
+
+pub returns-in_err-cut-clause-spent : goal.returns-in_err-cut-clause-spent
+returns-in_err-cut-clause-spent g c tells = inl (omega arith)

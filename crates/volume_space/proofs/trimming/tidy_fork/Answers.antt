@@ -18,6 +18,7 @@ use Rattle.volume_space.specs.Cutting.{IsNextCut, kind_of}
 use Rattle.volume_base.specs.Keeping.{shrunk_of}
 use Rattle.volume_base.specs.Room.{capacity_of}
 use Rattle.volume_base.specs.Touching.{Touches}
+use Rattle.volume_space.proofs.StepSpent.{next_behind}
 use Rattle.volume_space.proofs.Affording.{tidied_behind}
 use Rattle.volume_base.proofs.Commanding.{touches_both, touches_looks, touches_none}
 use Rattle.volume_space.proofs.KeptUsed.{used_both, used_none, used_read}
@@ -132,3 +133,22 @@ returns-in_err-whole-clause-service g c = c.whole_fork.ensures.stands.service
 
 pub returns-clause-settled : goal.returns-clause-settled
 returns-clause-settled g c tells = c.tidy_extents.ensures.settled (c.whole_fork.ensures.reads.looks.same.tells ∙ tells)
+
+-- ---- what it puts
+
+pub returns-then-is_link-clause-spent : goal.returns-then-is_link-clause-spent
+returns-then-is_link-clause-spent g c tells = inl (omega arith)
+
+pub returns-then-is_own-clause-spent : goal.returns-then-is_own-clause-spent
+returns-then-is_own-clause-spent g c tells = inl (omega arith)
+
+pub returns-then-not-is_user_id-clause-spent : goal.returns-then-not-is_user_id-clause-spent
+returns-then-not-is_user_id-clause-spent g c tells = inl (omega arith)
+
+pub returns-in_err-whole-clause-spent : goal.returns-in_err-whole-clause-spent
+returns-in_err-whole-clause-spent g c tells = inl (omega (arith, c.whole_fork.ensures.reads.looks.spare))
+
+pub returns-clause-spent : goal.returns-clause-spent
+returns-clause-spent g c tells = 
+    next_behind (g.P.SectorView.space c.args.space.now).content (g.P.SectorView.space c.whole_fork.new.space).content (c.whole_fork.ensures.reads.looks.content tells) (capacity_of c.args.volume.now) (capacity_of c.whole_fork.new.volume) c.whole_fork.ensures.reads.keeps.capacity (shrunk_of c.args.volume.now) (shrunk_of c.whole_fork.new.volume) c.whole_fork.ensures.reads.keeps.shrunk (g.P.SectorView.space c.args.space.now).spare (g.P.SectorView.space c.whole_fork.new.space).spare c.whole_fork.ensures.reads.looks.spare (g.P.SectorView.space c.tidy_extents.new.space).spare
+    (c.tidy_extents.ensures.spent (c.whole_fork.ensures.reads.looks.same.tells ∙ tells))

@@ -31,3 +31,8 @@ returns-in-None-clause-cause g c = record { later = omega arith; failed = tt }
 
 pub tidy_cut-requires-clause-next : goal.tidy_cut-requires-clause-next
 tidy_cut-requires-clause-next g c tells = subst (λ (o : Option Surplus). IfSome o (λ surplus. IsNextCut (shrunk_of c.args.volume.now) (g.P.SectorView.space c.args.space.now).content (id_in c.args.entry.now.rec) (kind_of surplus.kind) surplus.keep)) (sym c.blocks_left.ensures ∙ c.in-Some.is) (c.requires.next tells)
+
+-- ---- what it puts
+
+pub returns-in-None-clause-spent : goal.returns-in-None-clause-spent
+returns-in-None-clause-spent g c tells = inl (omega arith)

@@ -1,4 +1,4 @@
-use Rattle.std.proofs.Common.{ℕ, false, true, List, inr, arith, sym, ◌∙◌, ap, subst, refl}
+use Rattle.std.proofs.Common.{ℕ, false, true, List, inr, arith, sym, ◌∙◌, ap, subst, refl, inl}
 use Rattle.std.specs.Prelude.{Option}
 use Rattle.std.specs.List.{Contains}
 use Rattle.alloc_bitmap.specs.Map.{free_of}
@@ -11,6 +11,7 @@ use Rattle.volume_base.specs.Room.{capacity_of}
 use Rattle.volume_base.specs.Touching.{Touches}
 use Rattle.volume_runs.specs.Rest.{has_empty_record}
 use Rattle.volume_base.proofs.Commanding.{touches_none}
+use Rattle.volume_space.proofs.StepSpent.{cut_spent}
 use Rattle.volume_space.proofs.HeldUp.{rests_cut}
 use Rattle.volume_space.proofs.KeptUsed.{used_both, used_none}
 use Rattle.volume_space.specs.Cutting.{CutsFile}
@@ -91,3 +92,23 @@ returns-then-not-fits_cut-clause-tidied g c tells = (
   short_next (capacity_of c.args.volume.now) (shrunk_of c.args.volume.now) (free_of c.args.volume.now.map) (g.P.SectorView.space c.args.space.now).spare (g.P.SectorView.space c.args.space.now).content (id_in c.args.entry.now.rec) (kind_of c.args.surplus.kind) c.args.surplus.keep (c.requires.next tells)
       (λ step cut same. short_cut c.args.emptied c.args.volume.now (g.P.SectorView.space c.args.space.now).content (c.requires.settled tells) (g.P.SectorView.space c.args.space.now).spare (c.fits_cut.ensures.short c.if-not-fits_cut.true) step cut (c.requires.emptied tells ∙ ap (λ n. has_empty_record (volume_of (g.P.SectorView.space c.args.space.now).content) n (kind_of c.args.surplus.kind)) (sym (ap id_in c.requires.is)) ∙ same)),
 )
+
+-- ---- what it puts
+
+pub returns-then-not-affords_cut-clause-spent : goal.returns-then-not-affords_cut-clause-spent
+returns-then-not-affords_cut-clause-spent g c tells = inl (omega arith)
+
+pub returns-then-not-fits_cut-clause-spent : goal.returns-then-not-fits_cut-clause-spent
+returns-then-not-fits_cut-clause-spent g c tells = inl (omega arith)
+
+pub returns-clause-spent : goal.returns-clause-spent
+returns-clause-spent g c tells = 
+    cut_spent c.args.emptied c.args.volume.now (g.P.SectorView.space c.args.space.now).content (c.requires.settled tells) (g.P.SectorView.space c.args.space.now).spare (g.P.SectorView.space c.cut_fork.new.space).spare
+    (omega (arith, c.cut_fork.ensures.spent tells, load_kept c.args.volume.now c.keep.new.self c.keep.ensures c.args.emptied)) (shrunk_of c.args.volume.now) (id_in c.args.entry.now.rec) (kind_of c.args.surplus.kind) c.args.surplus.keep (c.requires.next tells)
+    (c.requires.emptied tells ∙ ap (λ n. has_empty_record (volume_of (g.P.SectorView.space c.args.space.now).content) n (kind_of c.args.surplus.kind)) (sym (ap id_in c.requires.is)))
+
+pub returns-in_err-cut_fork-clause-spent : goal.returns-in_err-cut_fork-clause-spent
+returns-in_err-cut_fork-clause-spent g c tells = 
+    cut_spent c.args.emptied c.args.volume.now (g.P.SectorView.space c.args.space.now).content (c.requires.settled tells) (g.P.SectorView.space c.args.space.now).spare (g.P.SectorView.space c.cut_fork.new.space).spare
+    (omega (arith, c.cut_fork.ensures.spent tells, load_kept c.args.volume.now c.keep.new.self c.keep.ensures c.args.emptied)) (shrunk_of c.args.volume.now) (id_in c.args.entry.now.rec) (kind_of c.args.surplus.kind) c.args.surplus.keep (c.requires.next tells)
+    (c.requires.emptied tells ∙ ap (λ n. has_empty_record (volume_of (g.P.SectorView.space c.args.space.now).content) n (kind_of c.args.surplus.kind)) (sym (ap id_in c.requires.is)))

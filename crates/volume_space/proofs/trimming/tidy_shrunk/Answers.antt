@@ -36,3 +36,8 @@ tidy_cut-requires-clause-next g c tells = shrunk_next c.args.volume.now (g.P.Sec
 
 pub tidy_unshrunk-requires-clause-kept : goal.tidy_unshrunk-requires-clause-kept
 tidy_unshrunk-requires-clause-kept g c tells = shrunk_rests c.args.volume.now (g.P.SectorView.space c.args.space.now).content (c.requires.settled tells) c.args.entry.now c.args.entry.now.rec refl (c.requires.there tells) c.args.id (c.has_id.ensures.number c.if-not-has_id.false) (shrunk_of c.args.volume.now) c.requires.shrunk (sym c.in-None.is ∙ c.surplus_in.ensures) (c.has_id.ensures.kind c.if-not-has_id.false)
+
+-- ---- what it puts
+
+pub returns-then-not-has_id-clause-spent : goal.returns-then-not-has_id-clause-spent
+returns-then-not-has_id-clause-spent g c tells = inl (omega arith)

@@ -16,6 +16,7 @@ use Rattle.volume_base.specs.Lists.{lists_of}
 use Rattle.volume_base.specs.Room.{capacity_of}
 use Rattle.volume_base.specs.Touching.{Touches}
 use Rattle.volume_base.specs.declared.entries.Entry.{Entry}
+use Rattle.volume_space.proofs.StepSpent.{next_behind}
 use Rattle.volume_space.proofs.Affording.{tidied_behind}
 use Rattle.volume_base.proofs.Commanding.{touches_both, touches_looks}
 use Rattle.volume_base.proofs.FoundEntry.{settled_spelled}
@@ -103,3 +104,18 @@ returns-in_err-entry-clause-used g c = used_read c.args.volume.now c.entry.new.s
 
 pub returns-in_err-entry-clause-service : goal.returns-in_err-entry-clause-service
 returns-in_err-entry-clause-service g c = c.entry.ensures.stands.service
+
+-- ---- what it puts
+
+pub returns-in-Some-clause-spent : goal.returns-in-Some-clause-spent
+returns-in-Some-clause-spent g c tells = 
+    next_behind (g.P.SectorView.space c.args.space.now).content (g.P.SectorView.space c.entry.new.space).content (c.entry.ensures.reads.looks.content tells) (capacity_of c.args.volume.now) (capacity_of c.entry.new.self) c.entry.ensures.reads.keeps.capacity (shrunk_of c.args.volume.now) (shrunk_of c.entry.new.self) c.entry.ensures.reads.keeps.shrunk (g.P.SectorView.space c.args.space.now).spare (g.P.SectorView.space c.entry.new.space).spare c.entry.ensures.reads.looks.spare (g.P.SectorView.space c.tidy_shrunk.new.space).spare
+    (c.tidy_shrunk.ensures.spent (c.entry.ensures.reads.looks.same.tells ∙ tells))
+
+pub returns-in-None-clause-spent : goal.returns-in-None-clause-spent
+returns-in-None-clause-spent g c tells = 
+    next_behind (g.P.SectorView.space c.args.space.now).content (g.P.SectorView.space c.entry.new.space).content (c.entry.ensures.reads.looks.content tells) (capacity_of c.args.volume.now) (capacity_of c.entry.new.self) c.entry.ensures.reads.keeps.capacity (shrunk_of c.args.volume.now) (shrunk_of c.entry.new.self) c.entry.ensures.reads.keeps.shrunk (g.P.SectorView.space c.args.space.now).spare (g.P.SectorView.space c.entry.new.space).spare c.entry.ensures.reads.looks.spare (g.P.SectorView.space c.tidy_unshrunk.new.space).spare
+    (c.tidy_unshrunk.ensures.spent (c.entry.ensures.reads.looks.same.tells ∙ tells))
+
+pub returns-in_err-entry-clause-spent : goal.returns-in_err-entry-clause-spent
+returns-in_err-entry-clause-spent g c tells = inl (omega (arith, c.entry.ensures.reads.looks.spare))

@@ -1,0 +1,171 @@
+-- What a step of reclaiming puts.
+use Rattle.std.proofs.Common.{◌≡◌, ◌≤◌, ◌<◌, ℕ, zero, suc, ◌+◌, ◌-◌, ◌*◌, ◌/◌, min, Bool, true, false, List, [], inl, inr, refl, sym, ◌∙◌, ap, subst, arith}
+use Rattle.volume_base.specs.Making.{catalog_cost}
+use Rattle.std.specs.Prelude.{Option, Some, None, IsTrue, not, nat_lt, if◌then◌else◌}
+use Rattle.std.specs.List.{range_with_len}
+use Rattle.std.proofs.lemmas.List.FromFn.{length-range_with_len}
+use Rattle.std.proofs.lemmas.List.Sums.{count_by-le-length}
+use Rattle.sector_disk.specs.Lists.{Content}
+use Rattle.sector_disk.specs.Space.{Space}
+use Rattle.btree_edit.specs.Edits.{TakesAtMost, TreeTop, tops, top_after}
+use Rattle.btree_file.specs.State.{is_written, state_of}
+use Rattle.hfs_volume.specs.Content.{VolumeState, has_attributes, volume_of}
+use Rattle.hfs_volume.specs.Cost.{attributes_key, catalog_key, cost_of, growth, load_of, no_tree, plan_of, resource_refusal, tree_at, tree_load, node_sectors}
+use Rattle.hfs_volume.specs.Forks.{attributes_id, catalog_id}
+use Rattle.hfs_volume.specs.Reclaim.{CutOrphan, CutShrunk, DropAttribute, DropOrphan, Reclaim, next_reclaim, reclaim_cost, reclaim_cost_with}
+use Rattle.hfs_volume.specs.Weight.{Edits, cost_of_tree, cut_cost, cut_load, edits, extents_in_use, free_blocks, needs_for, room_with}
+use Rattle.hfs_volume.specs.declared.cost.Cost.TheVariants as cost
+use Rattle.hfs_volume.specs.declared.cost.Room.{Room}
+use Rattle.hfs_volume.specs.declared.cost.TreeCost.{TreeCost}
+use Rattle.volume_header.specs.declared.header.VolumeHeader.{VolumeHeader}
+use Rattle.tree_weights.specs.Weights.{EditsTakeTheirLoad, HasGrown, IsWrittenByGrowth}
+use Rattle.volume_runs.specs.Rest.{cut_puts, cuts_emptied, has_empty_record}
+use Rattle.volume_base.specs.Attributing.{attributes_cost}
+use Rattle.volume_base.specs.Removing.{bare_load, remove_load}
+use Rattle.volume_base.specs.Room.{capacity_of}
+use Rattle.volume_base.specs.Standing.{IsSettled}
+use Rattle.volume_base.specs.declared.volume.Volume.{Volume}
+use Rattle.volume_base.proofs.Loads.{load_is}
+use Rattle.volume_space.specs.Cutting.{IsNextCut, changes_in, trim_load}
+use Rattle.volume_space.specs.Orphans.{PutsNext, PutsStep, TakesNextLoad}
+use Rattle.volume_space.proofs.EditsTaken.{load_grown}
+use Rattle.volume_space.proofs.HeldUp.{cut_puts_is}
+use Rattle.volume_space.proofs.Shorts.{trim_is}
+
+-- behind reads
+pub next_behind : (before between : Content) → between ≡ before → (capacity first : ℕ) → first ≡ capacity → (shrunk file : Option ℕ) → file ≡ shrunk → (spare left : ℕ) → left ≡ spare → (after : ℕ)
+    → PutsNext first file (volume_of between) left after → PutsNext capacity shrunk (volume_of before) spare after
+next_behind before between same capacity first one shrunk file two spare left three after was =
+    subst (λ (k : Content × ℕ × Option ℕ × ℕ). PutsNext k.1 k.2 (volume_of k.0) k.3 after) {x = (between, first, file, left)} {y = (before, capacity, shrunk, spare)} (λ i. (same i, one i, two i, three i)) was
+
+-- ---- a cut
+
+pub cut_spent : (emptied : Bool) (v : Volume) (content : Content) → IsSettled v content → (before after : ℕ) → before ≤ after + trim_load emptied v → (shrunk : Option ℕ) (id kind keep : ℕ) → IsNextCut shrunk content id kind keep
+    → emptied ≡ has_empty_record (volume_of content) id kind → PutsNext (capacity_of v) shrunk (volume_of content) before after
+cut_spent emptied v content settled before after less shrunk id kind keep next told = by next
+  where
+    room : Room
+    room = room_with (capacity_of v) (free_blocks (volume_of content)) (volume_of content)
+
+    enough : before ≤ after + cut_puts (changes_in emptied) room
+    enough = omega (arith, less, trim_is emptied v content settled, cut_puts_is (changes_in emptied) v content settled)
+
+    by : IsNextCut shrunk content id kind keep → PutsNext (capacity_of v) shrunk (volume_of content) before after
+    by (inl next) = inr (CutShrunk id, next.0, subst (λ b. before ≤ after + cut_puts (changes_in b) room) (told ∙ ap (has_empty_record (volume_of content) id) next.1) enough)
+    by (inr next) = inr (CutOrphan id kind, next.0, subst (λ b. before ≤ after + cut_puts (changes_in b) room) told enough)
+
+-- ---- drops
+
+counts_all : (free : List Bool) (capacity : ℕ) (volume : VolumeState) (many : Edits) (n : ℕ) (grow : List ℕ) → cost_of (needs_for free volume many None) (room_with capacity free volume) ≡ cost.Load n grow
+    → 1 + many.updates * (volume.catalog_tree.shape.node_size / 512)
+    + tree_load catalog_key (cost_of_tree volume.catalog_tree (extents_in_use volume catalog_id volume.head.catalog_fork)) many.catalog
+    (growth volume.head.block_size catalog_key (cost_of_tree volume.catalog_tree (extents_in_use volume catalog_id volume.head.catalog_fork)) many.catalog)
+    + tree_load attributes_key (tree_at (room_with capacity free volume) 2) many.attributes (growth volume.head.block_size attributes_key (tree_at (room_with capacity free volume) 2) many.attributes) ≤ n
+unfolding cost_of load_of room_with
+counts_all free capacity volume many n grow is =
+    omega (
+      arith,
+      load_is (resource_refusal (needs_for free volume many None) (room_with capacity free volume) (plan_of (needs_for free volume many None) (room_with capacity free volume)))
+          (load_of (needs_for free volume many None) (room_with capacity free volume) (plan_of (needs_for free volume many None) (room_with capacity free volume))) n _ grow is,
+    )
+
+-- the attributes file among the trees
+third_tree : (free : List Bool) (capacity : ℕ) (volume : VolumeState) → IsTrue (has_attributes volume.head)
+    → tree_at (room_with capacity free volume) 2 ≡ cost_of_tree volume.attributes_tree (extents_in_use volume attributes_id volume.head.attributes_fork)
+unfolding room_with
+third_tree free capacity volume has = ap (λ b. if b then cost_of_tree volume.attributes_tree (extents_in_use volume attributes_id volume.head.attributes_fork) else no_tree) has
+
+module _ (v : Volume) (content : Content) (settled : IsSettled v content) (capacity : ℕ) where
+  -- the load of the drop of an entry
+  drop_counts : (n : ℕ) (grow : List ℕ) → cost_of (needs_for (free_blocks (volume_of content)) (volume_of content) (edits 0 2 0 1) None) (room_with capacity (free_blocks (volume_of content)) (volume_of content)) ≡ cost.Load n grow → remove_load v ≤ n
+  drop_counts n grow is =
+      let tree : TreeCost = cost_of_tree (volume_of content).catalog_tree (extents_in_use (volume_of content) catalog_id (volume_of content).head.catalog_fork) in
+      let here : tree_load catalog_key (cost_of_tree (volume_of content).catalog_tree (extents_in_use (volume_of content) catalog_id (volume_of content).head.catalog_fork)) 2 0 ≡ tree_load catalog_key (cost_of_tree (volume_of content).catalog_tree 0) 2 0 = refl in
+      let there : tree_load catalog_key (cost_of_tree (volume_of content).catalog_tree 0) 2 0 ≡ tree_load catalog_key (catalog_cost v) 2 0 = (λ i. tree_load catalog_key (cost_of_tree (settled.lists i).catalog_tree 0) 2 0) in
+      omega (
+        arith,
+        counts_all (free_blocks (volume_of content)) capacity (volume_of content) (edits 0 2 0 1) n grow is,
+        load_grown catalog_key 2 (growth (volume_of content).head.block_size catalog_key tree 2) tree,
+        here,
+        there,
+        ap (λ (l : VolumeState). l.catalog_tree.shape.node_size / 512) settled.lists,
+      )
+
+  -- and of an attribute
+  bare_counts : IsTrue (has_attributes v.header) → (n : ℕ) (grow : List ℕ) → cost_of (needs_for (free_blocks (volume_of content)) (volume_of content) (edits 0 0 1 1) None) (room_with capacity (free_blocks (volume_of content)) (volume_of content)) ≡ cost.Load n grow → bare_load v 1 ≤ n
+  bare_counts has n grow is =
+      let tree : TreeCost = tree_at (room_with capacity (free_blocks (volume_of content)) (volume_of content)) 2 in
+      let third = third_tree (free_blocks (volume_of content)) capacity (volume_of content) (subst (λ (h : VolumeHeader). IsTrue (has_attributes h)) (sym (ap (λ (l : VolumeState). l.head) settled.lists)) has) in
+      let counted : tree_load attributes_key (tree_at (room_with capacity (free_blocks (volume_of content)) (volume_of content)) 2) 1 0 ≡ bare_load v 1 =
+          ap (λ (t : TreeCost). tree_load attributes_key t 1 0) third ∙ (λ i. tree_load attributes_key (cost_of_tree (settled.attributes has i) 0) 1 0) in
+      omega (
+        arith,
+        counts_all (free_blocks (volume_of content)) capacity (volume_of content) (edits 0 0 1 1) n grow is,
+        load_grown attributes_key 1 (growth (volume_of content).head.block_size attributes_key tree 1) tree,
+        counted,
+      )
+
+pub drop_spent : (v : Volume) (content : Content) → IsSettled v content → (before after : ℕ) → before ≤ after + remove_load v → (shrunk : Option ℕ) (id : ℕ) → next_reclaim (volume_of content) shrunk ≡ Some (DropOrphan id) → PutsNext (capacity_of v) shrunk (volume_of content) before after
+unfolding reclaim_cost_with
+drop_spent v content settled before after less shrunk id next = inr (DropOrphan id, next, λ load grow is. omega (arith, less, drop_counts v content settled (capacity_of v) load grow is))
+
+pub bare_spent : (v : Volume) (content : Content) → IsSettled v content → IsTrue (has_attributes v.header) → (before after : ℕ) → before ≤ after + bare_load v 1 → (shrunk : Option ℕ) (id : ℕ) (name : List ℕ) → next_reclaim (volume_of content) shrunk ≡ Some (DropAttribute id name)
+    → PutsNext (capacity_of v) shrunk (volume_of content) before after
+unfolding reclaim_cost_with
+bare_spent v content settled has before after less shrunk id name next = inr (DropAttribute id name, next, λ load grow is. omega (arith, less, bare_counts v content settled (capacity_of v) has load grow is))
+
+-- ---- the edit of the attributes file
+
+after_rise : (room wide depth records : ℕ) → (top_after room wide depth records).depth ≤ depth + 1
+after_rise room wide zero records = omega arith
+after_rise room wide (suc zero) records = omega arith
+after_rise room wide (suc (suc above)) records = by (nat_lt room (wide * (records + 1)))
+  where
+    depth_in : TreeTop → ℕ
+    depth_in top = top.depth
+
+    by : (b : Bool) → depth_in (if b then record { depth = suc (suc (suc above)); records = 2 } else record { depth = suc (suc above); records = records + 1 }) ≤ suc (suc above) + 1
+    by true = omega arith
+    by false = omega arith
+
+tops_rise : (room wide edits : ℕ) (top : TreeTop) → (tops room wide edits top).depth ≤ top.depth + edits
+tops_rise room wide zero top = omega arith
+tops_rise room wide (suc edits) top = omega (arith, tops_rise room wide edits (top_after room wide top.depth top.records), after_rise room wide top.depth top.records)
+
+-- told, the edits take what is counted
+pub bare_taken : EditsTakeTheirLoad → (many : ℕ) (v w : Volume) (a b : Space) → IsTrue a.tells → 4096 ≤ v.attributes.file.shape.node_size → TakesAtMost many 266 (state_of [] v.attributes.file a) (state_of [] w.attributes.file b) → a.spare ≤ b.spare + bare_load v many
+bare_taken law many v w a b tells large takes =
+    let size : 3 * (266 + 8) ≤ v.attributes.file.shape.node_size - 16 = omega (arith, large) in
+    let costs = takes tells (v.attributes.file.shape.depth + many) (tops_rise _ _ many _) in
+    let grown : HasGrown (attributes_cost v) 0 (state_of [] v.attributes.file a) = record { node_size = refl; depth = refl; records = refl; total = omega arith; free = omega arith } in
+    let written : IsWrittenByGrowth (attributes_cost v) 0 0 (state_of [] v.attributes.file a) = record {
+      few = omega arith;
+      others = omega (arith, count_by-le-length (λ n. not (is_written v.attributes.file a.put n)) (range_with_len 0 v.attributes.file.shape.total), length-range_with_len 0 v.attributes.file.shape.total);
+    } in
+    omega (arith, law attributes_key many 0 0 (attributes_cost v) (state_of [] v.attributes.file a) (state_of [] w.attributes.file b) tells size grown written costs.same takes)
+
+-- ---- by its load
+
+-- a cut of a fork whose overflow records have extents in use puts no more than its load
+cut_within : (capacity : ℕ) (volume : VolumeState) (n : ℕ) (grow : List ℕ) → cut_cost (room_with capacity (free_blocks volume) volume) ≡ cost.Load n grow → cut_puts 1 (room_with capacity (free_blocks volume) volume) ≤ n
+cut_within capacity volume n grow is =
+    let tree : TreeCost = tree_at (room_with capacity (free_blocks volume) volume) 0 in
+    let nodes : min (1 * (4 * (tree.depth + 1) + 4)) tree.nodes ≡ min (4 * (tree.depth + 1) + 4) tree.nodes = omega arith in
+    omega (arith, load_is _ (cut_load (room_with capacity (free_blocks volume) volume)) n _ grow is, ap (λ k. node_sectors tree * k) nodes)
+
+step_within : (capacity : ℕ) (volume : VolumeState) (step : Reclaim) (before after load : ℕ) (grow : List ℕ) → PutsStep capacity volume step before after → cuts_emptied volume step ≡ false → reclaim_cost capacity volume step ≡ cost.Load load grow → before ≤ after + load
+unfolding reclaim_cost_with
+step_within capacity volume (CutShrunk id) before after load grow puts filled is =
+    omega (arith, subst (λ b. before ≤ after + cut_puts (changes_in b) (room_with capacity (free_blocks volume) volume)) filled puts, cut_within capacity volume load grow is)
+step_within capacity volume (CutOrphan id kind) before after load grow puts filled is =
+    omega (arith, subst (λ b. before ≤ after + cut_puts (changes_in b) (room_with capacity (free_blocks volume) volume)) filled puts, cut_within capacity volume load grow is)
+step_within capacity volume (DropAttribute id name) before after load grow puts filled is = puts load grow is
+step_within capacity volume (DropOrphan id) before after load grow puts filled is = puts load grow is
+
+one_step : (step other : Reclaim) (o : Option Reclaim) → o ≡ Some step → o ≡ Some other → step ≡ other
+one_step step other o first second = let same : Some step ≡ Some other = sym first ∙ second in cc same
+
+pub next_within : (capacity : ℕ) (shrunk : Option ℕ) (volume : VolumeState) (before after : ℕ) → PutsNext capacity shrunk volume before after → TakesNextLoad capacity shrunk volume before after
+next_within capacity shrunk volume before after (inl none) step load grow next filled is = omega (arith, none)
+next_within capacity shrunk volume before after (inr (found, at, puts)) step load grow next filled is =
+    step_within capacity volume step before after load grow (subst (λ s. PutsStep capacity volume s before after) (one_step found step (next_reclaim volume shrunk) at next) puts) filled is
