@@ -71,7 +71,7 @@ pub light_taken : (names : List ℕ) (tree : TreeFile) (a : Space) (new : Store)
 light_taken names tree a new id kind list many costs few =
     let cost = light_cost (state_of names tree a) new (edits_for (state_of names tree a) id kind list * edit_writes tree.shape.depth) (state_well_formed names tree a) (costs (few names).0) in
     let more : min (edits_for (state_of names tree a) id kind list * edit_writes tree.shape.depth) tree.shape.total ≤ min (many * edit_writes tree.shape.depth) tree.shape.total =
-        omega (arith, mul-le-mul_right {m = edits_for (state_of names tree a) id kind list} {n = many} (edit_writes tree.shape.depth) (few names).1) in
+    omega (arith, mul-le-mul_right {m = edits_for (state_of names tree a) id kind list} {n = many} (edit_writes tree.shape.depth) (few names).1) in
     omega (arith, cost, mul-le-mul_left (tree.shape.node_size / 512) more)
 
 -- the edits that store a fork are no more than its records and those of so many extents

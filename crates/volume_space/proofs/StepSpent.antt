@@ -1,5 +1,6 @@
 -- What a step of reclaiming puts.
 use Rattle.std.proofs.Common.{◌≡◌, ◌≤◌, ◌<◌, ℕ, zero, suc, ◌+◌, ◌-◌, ◌*◌, ◌/◌, min, Bool, true, false, List, [], inl, inr, refl, sym, ◌∙◌, ap, subst, arith}
+use Rattle.volume_space.specs.CuttingAhead.{PutsCut, PutsCutAhead, TakesCutLoad}
 use Rattle.volume_base.specs.Making.{catalog_cost}
 use Rattle.std.specs.Prelude.{Option, Some, None, IsTrue, not, nat_lt, if◌then◌else◌}
 use Rattle.std.specs.List.{range_with_len}
@@ -97,7 +98,7 @@ module _ (v : Volume) (content : Content) (settled : IsSettled v content) (capac
       let tree : TreeCost = tree_at (room_with capacity (free_blocks (volume_of content)) (volume_of content)) 2 in
       let third = third_tree (free_blocks (volume_of content)) capacity (volume_of content) (subst (λ (h : VolumeHeader). IsTrue (has_attributes h)) (sym (ap (λ (l : VolumeState). l.head) settled.lists)) has) in
       let counted : tree_load attributes_key (tree_at (room_with capacity (free_blocks (volume_of content)) (volume_of content)) 2) 1 0 ≡ bare_load v 1 =
-          ap (λ (t : TreeCost). tree_load attributes_key t 1 0) third ∙ (λ i. tree_load attributes_key (cost_of_tree (settled.attributes has i) 0) 1 0) in
+      ap (λ (t : TreeCost). tree_load attributes_key t 1 0) third ∙ (λ i. tree_load attributes_key (cost_of_tree (settled.attributes has i) 0) 1 0) in
       omega (
         arith,
         counts_all (free_blocks (volume_of content)) capacity (volume_of content) (edits 0 0 1 1) n grow is,
@@ -146,19 +147,25 @@ bare_taken law many v w a b tells large takes =
 
 -- ---- by its load
 
+-- what a cut puts doesn't hang on the blocks that are free
+puts_any : (capacity : ℕ) (volume : VolumeState) (one other : List Bool) → cut_puts 1 (room_with capacity one volume) ≡ cut_puts 1 (room_with capacity other volume)
+unfolding room_with
+puts_any capacity volume one other = refl
+
 -- a cut of a fork whose overflow records have extents in use puts no more than its load
-cut_within : (capacity : ℕ) (volume : VolumeState) (n : ℕ) (grow : List ℕ) → cut_cost (room_with capacity (free_blocks volume) volume) ≡ cost.Load n grow → cut_puts 1 (room_with capacity (free_blocks volume) volume) ≤ n
-cut_within capacity volume n grow is =
-    let tree : TreeCost = tree_at (room_with capacity (free_blocks volume) volume) 0 in
+cut_within : (capacity : ℕ) (volume : VolumeState) (free : List Bool) (n : ℕ) (grow : List ℕ) → cut_cost (room_with capacity free volume) ≡ cost.Load n grow → cut_puts 1 (room_with capacity (free_blocks volume) volume) ≤ n
+cut_within capacity volume free n grow is =
+    let tree : TreeCost = tree_at (room_with capacity free volume) 0 in
     let nodes : min (1 * (4 * (tree.depth + 1) + 4)) tree.nodes ≡ min (4 * (tree.depth + 1) + 4) tree.nodes = omega arith in
-    omega (arith, load_is _ (cut_load (room_with capacity (free_blocks volume) volume)) n _ grow is, ap (λ k. node_sectors tree * k) nodes)
+    let own : cut_puts 1 (room_with capacity free volume) ≤ n = omega (arith, load_is _ (cut_load (room_with capacity free volume)) n _ grow is, ap (λ k. node_sectors tree * k) nodes) in
+    omega (arith, own, puts_any capacity volume free (free_blocks volume))
 
 step_within : (capacity : ℕ) (volume : VolumeState) (step : Reclaim) (before after load : ℕ) (grow : List ℕ) → PutsStep capacity volume step before after → cuts_emptied volume step ≡ false → reclaim_cost capacity volume step ≡ cost.Load load grow → before ≤ after + load
 unfolding reclaim_cost_with
 step_within capacity volume (CutShrunk id) before after load grow puts filled is =
-    omega (arith, subst (λ b. before ≤ after + cut_puts (changes_in b) (room_with capacity (free_blocks volume) volume)) filled puts, cut_within capacity volume load grow is)
+    omega (arith, subst (λ b. before ≤ after + cut_puts (changes_in b) (room_with capacity (free_blocks volume) volume)) filled puts, cut_within capacity volume (free_blocks volume) load grow is)
 step_within capacity volume (CutOrphan id kind) before after load grow puts filled is =
-    omega (arith, subst (λ b. before ≤ after + cut_puts (changes_in b) (room_with capacity (free_blocks volume) volume)) filled puts, cut_within capacity volume load grow is)
+    omega (arith, subst (λ b. before ≤ after + cut_puts (changes_in b) (room_with capacity (free_blocks volume) volume)) filled puts, cut_within capacity volume (free_blocks volume) load grow is)
 step_within capacity volume (DropAttribute id name) before after load grow puts filled is = puts load grow is
 step_within capacity volume (DropOrphan id) before after load grow puts filled is = puts load grow is
 
@@ -169,3 +176,28 @@ pub next_within : (capacity : ℕ) (shrunk : Option ℕ) (volume : VolumeState) 
 next_within capacity shrunk volume before after (inl none) step load grow next filled is = omega (arith, none)
 next_within capacity shrunk volume before after (inr (found, at, puts)) step load grow next filled is =
     step_within capacity volume step before after load grow (subst (λ s. PutsStep capacity volume s before after) (one_step found step (next_reclaim volume shrunk) at next) puts) filled is
+
+-- ---- a cut ahead of data
+
+-- the next step is the cut
+pub past_spent : (capacity id : ℕ) (volume : VolumeState) (shrunk : Option ℕ) → shrunk ≡ Some id → next_reclaim volume (Some id) ≡ Some (CutShrunk id) → (before after : ℕ) → PutsNext capacity shrunk volume before after → PutsCut capacity id volume before after
+past_spent capacity id volume shrunk is next before after (inl none) = omega (arith, none)
+past_spent capacity id volume shrunk is next before after (inr (step, at, puts)) =
+    subst (λ s. PutsStep capacity volume s before after) (one_step step (CutShrunk id) (next_reclaim volume shrunk) at (ap (next_reclaim volume) is ∙ next)) puts
+
+pub cut_behind : (id : ℕ) (before between : Content) → between ≡ before → (capacity first : ℕ) → first ≡ capacity → (spare left : ℕ) → left ≡ spare → (after : ℕ) → PutsCut first id (volume_of between) left after → PutsCut capacity id (volume_of before) spare after
+cut_behind id before between same capacity first one spare left three after was =
+    subst (λ (k : Content × ℕ × ℕ). PutsCut k.1 id (volume_of k.0) k.2 after) {x = (between, first, left)} {y = (before, capacity, spare)} (λ i. (same i, one i, three i)) was
+
+pub ahead_spent : (path : List (List ℕ)) (before between : Content) → between ≡ before → (capacity first : ℕ) → first ≡ capacity → (spare left : ℕ) → left ≡ spare → (after : ℕ) → PutsCutAhead first path between left after → PutsCutAhead capacity path before spare after
+ahead_spent path before between same capacity first one spare left three after was =
+    subst (λ (k : Content × ℕ × ℕ). PutsCutAhead k.1 path k.0 k.2 after) {x = (between, first, left)} {y = (before, capacity, spare)} (λ i. (same i, one i, three i)) was
+
+-- no more than its load
+pub ahead_within : (capacity : ℕ) (path : List (List ℕ)) (content : Content) (before after : ℕ) → PutsCutAhead capacity path content before after → TakesCutLoad capacity path content before after
+ahead_within capacity path content before after puts node is filled free load grow costs =
+    omega (
+      arith,
+      subst (λ b. before ≤ after + cut_puts (changes_in b) (room_with capacity (free_blocks (volume_of content)) (volume_of content))) filled (puts node is),
+      cut_within capacity (volume_of content) free load grow costs,
+    )

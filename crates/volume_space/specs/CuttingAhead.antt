@@ -1,5 +1,5 @@
 -- A cut of blocks past a file's size, ahead of data that makes the file longer.
-use Rattle.std.specs.Prelude.{◌≡◌, ◌⊎◌, ◌<◌, ℕ, ◌==◌, ◌&&◌, nat_lt, IsTrue, Bool, true, false, List, length, Some, Ok}
+use Rattle.std.specs.Prelude.{◌≡◌, ◌⊎◌, ◌<◌, ℕ, ◌==◌, ◌&&◌, nat_lt, IsTrue, Bool, true, false, List, length, Some, Ok, ◌≤◌, ◌+◌}
 use Rattle.sector_disk.specs.Lists.{Content}
 use Rattle.cat_records.specs.declared.record.CatRecord.{CatRecord}
 use Rattle.cat_records.specs.declared.record.CatRecord.TheVariants.{Folder, File, Thread}
@@ -66,3 +66,17 @@ IsShortCut _ capacity spare id volume = Unit {0}
 -- the same of the file that a path stands for
 abbrev pub IsShortAhead : CutAhead → ℕ → ℕ → List (List ℕ) → Content → Type 0
 IsShortAhead came capacity spare path content = (node : PlainNode) → to_file (tree_of content) path ≡ Ok node → IsShortCut came capacity spare node.id (volume_of content)
+
+-- of the sectors that could be put, no more were put than a cut of this file's data fork puts at most
+abbrev pub PutsCut : ℕ → ℕ → VolumeState → ℕ → ℕ → Type 0
+PutsCut capacity id volume before after = before ≤ after + cut_puts (changes_in (has_empty_record volume id data_kind)) (room_with capacity (free_blocks volume) volume)
+
+-- the same of the file that a path stands for
+abbrev pub PutsCutAhead : ℕ → List (List ℕ) → Content → ℕ → ℕ → Type 0
+PutsCutAhead capacity path content before after = (node : PlainNode) → to_file (tree_of content) path ≡ Ok node → PutsCut capacity node.id (volume_of content) before after
+
+-- Where the cost of a cut is a load, and each overflow record of the file's data fork has an extent in use, no more was put than that load.
+abbrev pub TakesCutLoad : ℕ → List (List ℕ) → Content → ℕ → ℕ → Type 0
+TakesCutLoad capacity path content before after =
+    (node : PlainNode) → to_file (tree_of content) path ≡ Ok node → has_empty_record (volume_of content) node.id data_kind ≡ false
+    → (free : List Bool) (load : ℕ) (grow : List ℕ) → cut_cost (room_with capacity free (volume_of content)) ≡ cost.Load load grow → before ≤ after + load

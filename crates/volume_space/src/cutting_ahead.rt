@@ -15,7 +15,7 @@ ghost use Rattle.hfs_volume.specs.TreeOf.{tree_of};
 ghost use Rattle.hfs_volume.specs.Weight.{cut_cost, free_blocks, has_surplus, room_with};
 ghost use Rattle.hfs_volume.specs.declared.cost.Cost.TheVariants as cost;
 ghost use Rattle.volume_space.specs.Cutting.{KeepsUsed, surplus_in};
-ghost use Rattle.volume_space.specs.CuttingAhead.{CutsAhead, CutsAs, CutsSome, IsShortAhead, IsShortCut, is_sized_file};
+ghost use Rattle.volume_space.specs.CuttingAhead.{CutsAhead, CutsAs, CutsSome, IsShortAhead, IsShortCut, is_sized_file, PutsCut, PutsCutAhead, TakesCutLoad};
 ghost use Rattle.volume_base.specs.Keeping.{shrunk_of};
 ghost use Rattle.volume_base.specs.Lists.{lists_of};
 ghost use Rattle.volume_base.specs.Refusing.{facts_or};
@@ -110,6 +110,7 @@ fn cut_past<P: SectorSpace>(
     ensures service { IsInService volume.new (P.SectorView.space space.new) }
     ensures used { KeepsUsed volume.old volume.new }
     ensures touches { (committed : Content) → Touches committed (λ s. Contains (own_sectors volume.old) s) (P.SectorView.space space.old) (P.SectorView.space space.new) }
+    ensures spent { IsTrue (P.SectorView.space space.old).tells → PutsCut (capacity_of volume.old) id (volume_of (P.SectorView.space space.old).content) (P.SectorView.space space.old).spare (P.SectorView.space space.new).spare }
     ensures below { P.SectorView.follows space.old space.new }
     ensures cause { HasTroubleCause (P.SectorView.space space.old).faults (P.SectorView.space space.new).faults result }
 {
@@ -145,6 +146,7 @@ fn cut_entry<P: SectorSpace>(
     ensures service { IsInService volume.new (P.SectorView.space space.new) }
     ensures used { KeepsUsed volume.old volume.new }
     ensures touches { (committed : Content) → Touches committed (λ s. Contains (own_sectors volume.old) s) (P.SectorView.space space.old) (P.SectorView.space space.new) }
+    ensures spent { IsTrue (P.SectorView.space space.old).tells → PutsCut (capacity_of volume.old) id (volume_of (P.SectorView.space space.old).content) (P.SectorView.space space.old).spare (P.SectorView.space space.new).spare }
     ensures below { P.SectorView.follows space.old space.new }
     ensures cause { HasTroubleCause (P.SectorView.space space.old).faults (P.SectorView.space space.new).faults result }
 {
@@ -175,6 +177,7 @@ fn cut_there<P: SectorSpace>(
     ensures service { IsInService volume.new (P.SectorView.space space.new) }
     ensures used { KeepsUsed volume.old volume.new }
     ensures touches { (committed : Content) → Touches committed (λ s. Contains (own_sectors volume.old) s) (P.SectorView.space space.old) (P.SectorView.space space.new) }
+    ensures spent { IsTrue (P.SectorView.space space.old).tells → PutsCut (capacity_of volume.old) id (volume_of (P.SectorView.space space.old).content) (P.SectorView.space space.old).spare (P.SectorView.space space.new).spare }
     ensures below { P.SectorView.follows space.old space.new }
     ensures cause { HasTroubleCause (P.SectorView.space space.old).faults (P.SectorView.space space.new).faults result }
 {
@@ -201,6 +204,7 @@ fn cut_file<P: SectorSpace>(
     ensures service { IsInService volume.new (P.SectorView.space space.new) }
     ensures used { KeepsUsed volume.old volume.new }
     ensures touches { (committed : Content) → Touches committed (λ s. Contains (own_sectors volume.old) s) (P.SectorView.space space.old) (P.SectorView.space space.new) }
+    ensures spent { IsTrue (P.SectorView.space space.old).tells → PutsCut (capacity_of volume.old) id (volume_of (P.SectorView.space space.old).content) (P.SectorView.space space.old).spare (P.SectorView.space space.new).spare }
     ensures below { P.SectorView.follows space.old space.new }
     ensures cause { HasTroubleCause (P.SectorView.space space.old).faults (P.SectorView.space space.new).faults result }
 {
@@ -230,6 +234,7 @@ fn cut_told<P: SectorSpace>(
     ensures service { IsInService volume.new (P.SectorView.space space.new) }
     ensures used { KeepsUsed volume.old volume.new }
     ensures touches { (committed : Content) → Touches committed (λ s. Contains (own_sectors volume.old) s) (P.SectorView.space space.old) (P.SectorView.space space.new) }
+    ensures spent { IsTrue (P.SectorView.space space.old).tells → PutsCutAhead (capacity_of volume.old) _path.now (P.SectorView.space space.old).content (P.SectorView.space space.old).spare (P.SectorView.space space.new).spare }
     ensures below { P.SectorView.follows space.old space.new }
     ensures cause { HasTroubleCause (P.SectorView.space space.old).faults (P.SectorView.space space.new).faults result }
 {
@@ -266,6 +271,10 @@ pub fn cut_ahead<P: SectorSpace>(
     ensures used { KeepsUsed volume.old volume.new }
     // On a fault too, it puts sectors of its own alone, whatever was committed last.
     ensures touches { (committed : Content) → Touches committed (λ s. Contains (own_sectors volume.old) s) (P.SectorView.space space.old) (P.SectorView.space space.new) }
+    // On a fault too, it puts no more sectors than the cut puts at most; and than its load, where each overflow record of the file's data fork has
+    // an extent in use.
+    ensures spent { IsTrue (P.SectorView.space space.old).tells → PutsCutAhead (capacity_of volume.old) path.now (P.SectorView.space space.old).content (P.SectorView.space space.old).spare (P.SectorView.space space.new).spare }
+    ensures loads { IsTrue (P.SectorView.space space.old).tells → TakesCutLoad (capacity_of volume.old) path.now (P.SectorView.space space.old).content (P.SectorView.space space.old).spare (P.SectorView.space space.new).spare }
     ensures below { P.SectorView.follows space.old space.new }
     ensures cause { HasTroubleCause (P.SectorView.space space.old).faults (P.SectorView.space space.new).faults result }
 {

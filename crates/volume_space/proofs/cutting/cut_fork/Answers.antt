@@ -162,8 +162,8 @@ returns-in_err-store_extents-clause-spent g c tells =
     let between = (c.put_back.ensures.touches []).same.tells ∙ tells in
     let file_is = has_file c.args.volume.now (g.P.SectorView.space c.args.space.now).content (c.requires.settled tells) c.args.entry.now c.args.file.now (c.requires.there tells) c.requires.is in
     let stored = store_spent c.args.volume.now (g.P.SectorView.space c.args.space.now).content (c.requires.settled tells) c.args.kind c.args.file.now file_is (eight_in c.args.kind c.args.file.now c.requires.fits) c.args.list.now (c.requires.list tells)
-            c.args.emptied c.args._keep c.args.cut.now c.requires.cut.last c.put_back.new.volume (g.P.SectorView.space c.put_back.new.space) (c.in_ok-put_back.ensures.stands.stands between).trees.extents c.in_ok-put_back.ensures.gives (c.in_ok-put_back.ensures.puts tells)
-            c.number_of.result c.number_of.ensures.same c.requires.number (c.requires.emptied tells) (g.P.SectorView.space c.store_extents.new.space).spare (c.store_extents.ensures.light between) in
+    c.args.emptied c.args._keep c.args.cut.now c.requires.cut.last c.put_back.new.volume (g.P.SectorView.space c.put_back.new.space) (c.in_ok-put_back.ensures.stands.stands between).trees.extents c.in_ok-put_back.ensures.gives (c.in_ok-put_back.ensures.puts tells)
+    c.number_of.result c.number_of.ensures.same c.requires.number (c.requires.emptied tells) (g.P.SectorView.space c.store_extents.new.space).spare (c.store_extents.ensures.light between) in
     omega (arith, c.put_back.ensures.spent, stored)
 
 pub returns-then-not-fits_update-clause-spent : goal.returns-then-not-fits_update-clause-spent
@@ -171,8 +171,8 @@ returns-then-not-fits_update-clause-spent g c tells =
     let between = (c.put_back.ensures.touches []).same.tells ∙ tells in
     let file_is = has_file c.args.volume.now (g.P.SectorView.space c.args.space.now).content (c.requires.settled tells) c.args.entry.now c.args.file.now (c.requires.there tells) c.requires.is in
     let stored = store_spent c.args.volume.now (g.P.SectorView.space c.args.space.now).content (c.requires.settled tells) c.args.kind c.args.file.now file_is (eight_in c.args.kind c.args.file.now c.requires.fits) c.args.list.now (c.requires.list tells)
-            c.args.emptied c.args._keep c.args.cut.now c.requires.cut.last c.put_back.new.volume (g.P.SectorView.space c.put_back.new.space) (c.in_ok-put_back.ensures.stands.stands between).trees.extents c.in_ok-put_back.ensures.gives (c.in_ok-put_back.ensures.puts tells)
-            c.number_of.result c.number_of.ensures.same c.requires.number (c.requires.emptied tells) (g.P.SectorView.space c.store_extents.new.space).spare (c.store_extents.ensures.light between) in
+    c.args.emptied c.args._keep c.args.cut.now c.requires.cut.last c.put_back.new.volume (g.P.SectorView.space c.put_back.new.space) (c.in_ok-put_back.ensures.stands.stands between).trees.extents c.in_ok-put_back.ensures.gives (c.in_ok-put_back.ensures.puts tells)
+    c.number_of.result c.number_of.ensures.same c.requires.number (c.requires.emptied tells) (g.P.SectorView.space c.store_extents.new.space).spare (c.store_extents.ensures.light between) in
     omega (arith, c.put_back.ensures.spent, stored)
 
 pub returns-clause-spent : goal.returns-clause-spent
@@ -180,7 +180,7 @@ returns-clause-spent g c tells =
     let between = (c.put_back.ensures.touches []).same.tells ∙ tells in
     let file_is = has_file c.args.volume.now (g.P.SectorView.space c.args.space.now).content (c.requires.settled tells) c.args.entry.now c.args.file.now (c.requires.there tells) c.requires.is in
     let stored = store_spent c.args.volume.now (g.P.SectorView.space c.args.space.now).content (c.requires.settled tells) c.args.kind c.args.file.now file_is (eight_in c.args.kind c.args.file.now c.requires.fits) c.args.list.now (c.requires.list tells)
-            c.args.emptied c.args._keep c.args.cut.now c.requires.cut.last c.put_back.new.volume (g.P.SectorView.space c.put_back.new.space) (c.in_ok-put_back.ensures.stands.stands between).trees.extents c.in_ok-put_back.ensures.gives (c.in_ok-put_back.ensures.puts tells)
-            c.number_of.result c.number_of.ensures.same c.requires.number (c.requires.emptied tells) (g.P.SectorView.space c.store_extents.new.space).spare (c.store_extents.ensures.light between) in
+    c.args.emptied c.args._keep c.args.cut.now c.requires.cut.last c.put_back.new.volume (g.P.SectorView.space c.put_back.new.space) (c.in_ok-put_back.ensures.stands.stands between).trees.extents c.in_ok-put_back.ensures.gives (c.in_ok-put_back.ensures.puts tells)
+    c.number_of.result c.number_of.ensures.same c.requires.number (c.requires.emptied tells) (g.P.SectorView.space c.store_extents.new.space).spare (c.store_extents.ensures.light between) in
     let node : catalog_node c.store_extents.new.volume ≡ catalog_node c.args.volume.now = ap (λ (x : Volume). catalog_node x) c.store_extents.ensures.rest ∙ ap (λ (x : Volume). catalog_node x) c.in_ok-put_back.ensures.gives in
     omega (arith, c.put_back.ensures.spent, stored, c.put_shorter.ensures.spent ((c.store_extents.ensures.touches []).same.tells ∙ between), node)

@@ -50,3 +50,11 @@ cut_past-requires-clause-file g c = sym c.is_sized_file.ensures ∙ c.if-not-is_
 
 pub cut_past-requires-clause-some : goal.cut_past-requires-clause-some
 cut_past-requires-clause-some g c = sym c.in-Some.is ∙ c.surplus_in.ensures
+
+-- ---- what it puts
+
+pub returns-in-None-clause-spent : goal.returns-in-None-clause-spent
+returns-in-None-clause-spent g c tells = omega arith
+
+pub returns-then-not-is_sized_file-clause-spent : goal.returns-then-not-is_sized_file-clause-spent
+returns-then-not-is_sized_file-clause-spent g c tells = omega arith

@@ -1,4 +1,4 @@
-use Rattle.std.proofs.Common.{◌≡◌, ℕ, refl, sym, ◌∙◌, subst}
+use Rattle.std.proofs.Common.{◌≡◌, ℕ, refl, sym, ◌∙◌, subst, arith}
 use Rattle.std.specs.Prelude.{IfNone, IfSome, Option}
 use Rattle.hfs_language.specs.declared.refusal.Refusal.{Refusal}
 use Rattle.alloc_bitmap.specs.Map.{free_of}
@@ -10,6 +10,7 @@ use Rattle.volume_space.specs.Orphans.{TidiesAs}
 use Rattle.volume_base.specs.Room.{capacity_of}
 use Rattle.volume_space.specs.declared.tidying.Tidying.{Tidying}
 use Rattle.volume_base.proofs.Commanding.{touches_none}
+use Rattle.volume_space.proofs.StepSpent.{past_spent}
 use Rattle.volume_space.proofs.CutShort.{rest_ahead, short_ahead}
 use Rattle.volume_space.proofs.KeptUsed.{used_none}
 use Rattle.volume_space.proofs.NextCut.{shrunk_next}
@@ -61,3 +62,32 @@ returns-in-Rest-clause-short g c tells =
     rest_ahead (capacity_of c.args.volume.now) (g.P.SectorView.space c.args.space.now).spare c.args.id (volume_of (g.P.SectorView.space c.args.space.now).content) (past_next c.args.volume.now (g.P.SectorView.space c.args.space.now).content (c.requires.settled tells) c.args.entry.now (c.requires.there tells) c.args.id c.args.size c.args.entry.now.rec refl c.requires.file c.args.surplus c.requires.some)
     (subst (λ (o : Option Refusal). IfNone o ((why : Refusal) → cut_cost (room_with (capacity_of c.args.volume.now) (free_blocks (volume_of (g.P.SectorView.space c.args.space.now).content)) (volume_of (g.P.SectorView.space c.args.space.now).content)) ≡ cost.Refused why → ⊥)) c.in_default.is
     (c.refused_cut.ensures.none (g.P.SectorView.space c.args.space.now).content (c.requires.settled tells))) tidied.1
+
+-- ---- what it puts
+
+pub returns-in-Some-clause-spent : goal.returns-in-Some-clause-spent
+returns-in-Some-clause-spent g c tells = omega arith
+
+pub returns-in-Made-clause-spent : goal.returns-in-Made-clause-spent
+returns-in-Made-clause-spent g c tells =
+    past_spent (capacity_of c.args.volume.now) c.args.id (volume_of (g.P.SectorView.space c.args.space.now).content) (shrunk_of c.args.volume.now) c.requires.shrunk
+    (past_next c.args.volume.now (g.P.SectorView.space c.args.space.now).content (c.requires.settled tells) c.args.entry.now (c.requires.there tells) c.args.id c.args.size c.args.entry.now.rec refl c.requires.file c.args.surplus c.requires.some)
+    (g.P.SectorView.space c.args.space.now).spare (g.P.SectorView.space c.tidy_cut.new.space).spare (c.tidy_cut.ensures.spent tells)
+
+pub returns-in-Rest-clause-spent : goal.returns-in-Rest-clause-spent
+returns-in-Rest-clause-spent g c tells =
+    past_spent (capacity_of c.args.volume.now) c.args.id (volume_of (g.P.SectorView.space c.args.space.now).content) (shrunk_of c.args.volume.now) c.requires.shrunk
+    (past_next c.args.volume.now (g.P.SectorView.space c.args.space.now).content (c.requires.settled tells) c.args.entry.now (c.requires.there tells) c.args.id c.args.size c.args.entry.now.rec refl c.requires.file c.args.surplus c.requires.some)
+    (g.P.SectorView.space c.args.space.now).spare (g.P.SectorView.space c.tidy_cut.new.space).spare (c.tidy_cut.ensures.spent tells)
+
+pub returns-in-CommitFirst-clause-spent : goal.returns-in-CommitFirst-clause-spent
+returns-in-CommitFirst-clause-spent g c tells =
+    past_spent (capacity_of c.args.volume.now) c.args.id (volume_of (g.P.SectorView.space c.args.space.now).content) (shrunk_of c.args.volume.now) c.requires.shrunk
+    (past_next c.args.volume.now (g.P.SectorView.space c.args.space.now).content (c.requires.settled tells) c.args.entry.now (c.requires.there tells) c.args.id c.args.size c.args.entry.now.rec refl c.requires.file c.args.surplus c.requires.some)
+    (g.P.SectorView.space c.args.space.now).spare (g.P.SectorView.space c.tidy_cut.new.space).spare (c.tidy_cut.ensures.spent tells)
+
+pub returns-in_err-tidy_cut-clause-spent : goal.returns-in_err-tidy_cut-clause-spent
+returns-in_err-tidy_cut-clause-spent g c tells =
+    past_spent (capacity_of c.args.volume.now) c.args.id (volume_of (g.P.SectorView.space c.args.space.now).content) (shrunk_of c.args.volume.now) c.requires.shrunk
+    (past_next c.args.volume.now (g.P.SectorView.space c.args.space.now).content (c.requires.settled tells) c.args.entry.now (c.requires.there tells) c.args.id c.args.size c.args.entry.now.rec refl c.requires.file c.args.surplus c.requires.some)
+    (g.P.SectorView.space c.args.space.now).spare (g.P.SectorView.space c.tidy_cut.new.space).spare (c.tidy_cut.ensures.spent tells)

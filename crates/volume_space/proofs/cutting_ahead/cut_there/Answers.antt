@@ -1,4 +1,4 @@
-use Rattle.std.proofs.Common.{◌≡◌, ◌≤◌, ℕ, false, length, List, sym, ◌∙◌, ap, subst}
+use Rattle.std.proofs.Common.{◌≡◌, ◌≤◌, ℕ, false, length, List, sym, ◌∙◌, ap, subst, arith}
 use Rattle.std.specs.Prelude.{IfSome, Option}
 use Rattle.std.specs.List.{Contains}
 use Rattle.cat_records.specs.Fits.{FitsRecord}
@@ -11,6 +11,7 @@ use Rattle.volume_base.specs.Touching.{Touches}
 use Rattle.volume_base.specs.declared.entries.Entry.{Entry}
 use Rattle.volume_base.proofs.Commanding.{touches_both, touches_looks}
 use Rattle.volume_base.proofs.FoundEntry.{settled_spelled}
+use Rattle.volume_space.proofs.StepSpent.{cut_behind}
 use Rattle.volume_space.proofs.CutShort.{short_behind}
 use Rattle.volume_space.proofs.KeptUsed.{used_both, used_read}
 use Rattle.volume_space.proofs.NextCut.{there_by}
@@ -85,3 +86,16 @@ pub returns-in-Some-clause-short : goal.returns-in-Some-clause-short
 returns-in-Some-clause-short g c tells =
     short_behind c.cut_entry.result c.args.id (capacity_of c.entry.new.self) (capacity_of c.args.volume.now) (g.P.SectorView.space c.entry.new.space).spare (g.P.SectorView.space c.args.space.now).spare (g.P.SectorView.space c.entry.new.space).content (g.P.SectorView.space c.args.space.now).content
     (c.entry.ensures.reads.looks.content tells) c.entry.ensures.reads.keeps.capacity c.entry.ensures.reads.looks.spare (c.cut_entry.ensures.short (c.entry.ensures.reads.looks.same.tells ∙ tells))
+
+-- ---- what it puts
+
+pub returns-in-Some-clause-spent : goal.returns-in-Some-clause-spent
+returns-in-Some-clause-spent g c tells =
+    cut_behind c.args.id (g.P.SectorView.space c.args.space.now).content (g.P.SectorView.space c.entry.new.space).content (c.entry.ensures.reads.looks.content tells) (capacity_of c.args.volume.now) (capacity_of c.entry.new.self) c.entry.ensures.reads.keeps.capacity (g.P.SectorView.space c.args.space.now).spare (g.P.SectorView.space c.entry.new.space).spare c.entry.ensures.reads.looks.spare
+    (g.P.SectorView.space c.cut_entry.new.space).spare (c.cut_entry.ensures.spent (c.entry.ensures.reads.looks.same.tells ∙ tells))
+
+pub returns-in-None-clause-spent : goal.returns-in-None-clause-spent
+returns-in-None-clause-spent g c tells = omega (arith, c.entry.ensures.reads.looks.spare)
+
+pub returns-in_err-entry-clause-spent : goal.returns-in_err-entry-clause-spent
+returns-in_err-entry-clause-spent g c tells = omega (arith, c.entry.ensures.reads.looks.spare)

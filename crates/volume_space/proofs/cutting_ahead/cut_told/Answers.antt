@@ -1,4 +1,4 @@
-use Rattle.std.proofs.Common.{refl, sym, ◌∙◌, ap}
+use Rattle.std.proofs.Common.{refl, sym, ◌∙◌, ap, arith, subst}
 use Rattle.std.specs.Prelude.{◌&&◌, nat_lt, length}
 use Rattle.hfs_language.specs.declared.reply.Facts.{Facts}
 use Rattle.hfs_volume.specs.Content.{volume_of}
@@ -8,6 +8,7 @@ use Rattle.volume_base.specs.Room.{capacity_of}
 use Rattle.volume_base.proofs.Commanding.{touches_none}
 use Rattle.hfs_model.specs.Step.{to_file}
 use Rattle.hfs_model.specs.declared.plain.PlainNode.{PlainNode}
+use Rattle.volume_space.specs.CuttingAhead.{PutsCut}
 use Rattle.volume_space.proofs.CutShort.{one_node, short_any, short_named}
 use Rattle.volume_space.proofs.KeptUsed.{used_none}
 use Rattle.volume_space.proofs.PastSizes.{cuts_longer, cuts_path, cuts_sized}
@@ -50,3 +51,19 @@ returns-clause-short g c tells =
 
 pub returns-then-not-is_longer-clause-short : goal.returns-then-not-is_longer-clause-short
 returns-then-not-is_longer-clause-short g c tells node is = tt
+
+-- ---- what it puts
+
+pub returns-then-told-clause-spent : goal.returns-then-told-clause-spent
+returns-then-told-clause-spent g c tells node is = omega arith
+
+pub returns-then-not-is_longer-clause-spent : goal.returns-then-not-is_longer-clause-spent
+returns-then-not-is_longer-clause-spent g c tells node is = omega arith
+
+pub returns-clause-spent : goal.returns-clause-spent
+returns-clause-spent g c tells node is =
+    let a = (g.P.SectorView.space c.args.space.now).content in
+    let it = told_node (tree_of a) c.args._path.now c.args.told.now (c.requires.told tells) in
+    let file = about (tree_of a) c.args._path.now c.args.told.now it (sym (ap (λ (f : Facts). f.folder) it.facts) ∙ c.if-told.false) in
+    subst (λ n. PutsCut (capacity_of c.args.volume.now) n (volume_of (g.P.SectorView.space c.args.space.now).content) (g.P.SectorView.space c.args.space.now).spare (g.P.SectorView.space c.cut_file.new.space).spare)
+    (sym file.id ∙ ap (λ (n : PlainNode). n.id) (one_node it.node node (to_file (tree_of a) c.args._path.now) file.file is)) (c.cut_file.ensures.spent tells)

@@ -91,12 +91,12 @@ returns-in_err-name-clause-used g c = used_read c.args.volume.now c.next_owned.n
 -- ---- what it puts
 
 pub returns-in-Some-clause-spent : goal.returns-in-Some-clause-spent
-returns-in-Some-clause-spent g c tells = 
+returns-in-Some-clause-spent g c tells =
     next_behind (g.P.SectorView.space c.args.space.now).content (g.P.SectorView.space c.next_owned.new.space).content (c.next_owned.ensures.reads.looks.content tells) (capacity_of c.args.volume.now) (capacity_of c.next_owned.new.volume) c.next_owned.ensures.reads.keeps.capacity (shrunk_of c.args.volume.now) (shrunk_of c.next_owned.new.volume) c.next_owned.ensures.reads.keeps.shrunk (g.P.SectorView.space c.args.space.now).spare (g.P.SectorView.space c.next_owned.new.space).spare c.next_owned.ensures.reads.looks.spare (g.P.SectorView.space c.tidy_attribute.new.space).spare
     (c.tidy_attribute.ensures.spent (c.next_owned.ensures.reads.looks.same.tells ∙ tells))
 
 pub returns-in-None-clause-spent : goal.returns-in-None-clause-spent
-returns-in-None-clause-spent g c tells = 
+returns-in-None-clause-spent g c tells =
     next_behind (g.P.SectorView.space c.args.space.now).content (g.P.SectorView.space c.next_owned.new.space).content (c.next_owned.ensures.reads.looks.content tells) (capacity_of c.args.volume.now) (capacity_of c.next_owned.new.volume) c.next_owned.ensures.reads.keeps.capacity (shrunk_of c.args.volume.now) (shrunk_of c.next_owned.new.volume) c.next_owned.ensures.reads.keeps.shrunk (g.P.SectorView.space c.args.space.now).spare (g.P.SectorView.space c.next_owned.new.space).spare c.next_owned.ensures.reads.looks.spare (g.P.SectorView.space c.tidy_blocks.new.space).spare
     (c.tidy_blocks.ensures.spent (c.next_owned.ensures.reads.looks.same.tells ∙ tells))
 

@@ -70,7 +70,7 @@ returns-in-None-clause-tidied g c tells =
 -- ---- what it puts
 
 pub returns-in-Some-clause-spent : goal.returns-in-Some-clause-spent
-returns-in-Some-clause-spent g c tells = 
+returns-in-Some-clause-spent g c tells =
     next_behind (g.P.SectorView.space c.args.space.now).content (g.P.SectorView.space c.next_waiting.new.space).content (c.next_waiting.ensures.reads.looks.content tells) (capacity_of c.args.volume.now) (capacity_of c.next_waiting.new.volume) c.next_waiting.ensures.reads.keeps.capacity (shrunk_of c.args.volume.now) (shrunk_of c.next_waiting.new.volume) c.next_waiting.ensures.reads.keeps.shrunk (g.P.SectorView.space c.args.space.now).spare (g.P.SectorView.space c.next_waiting.new.space).spare c.next_waiting.ensures.reads.looks.spare (g.P.SectorView.space c.tidy_waiting.new.space).spare
     (c.tidy_waiting.ensures.spent (c.next_waiting.ensures.reads.looks.same.tells ∙ tells))
 

@@ -97,12 +97,12 @@ returns-in_err-entry-clause-used g c = used_read c.args.volume.now c.bare_waitin
 -- ---- what it puts
 
 pub returns-in-Some-clause-spent : goal.returns-in-Some-clause-spent
-returns-in-Some-clause-spent g c tells = 
+returns-in-Some-clause-spent g c tells =
     next_behind (g.P.SectorView.space c.args.space.now).content (g.P.SectorView.space c.bare_waiting.new.space).content (c.bare_waiting.ensures.reads.looks.content tells) (capacity_of c.args.volume.now) (capacity_of c.bare_waiting.new.volume) c.bare_waiting.ensures.reads.keeps.capacity (shrunk_of c.args.volume.now) (shrunk_of c.bare_waiting.new.volume) c.bare_waiting.ensures.reads.keeps.shrunk (g.P.SectorView.space c.args.space.now).spare (g.P.SectorView.space c.bare_waiting.new.space).spare c.bare_waiting.ensures.reads.looks.spare (g.P.SectorView.space c.tidy_entry.new.space).spare
     (c.tidy_entry.ensures.spent (c.bare_waiting.ensures.reads.looks.same.tells ∙ tells))
 
 pub returns-in-None-clause-spent : goal.returns-in-None-clause-spent
-returns-in-None-clause-spent g c tells = 
+returns-in-None-clause-spent g c tells =
     next_behind (g.P.SectorView.space c.args.space.now).content (g.P.SectorView.space c.bare_waiting.new.space).content (c.bare_waiting.ensures.reads.looks.content tells) (capacity_of c.args.volume.now) (capacity_of c.bare_waiting.new.volume) c.bare_waiting.ensures.reads.keeps.capacity (shrunk_of c.args.volume.now) (shrunk_of c.bare_waiting.new.volume) c.bare_waiting.ensures.reads.keeps.shrunk (g.P.SectorView.space c.args.space.now).spare (g.P.SectorView.space c.bare_waiting.new.space).spare c.bare_waiting.ensures.reads.looks.spare (g.P.SectorView.space c.tidy_owner.new.space).spare
     (c.tidy_owner.ensures.spent (c.bare_waiting.ensures.reads.looks.same.tells ∙ tells))
 

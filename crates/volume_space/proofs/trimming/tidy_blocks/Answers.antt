@@ -96,7 +96,7 @@ returns-in_err-entry-clause-service g c = c.entry.ensures.stands.service
 -- ---- what it puts
 
 pub returns-in-Some-clause-spent : goal.returns-in-Some-clause-spent
-returns-in-Some-clause-spent g c tells = 
+returns-in-Some-clause-spent g c tells =
     next_behind (g.P.SectorView.space c.args.space.now).content (g.P.SectorView.space c.entry.new.space).content (c.entry.ensures.reads.looks.content tells) (capacity_of c.args.volume.now) (capacity_of c.entry.new.self) c.entry.ensures.reads.keeps.capacity (shrunk_of c.args.volume.now) (shrunk_of c.entry.new.self) c.entry.ensures.reads.keeps.shrunk (g.P.SectorView.space c.args.space.now).spare (g.P.SectorView.space c.entry.new.space).spare c.entry.ensures.reads.looks.spare (g.P.SectorView.space c.tidy_left.new.space).spare
     (c.tidy_left.ensures.spent (c.entry.ensures.reads.looks.same.tells ∙ tells))
 

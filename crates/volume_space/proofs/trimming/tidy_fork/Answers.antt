@@ -149,6 +149,6 @@ pub returns-in_err-whole-clause-spent : goal.returns-in_err-whole-clause-spent
 returns-in_err-whole-clause-spent g c tells = inl (omega (arith, c.whole_fork.ensures.reads.looks.spare))
 
 pub returns-clause-spent : goal.returns-clause-spent
-returns-clause-spent g c tells = 
+returns-clause-spent g c tells =
     next_behind (g.P.SectorView.space c.args.space.now).content (g.P.SectorView.space c.whole_fork.new.space).content (c.whole_fork.ensures.reads.looks.content tells) (capacity_of c.args.volume.now) (capacity_of c.whole_fork.new.volume) c.whole_fork.ensures.reads.keeps.capacity (shrunk_of c.args.volume.now) (shrunk_of c.whole_fork.new.volume) c.whole_fork.ensures.reads.keeps.shrunk (g.P.SectorView.space c.args.space.now).spare (g.P.SectorView.space c.whole_fork.new.space).spare c.whole_fork.ensures.reads.looks.spare (g.P.SectorView.space c.tidy_extents.new.space).spare
     (c.tidy_extents.ensures.spent (c.whole_fork.ensures.reads.looks.same.tells ∙ tells))

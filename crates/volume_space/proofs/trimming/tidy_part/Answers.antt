@@ -102,13 +102,13 @@ pub returns-then-not-fits_cut-clause-spent : goal.returns-then-not-fits_cut-clau
 returns-then-not-fits_cut-clause-spent g c tells = inl (omega arith)
 
 pub returns-clause-spent : goal.returns-clause-spent
-returns-clause-spent g c tells = 
+returns-clause-spent g c tells =
     cut_spent c.args.emptied c.args.volume.now (g.P.SectorView.space c.args.space.now).content (c.requires.settled tells) (g.P.SectorView.space c.args.space.now).spare (g.P.SectorView.space c.cut_fork.new.space).spare
     (omega (arith, c.cut_fork.ensures.spent tells, load_kept c.args.volume.now c.keep.new.self c.keep.ensures c.args.emptied)) (shrunk_of c.args.volume.now) (id_in c.args.entry.now.rec) (kind_of c.args.surplus.kind) c.args.surplus.keep (c.requires.next tells)
     (c.requires.emptied tells ∙ ap (λ n. has_empty_record (volume_of (g.P.SectorView.space c.args.space.now).content) n (kind_of c.args.surplus.kind)) (sym (ap id_in c.requires.is)))
 
 pub returns-in_err-cut_fork-clause-spent : goal.returns-in_err-cut_fork-clause-spent
-returns-in_err-cut_fork-clause-spent g c tells = 
+returns-in_err-cut_fork-clause-spent g c tells =
     cut_spent c.args.emptied c.args.volume.now (g.P.SectorView.space c.args.space.now).content (c.requires.settled tells) (g.P.SectorView.space c.args.space.now).spare (g.P.SectorView.space c.cut_fork.new.space).spare
     (omega (arith, c.cut_fork.ensures.spent tells, load_kept c.args.volume.now c.keep.new.self c.keep.ensures c.args.emptied)) (shrunk_of c.args.volume.now) (id_in c.args.entry.now.rec) (kind_of c.args.surplus.kind) c.args.surplus.keep (c.requires.next tells)
     (c.requires.emptied tells ∙ ap (λ n. has_empty_record (volume_of (g.P.SectorView.space c.args.space.now).content) n (kind_of c.args.surplus.kind)) (sym (ap id_in c.requires.is)))
