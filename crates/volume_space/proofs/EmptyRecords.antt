@@ -81,3 +81,11 @@ module _ (id kind : ℕ) (pairs : List Pair) (extents : List Extent) (other : id
       by : (b : Bool) → length (of_fork_in id kind pairs) ≡ count_with (parts_for (length extents - 8) 8) b → length (of_fork_in id kind pairs) ≡ parts_for (length extents - 8) 8 → b ≡ false
       by true more same = absurd (omega (arith, more, same))
       by false more same = refl
+
+  -- nor where there are no more records than the extents fill
+  pub none_filled : length (of_fork_in id kind pairs) ≡ parts_for (length extents - 8) 8 → list_any is_empty_record (of_fork_in id kind pairs) ≡ false
+  none_filled same = sym empty_starts ∙ by (has_start (length (blocks_of extents)) (of_fork_in id kind pairs)) (counted id kind pairs extents other has)
+    where
+      by : (b : Bool) → length (of_fork_in id kind pairs) ≡ count_with (parts_for (length extents - 8) 8) b → b ≡ false
+      by true more = absurd (omega (arith, more, same))
+      by false more = refl
