@@ -1,5 +1,5 @@
 -- A keep ahead of a cut: the volume has the lists, the sectors of its own, the blocks and the loads that it had.
-use Rattle.std.proofs.Common.{◌≡◌, ℕ, ◌+◌, ◌<◌, ◌^◌, Bool, List, [], ◌∷◌, ◌++◌, length, refl, sym, ◌∙◌, ap, subst}
+use Rattle.std.proofs.Common.{◌≡◌, ◌+◌, ◌<◌, ◌^◌, Bool, List, [], ◌∷◌, ◌++◌, refl, sym, ◌∙◌, subst}
 use Rattle.std.specs.Prelude.{true, IsTrue, if◌then◌else◌}
 use Rattle.alloc_bitmap.specs.Map.{Have}
 use Rattle.btree_file.specs.State.{sectors_of_tree}
@@ -24,8 +24,8 @@ module _ (v w : Volume) (keeps : Keeps v w) where
     most = may.most;
   }
 
-  pub load_kept : (emptied : Bool) → trim_load emptied w ≡ trim_load emptied v
-  load_kept emptied = λ i. trim_load emptied (record v { map = record v.map { used = keeps.same.used i }; extents = keeps.same.extents i; catalog = keeps.same.catalog i })
+  pub load_kept : trim_load w ≡ trim_load v
+  load_kept = λ i. trim_load (record v { map = record v.map { used = keeps.same.used i }; extents = keeps.same.extents i; catalog = keeps.same.catalog i })
 
   pub used_kept : KeepsUsed v w
   used_kept = record { holds = λ committed was. holds_kept v w keeps committed was; shrunk = keeps.same.shrunk; capacity = keeps.same.capacity }

@@ -48,11 +48,11 @@ use Rattle.volume_base.proofs.SoundForks.{geometry}
 use Rattle.volume_base.proofs.RoomKept.{cost_kept}
 use Rattle.volume_base.specs.Room.{room_on}
 use Rattle.volume_base.specs.declared.room.FreeBlocks.TheVariants as blocks
-use Rattle.volume_space.specs.SpreadGrowth.{SpreadFits, SpreadGrowthFits, growth_room_with}
+use Rattle.volume_space.specs.SpreadGrowth.{SpreadFits, SpreadGrowthFits, growth_room_spread}
 use Rattle.volume_space.specs.Spreading.{edits_load, is_met_extents, needs_extents}
 use Rattle.hfs_volume.specs.declared.cost.Cost.{Cost}
 use Rattle.volume_space.proofs.SpreadCounted.{nodes_more, one_low, one_met}
-use Rattle.volume_space.specs.Growing.{HasFilledRecords, FileFits, GrowthFits, IsShort, IsThere, WantsFirst, alone, blocks_filled, file_of, growth_load, growth_room, run_load}
+use Rattle.volume_space.specs.Growing.{FileFits, GrowthFits, IsShort, IsThere, WantsFirst, alone, blocks_filled, file_of, growth_load, growth_room, run_load}
 use Rattle.volume_space.specs.declared.ahead.WhichTree.{WhichTree}
 use Rattle.volume_space.specs.declared.ahead.WhichTree.TheVariants as which
 use Rattle.volume_space.proofs.GrowthCounted.{blocks_same, few_listed, file_fits, power_of, run_counted_in, some_blocks, numbers_fit}
@@ -411,10 +411,10 @@ module _ (v : Volume) (a : Space) (was : IsStanding v a) (settled : IsSettled v 
     one_edit = ap (λ (t : TreeCost). tree_load extents_key t 1 0) tree_0
 
     -- the one that goes first, of any number of extents
-    spreads_first : (tree : WhichTree) (more : ℕ) → 0 < more → first_growth grow ≡ alone tree more → IsThere tree v.header → HasFilledRecords tree v a.content → capacity ≡ v.capacity
-        → (GrowthFits tree more v a × (growth_room tree more v ≤ load)) ⊎ (SpreadGrowthFits tree more v a × (growth_room_with 1 tree more v ≤ load))
-    spreads_first which.Extents more some first there filled same = inl (fits_first which.Extents more some first there tt)
-    spreads_first which.Catalog more some first there filled same = elim (cases_lt (length v.catalog.file.fork) 8) [
+    spreads_first : (tree : WhichTree) (more : ℕ) → 0 < more → first_growth grow ≡ alone tree more → IsThere tree v.header → capacity ≡ v.capacity
+        → (GrowthFits tree more v a × (growth_room tree more v ≤ load)) ⊎ (SpreadGrowthFits tree more v a × (growth_room_spread tree more v ≤ load))
+    spreads_first which.Extents more some first there same = inl (fits_first which.Extents more some first there tt)
+    spreads_first which.Catalog more some first there same = elim (cases_lt (length v.catalog.file.fork) 8) [
       | inl short ↦ inl (fits_first which.Catalog more some first there short)
       | inr long ↦
           let is = first_is grow which.Catalog more some first ∙ ap (λ l. slice_index l 1) afforded.grows in
@@ -422,9 +422,9 @@ module _ (v : Volume) (a : Space) (was : IsStanding v a) (settled : IsSettled v 
           let grows = subst (λ m. 0 < m) is some in
           let edited : 1 ≤ slice_index (plan_of needs (room_with capacity (free_of v.map) (volume_of a.content))).edits 0 = omega (arith, takes_one (tree_at (room_with capacity (free_of v.map) (volume_of a.content)) 1) (slice_index (plan_of needs (room_with capacity (free_of v.map) (volume_of a.content))).grow 1) grows (long_1 long)) in
           let fits = subst (λ m. SpreadFits m v.catalog.file v.header.catalog_fork v a × (growth_load v v.catalog.file m + tree_load extents_key (tree_at (room_with capacity (free_of v.map) (volume_of a.content)) 0) 1 0 ≤ load)) (sym is) (catalog_spreads same none edited grows) in
-          inr ((filled, fits.0), subst (λ n. growth_load v v.catalog.file more + n ≤ load) one_edit fits.1)
+          inr (fits.0, subst (λ n. growth_load v v.catalog.file more + n ≤ load) one_edit fits.1)
     ]
-    spreads_first which.Attributes more some first there filled same = elim (cases_lt (length v.attributes.file.fork) 8) [
+    spreads_first which.Attributes more some first there same = elim (cases_lt (length v.attributes.file.fork) 8) [
       | inl short ↦ inl (fits_first which.Attributes more some first there short)
       | inr long ↦
           let is = first_is grow which.Attributes more some first ∙ ap (λ l. slice_index l 2) afforded.grows in
@@ -432,23 +432,23 @@ module _ (v : Volume) (a : Space) (was : IsStanding v a) (settled : IsSettled v 
           let grows = subst (λ m. 0 < m) is some in
           let edited : 1 ≤ slice_index (plan_of needs (room_with capacity (free_of v.map) (volume_of a.content))).edits 0 = omega (arith, takes_one (tree_at (room_with capacity (free_of v.map) (volume_of a.content)) 2) (slice_index (plan_of needs (room_with capacity (free_of v.map) (volume_of a.content))).grow 2) grows (long_2 there long)) in
           let fits = subst (λ m. SpreadFits m v.attributes.file v.header.attributes_fork v a × (growth_load v v.attributes.file m + tree_load extents_key (tree_at (room_with capacity (free_of v.map) (volume_of a.content)) 0) 1 0 ≤ load)) (sym is) (attributes_spread same none edited there grows) in
-          inr ((there, (filled, fits.0)), subst (λ n. growth_load v v.attributes.file more + n ≤ load) one_edit fits.1)
+          inr ((there, fits.0), subst (λ n. growth_load v v.attributes.file more + n ≤ load) one_edit fits.1)
     ]
 
 module _ (v : Volume) (a : Space) (over : StandsOver v a) (tells : IsTrue a.tells) (settled : IsSettled v a.content) (says : LoadSaysEnough) (law : GrowsByEnough) (tree : WhichTree) (more : ℕ) (wants : WantsFirst tree more v a) where
   short_first : IsShort tree v → GrowthFits tree more v a × (growth_room tree more v ≤ wants.load)
   short_first short = fits_first v a (over.stands tells) settled over.service wants.capacity wants.needs wants.load wants.grow says law wants.costs wants.within tree more wants.some wants.first wants.there short
 
-  filled_first : HasFilledRecords tree v a.content × (wants.capacity ≡ v.capacity) → (GrowthFits tree more v a × (growth_room tree more v ≤ wants.load)) ⊎ (SpreadGrowthFits tree more v a × (growth_room_with 1 tree more v ≤ wants.load))
-  filled_first filled = spreads_first v a (over.stands tells) settled over.service wants.capacity wants.needs wants.load wants.grow says law wants.costs wants.within tree more wants.some wants.first wants.there filled.0 filled.1
+  own_first : wants.capacity ≡ v.capacity → (GrowthFits tree more v a × (growth_room tree more v ≤ wants.load)) ⊎ (SpreadGrowthFits tree more v a × (growth_room_spread tree more v ≤ wants.load))
+  own_first own = spreads_first v a (over.stands tells) settled over.service wants.capacity wants.needs wants.load wants.grow says law wants.costs wants.within tree more wants.some wants.first wants.there own
 
   -- what costs a load that may be put has its first growth made
   pub wanted_fits : GrowthFits tree more v a ⊎ SpreadGrowthFits tree more v a
-  wanted_fits = ⊎_elim (λ short. inl (short_first short).0) (λ filled. ⊎_elim (λ fits. inl fits.0) (λ fits. inr fits.0) (filled_first filled)) wants.short
+  wanted_fits = ⊎_elim (λ short. inl (short_first short).0) (λ own. ⊎_elim (λ fits. inl fits.0) (λ fits. inr fits.0) (own_first own)) wants.short
 
   -- and what it puts is a part of the load
-  pub wanted_loads : (length (file_of tree v).fork < 8 × (growth_room tree more v ≤ wants.load)) ⊎ (HasFilledRecords tree v a.content × (growth_room_with 1 tree more v ≤ wants.load))
+  pub wanted_loads : (length (file_of tree v).fork < 8 × (growth_room tree more v ≤ wants.load)) ⊎ (growth_room_spread tree more v ≤ wants.load)
   wanted_loads = ⊎_elim
       (λ short. let fits = short_first short in inl (fits.0.1.counts.extents, fits.1))
-      (λ filled. ⊎_elim (λ fits. inl (fits.0.1.counts.extents, fits.1)) (λ fits. inr (filled.0, fits.1)) (filled_first filled))
+      (λ own. ⊎_elim (λ fits. inl (fits.0.1.counts.extents, fits.1)) (λ fits. inr fits.1) (own_first own))
       wants.short

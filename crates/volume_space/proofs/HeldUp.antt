@@ -1,6 +1,6 @@
--- Why the next step of reclaiming isn't made: what its cost says, or that a transaction may be too small for a cut.
+-- Why the next step of reclaiming isn't made: what its cost says.
 use Rattle.std.proofs.Common.{◌≡◌, ℕ, Bool, true, false, List, [], ◌∷◌, inl, inr, refl, sym, ◌∙◌, ap}
-use Rattle.std.specs.Prelude.{nat_lt, ◌&&◌, Option, None, Some, if◌then◌else◌}
+use Rattle.std.specs.Prelude.{◌&&◌, Option, None, Some, if◌then◌else◌}
 use Rattle.std.proofs.lemmas.Bool.{true≢false}
 use Rattle.sector_disk.specs.Lists.{Content}
 use Rattle.hfs_volume.specs.Content.{VolumeState, records_of, volume_of}
@@ -11,8 +11,7 @@ use Rattle.hfs_volume.specs.Reclaim.{CutOrphan, CutShrunk, DropAttribute, DropOr
 use Rattle.hfs_volume.specs.Weight.{cut_cost, cut_load, free_blocks, room_with}
 use Rattle.hfs_volume.specs.declared.cost.Cost.{Cost}
 use Rattle.hfs_volume.specs.declared.cost.Cost.TheVariants as cost
-use Rattle.hfs_volume.specs.declared.cost.Room.{Room}
-use Rattle.volume_runs.specs.Rest.{IsAtRest, IsHeldUp, cut_puts, cuts_emptied, has_empty_record, is_tight}
+use Rattle.volume_runs.specs.Rest.{IsAtRest, IsHeldUp, cut_puts}
 use Rattle.volume_space.specs.Cutting.{IsCut, IsNextCut}
 use Rattle.volume_space.specs.Orphans.{bare_edits, drop_edits, grows_none, is_refused}
 use Rattle.volume_base.specs.Room.{capacity_of, free_in, room_on}
@@ -27,7 +26,7 @@ use Rattle.volume_base.proofs.RoomKept.{free_content}
 -- ---- by its cost
 
 held_cost : (capacity : ℕ) (volume : VolumeState) (step : Reclaim) (found : Cost) → is_refused found ≡ true → reclaim_cost capacity volume step ≡ found → IsHeldUp capacity volume step
-held_cost capacity volume step (cost.Refused why) refused is = inl (why, is)
+held_cost capacity volume step (cost.Refused why) refused is = (why, is)
 held_cost capacity volume step (cost.Load load grow) refused is = absurd (true≢false (sym refused))
 
 -- a cut grows no tree
@@ -59,23 +58,16 @@ module _ (v : Volume) (content : Content) (settled : IsSettled v content) where
 -- ---- by what a cut puts at most
 
 -- what it puts by the room that the volume keeps is what it puts by that of the content
-pub cut_puts_is : (changes : ℕ) (v : Volume) (content : Content) → IsSettled v content → cut_puts changes (room_on blocks.All v) ≡ cut_puts changes (room_with (capacity_of v) (free_blocks (volume_of content)) (volume_of content))
+pub cut_puts_is : (v : Volume) (content : Content) → IsSettled v content → cut_puts (room_on blocks.All v) ≡ cut_puts (room_with (capacity_of v) (free_blocks (volume_of content)) (volume_of content))
 unfolding room_with
-cut_puts_is changes v content settled = sym (λ i. cut_puts changes (room_with (capacity_of v) (free_blocks (volume_of content)) (settled.lists i)))
-
-tight_step : (capacity : ℕ) (volume : VolumeState) (step : Reclaim) → cuts_emptied volume step ≡ true → nat_lt capacity (cut_puts 2 (room_with capacity (free_blocks volume) volume)) ≡ true → is_tight capacity volume step ≡ true
-tight_step capacity volume step emptied tight = λ i. emptied i && tight i
-
-pub held_tight : (v : Volume) (content : Content) → IsSettled v content → (room : Room) → room ≡ room_on blocks.All v → (load : ℕ) → load ≡ cut_puts 2 room → nat_lt room.capacity load ≡ true → (step : Reclaim) → cuts_emptied (volume_of content) step ≡ true → IsHeldUp (capacity_of v) (volume_of content) step
-held_tight v content settled room is load load_is tight step emptied =
-    inr (tight_step (capacity_of v) (volume_of content) step emptied (ap (λ n. nat_lt (capacity_of v) n) (sym (load_is ∙ ap (cut_puts 2) is ∙ cut_puts_is 2 v content settled)) ∙ ap (λ (r : Room). nat_lt r.capacity load) (sym is) ∙ tight))
+cut_puts_is v content settled = sym (λ i. cut_puts (room_with (capacity_of v) (free_blocks (volume_of content)) (settled.lists i)))
 
 -- ---- the next step
 
 -- it is a cut that is held up
-pub rests_cut : (capacity : ℕ) (shrunk : Option ℕ) (content : Content) (id kind keep : ℕ) → IsNextCut shrunk content id kind keep → ((step : Reclaim) → IsCut step → has_empty_record (volume_of content) id kind ≡ cuts_emptied (volume_of content) step → IsHeldUp capacity (volume_of content) step) → IsAtRest capacity shrunk (volume_of content)
-rests_cut capacity shrunk content id kind keep (inl next) held = inr (CutShrunk id, next.0, held (CutShrunk id) (inl (id, refl)) (ap (has_empty_record (volume_of content) id) next.1))
-rests_cut capacity shrunk content id kind keep (inr next) held = inr (CutOrphan id kind, next.0, held (CutOrphan id kind) (inr (id, kind, refl)) refl)
+pub rests_cut : (capacity : ℕ) (shrunk : Option ℕ) (content : Content) (id kind keep : ℕ) → IsNextCut shrunk content id kind keep → ((step : Reclaim) → IsCut step → IsHeldUp capacity (volume_of content) step) → IsAtRest capacity shrunk (volume_of content)
+rests_cut capacity shrunk content id kind keep (inl next) held = inr (CutShrunk id, next.0, held (CutShrunk id) (inl (id, refl)))
+rests_cut capacity shrunk content id kind keep (inr next) held = inr (CutOrphan id kind, next.0, held (CutOrphan id kind) (inr (id, kind, refl)))
 
 -- there is none
 pub rests_none : (capacity : ℕ) (shrunk : Option ℕ) (volume : VolumeState) → has_surplus_left volume shrunk ≡ false → least (orphans_of (records_of volume)) ≡ None → IsAtRest capacity shrunk volume

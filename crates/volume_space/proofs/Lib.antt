@@ -16,7 +16,6 @@ pub mod CutShort
 pub mod CutShrunk
 pub mod CutWhole
 pub mod EditsTaken
-pub mod EmptyRecords
 pub mod ExtentRoom
 pub mod ExtentsEdited
 pub mod ExtentsGrownCalls
@@ -28,7 +27,6 @@ pub mod ExtentsGrownUnchanged
 pub mod ExtentsGrownWhole
 pub mod FewChanges
 pub mod FewerEdits
-pub mod Filled
 pub mod GivenBack
 pub mod GrownAhead
 pub mod GrownBits
@@ -46,6 +44,7 @@ pub mod GrownWhole
 pub mod GrowthCounted
 pub mod GrowthFitted
 pub mod GrowthUnits
+pub mod HeldRecords
 pub mod HeldUp
 pub mod KeptUsed
 pub mod Mapped
@@ -76,6 +75,7 @@ pub mod PutUser
 pub mod PutWhere
 pub mod RecordCounts
 pub mod Resized
+pub mod ShortFits
 pub mod Shortened
 pub mod ShortenedCalls
 pub mod Shorts

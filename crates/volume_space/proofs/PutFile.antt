@@ -16,7 +16,8 @@ use Rattle.alloc_bitmap.specs.Map.{free_of}
 use Rattle.file_io.specs.Places.{blocks_for}
 use Rattle.flag_rows.specs.Runs.{fewest_of}
 use Rattle.hfs_volume.specs.Cost.{overflow_records}
-use Rattle.hfs_volume.specs.Weight.{Data, free_runs, needs_cut}
+use Rattle.hfs_volume.specs.Forks.{data_kind}
+use Rattle.hfs_volume.specs.Weight.{Data, file_extents, free_runs, needs_cut}
 use Rattle.hfs_volume.proofs.Hiding.{same_entry}
 use Rattle.volume_base.specs.Lists.{lists_of}
 use Rattle.volume_base.specs.Reading.{HasFile}
@@ -30,6 +31,7 @@ use Rattle.volume_base.proofs.FileBytes.{bytes_long}
 use Rattle.volume_base.proofs.FoundEntry.{IsThere}
 use Rattle.volume_space.proofs.NextCut.{stands_there}
 use Rattle.volume_base.proofs.PlainFiles.{IsFileOf, file_of_node}
+use Rattle.volume_space.proofs.HeldRecords.{held_is}
 use Rattle.volume_space.proofs.PutAllowed.{load_is}
 use Rattle.volume_space.proofs.PutMet.{data_is_met}
 use Rattle.volume_space.proofs.PutNumbers.{fresh_is}
@@ -113,6 +115,14 @@ module _ (v : Volume) (a : Space) (holds : StandsOver v a) (tells : IsTrue a.tel
         λ i. edits_load v.extents.file.shape (records_held (volume_of a.content) (sym (number ∙ sym number_is) i)
         + overflow_records (many v a.content settled file has_it put from long (number ∙ sym number_is) here (omega (arith, holds.service.least)) i
         + 1 + fewest_of (sym (fresh_is put file.data_fork.logical_size from (from + long) v.header.block_size here (omega (arith, holds.service.least))) i) (free_runs (free_of v.map))))
+
+  -- its fork has as many overflow records as its extents fill
+  pub records_are : (put : Data) (from long : ℕ) → put.id ≡ node.id → IsAt put (length node.bytes) from (from + long) → records_held (volume_of a.content) put.id ≡ overflow_records (length (file_extents (volume_of a.content) put.id data_kind))
+  records_are put from long number at =
+      let is : put.id ≡ its.file.fields.id = number ∙ sym (number_is its.file refl) in
+      ap (records_held (volume_of a.content)) is
+      ∙ held_is v a.content settled its.file (has_it its.file refl)
+      ∙ ap overflow_records (many v a.content settled its.file (has_it its.file refl) put from long is (subst (λ n. IsAt put n from (from + long)) (long_is its.file refl) at) (omega (arith, holds.service.least)))
 
 -- the file is the same one behind a keep, or a read
 pub same_files : (v k : Volume) (a : Space) (holds : StandsOver v a) (held : StandsOver k a) (tells : IsTrue a.tells) (settled : IsSettled v a.content) (kept : IsSettled k a.content) (node : PlainNode) (stands : Contains (tree_of a.content).nodes node) (kind : node.folder ≡ false)

@@ -17,7 +17,7 @@ use Rattle.hfs_volume.specs.declared.cost.Cost.TheVariants as cost
 use Rattle.hfs_volume.specs.declared.cost.Room.{Room}
 use Rattle.volume_base.specs.Changing.{catalog_node}
 use Rattle.volume_base.specs.Standing.{IsSettled}
-use Rattle.volume_space.specs.Recording.{AreFilled, records_held}
+use Rattle.volume_space.specs.Recording.{records_held}
 use Rattle.volume_space.specs.Spreading.{cost_of_shape, edits_load}
 use Rattle.volume_space.specs.Writing.{IsAt, blocks_put, data_load, fresh_blocks, fresh_runs, most_extents, records_load, spread_put_load}
 use Rattle.volume_base.specs.declared.volume.Volume.{Volume}
@@ -71,7 +71,7 @@ pub some_data : (v : Volume) (put : Data) (size from long : ℕ) → IsAt put si
 some_data v put size from long at some longer = subst (λ n. 0 < n) (sym (fresh_is put size from (from + long) v.header.block_size at some)) (some_fresh v.header.block_size size from long some longer)
 
 module _ (v : Volume) (content : Content) (settled : IsSettled v content) (capacity : ℕ) (tree : PlainTree) (path : List (List ℕ)) (put : Data) (no_cut : needs_cut (volume_of content) (Some put) ≡ false)
-    (filled : AreFilled (volume_of content) put.id (length (file_extents (volume_of content) put.id data_kind))) (some : 0 < fresh_blocks v put) (n : ℕ) (grow : List ℕ)
+    (filled : records_held (volume_of content) put.id ≡ overflow_records (length (file_extents (volume_of content) put.id data_kind))) (some : 0 < fresh_blocks v put) (n : ℕ) (grow : List ℕ)
   where
     head_is : (volume_of content).head ≡ v.header
     head_is = ap (λ (l : VolumeState). l.head) settled.lists

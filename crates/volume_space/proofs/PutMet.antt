@@ -29,6 +29,7 @@ use Rattle.volume_space.specs.Recording.{records_held}
 use Rattle.volume_space.specs.Spreading.{is_met_extents}
 use Rattle.volume_space.specs.Writing.{IsAt, blocks_put, can_put, cost_to_put, extents_in, has_more, is_data_met, is_put_met, may_overflow, needs_of_put, put_load}
 use Rattle.volume_space.proofs.ExtentRoom.{third_false}
+use Rattle.volume_space.proofs.HeldRecords.{held_is}
 use Rattle.volume_space.proofs.PutAlike.{IsAlike}
 use Rattle.volume_space.proofs.PutNumbers.{freed_is, fresh_is}
 use Rattle.volume_space.proofs.PutWhere.{many, surplus}
@@ -165,7 +166,7 @@ met_alike v u like capacity lists was same spare_then spare records_then records
 pub data_met_alike : (v u : Volume) → IsAlike v u → u.capacity ≡ v.capacity → (spare : ℕ) (lists : VolumeState) (o : Option Data) → is_data_met u spare lists o ≡ is_data_met v spare lists o
 data_met_alike v u like capacity spare lists None = refl
 data_met_alike v u like capacity spare lists (Some put) =
-    λ i. not (needs_cut lists (Some put)) && ((records_held lists put.id == overflow_records (length (file_extents lists put.id data_kind))) && is_met_extents (cost_of (needs_data (free i) lists put) (room_with (capacity i) (free i) lists)) spare)
+    λ i. not (needs_cut lists (Some put)) && is_met_extents (cost_of (needs_data (free i) lists put) (room_with (capacity i) (free i) lists)) spare
   where
     free : free_of u.map ≡ free_of v.map
     free = λ i. free_of (record u.map { used = like.used i; held = like.held i })
@@ -190,28 +191,26 @@ module _ (v : Volume) (content : Content) (settled : IsSettled v content) (file 
     freed_are : old_blocks_of (volume_of content).head.block_size put ≡ old_end v.header.block_size file.data_fork.logical_size (from + long) - first_block v.header.block_size file.data_fork.logical_size from
     freed_are = ap (λ (h : VolumeHeader). old_blocks_of h.block_size put) head_is ∙ freed_is put file.data_fork.logical_size from (from + long) v.header.block_size at some
 
-    edits_are : (runs : ℕ) → records_held (volume_of content) put.id ≡ overflow_records (length (file_extents (volume_of content) put.id data_kind))
+    edits_are : (runs : ℕ)
         → extents_edits (length (file_extents (volume_of content) put.id data_kind)) runs (blocks_put v file.data_fork.logical_size from long)
         ≡ records_held (volume_of content) file.fields.id + overflow_records (length (extents_in content file) + 1 + runs)
-    edits_are runs counted =
+    edits_are runs =
         ap (λ b. if b then 0 else overflow_records (length (file_extents (volume_of content) put.id data_kind)) + overflow_records (length (file_extents (volume_of content) put.id data_kind) + 1 + runs))
         (ne_eqb (blocks_put v file.data_fork.logical_size from long) 0 (λ none. absurd (omega (arith, none, some_fresh v.header.block_size file.data_fork.logical_size from long some longer))))
-        ∙ (λ i. sym counted i + overflow_records (sym (many v content settled file has put from long number at some) i + 1 + runs))
-        ∙ ap (λ n. records_held (volume_of content) n + overflow_records (length (extents_in content file) + 1 + runs)) number
+        ∙ (λ i. overflow_records (sym (many v content settled file has put from long number at some) i) + overflow_records (sym (many v content settled file has put from long number at some) i + 1 + runs))
+        ∙ ap (λ n. n + overflow_records (length (extents_in content file) + 1 + runs)) (sym (held_is v content settled file has))
 
     pub data_is_met : (spare : ℕ) → is_data_met v spare (volume_of content) (Some put) ≡ true
         → is_put_met v (volume_of content) spare (records_held (volume_of content) file.fields.id) (length (extents_in content file)) file.data_fork.total_blocks file.data_fork.logical_size from long ≡ true
     data_is_met spare ok =
-        let one = and_parts (not (needs_cut (volume_of content) (Some put))) ((records_held (volume_of content) put.id == overflow_records (length (file_extents (volume_of content) put.id data_kind))) && is_met_extents (cost_of (needs_data (free_of v.map) (volume_of content) put) (room_with v.capacity (free_of v.map) (volume_of content))) spare) ok in
-        let two = and_parts (records_held (volume_of content) put.id == overflow_records (length (file_extents (volume_of content) put.id data_kind))) (is_met_extents (cost_of (needs_data (free_of v.map) (volume_of content) put) (room_with v.capacity (free_of v.map) (volume_of content))) spare) one.1 in
-        let counted = eqb-true (records_held (volume_of content) put.id) (overflow_records (length (file_extents (volume_of content) put.id data_kind))) two.0 in
+        let one = and_parts (not (needs_cut (volume_of content) (Some put))) (is_met_extents (cost_of (needs_data (free_of v.map) (volume_of content) put) (room_with v.capacity (free_of v.map) (volume_of content))) spare) ok in
         let free = free_of v.map in
         (λ i. not (surplus v content settled file has put from long number at some i)
         && is_met_extents (cost_of (needs_of_put
-        (sym (edits_are (fewest_of (blocks_put v file.data_fork.logical_size from long) (free_runs free)) counted) i) (blocks_put v file.data_fork.logical_size from long)
+        (sym (edits_are (fewest_of (blocks_put v file.data_fork.logical_size from long) (free_runs free))) i) (blocks_put v file.data_fork.logical_size from long)
         (sym freed_are i) (fewest_of (blocks_put v file.data_fork.logical_size from long) (free_runs free))) (room_with v.capacity free (volume_of content))) spare)
         ∙ (λ i. one.0 i
         && is_met_extents (cost_of (needs_of_put
         (extents_edits (length (file_extents (volume_of content) put.id data_kind)) (fewest_of (sym fresh_are i) (free_runs free)) (sym fresh_are i)) (sym fresh_are i)
         (old_blocks_of (volume_of content).head.block_size put) (fewest_of (sym fresh_are i) (free_runs free))) (room_with v.capacity free (volume_of content))) spare)
-        ∙ two.1
+        ∙ one.1

@@ -1,23 +1,22 @@
 -- There is too little room for a step of reclaiming.
-use Rattle.std.proofs.Common.{◌≡◌, ◌⊎◌, ◌<◌, ◌≤◌, ℕ, ◌+◌, ◌*◌, ◌/◌, min, Bool, true, false, List, length, inl, inr, refl, sym, ◌∙◌, ap, subst, arith}
-use Rattle.std.specs.Prelude.{Option, Some}
+use Rattle.std.proofs.Common.{◌≡◌, ◌⊎◌, ◌<◌, ◌≤◌, ℕ, ◌+◌, ◌*◌, ◌/◌, min, Bool, List, length, inl, inr, refl, sym, ◌∙◌, ap, subst, arith}
+use Rattle.std.specs.Prelude.{Option}
 use Rattle.sector_disk.specs.Lists.{Content}
 use Rattle.sector_disk.specs.Space.{Space}
 use Rattle.flag_rows.specs.Bits.{sectors_for}
 use Rattle.alloc_bitmap.specs.Map.{free_of}
-use Rattle.hfs_volume.specs.Content.{VolumeState, volume_of}
+use Rattle.hfs_volume.specs.Content.{volume_of}
 use Rattle.hfs_volume.specs.Cost.{cost_of}
 use Rattle.hfs_volume.specs.Forks.{parts_for}
-use Rattle.hfs_volume.specs.Reclaim.{CutOrphan, CutShrunk, DropAttribute, DropOrphan, Reclaim, next_reclaim, reclaim_cost_with}
+use Rattle.hfs_volume.specs.Reclaim.{CutOrphan, CutShrunk, DropAttribute, DropOrphan, Reclaim, reclaim_cost_with}
 use Rattle.hfs_volume.specs.Weight.{free_blocks, room_with}
-use Rattle.hfs_volume.specs.declared.cost.Room.{Room}
-use Rattle.volume_runs.specs.Rest.{cut_puts, cuts_emptied, has_empty_record}
+use Rattle.volume_runs.specs.Rest.{cut_puts}
 use Rattle.volume_base.specs.Fitting.{AreMet, is_met, needs_of, wants}
 use Rattle.volume_base.specs.Room.{capacity_of, room_on}
 use Rattle.volume_base.specs.Standing.{IsSettled}
 use Rattle.volume_base.specs.declared.room.FreeBlocks.TheVariants as blocks
 use Rattle.volume_base.specs.declared.volume.Volume.{Volume}
-use Rattle.volume_space.specs.Cutting.{IsCut, IsNextCut, changes_in, trim_load}
+use Rattle.volume_space.specs.Cutting.{IsCut, IsNextCut, trim_load}
 use Rattle.volume_space.specs.Orphans.{IsNextShort, IsShort}
 use Rattle.volume_space.proofs.HeldUp.{cut_puts_is}
 use Rattle.volume_space.proofs.PutMet.{not_met}
@@ -31,29 +30,23 @@ unfolding reclaim_cost_with
 short_bare v a id name never = not_met (is_met (cost_of (needs_of (wants 0 0 1 1)) (room_with (capacity_of v) (free_of v.map) (volume_of a.content))) a.spare) never
 
 -- what a cut puts by the volume's own numbers
-pub trim_is : (emptied : Bool) (v : Volume) (content : Content) → IsSettled v content → trim_load emptied v ≡ cut_puts (changes_in emptied) (room_on blocks.All v)
-trim_is emptied v content settled =
+pub trim_is : (v : Volume) (content : Content) → IsSettled v content → trim_load v ≡ cut_puts (room_on blocks.All v)
+trim_is v content settled =
     let sizes : parts_for v.header.total_blocks 4096 ≡ sectors_for (length v.map.used) = omega (arith, settled.blocks) in
     omega (arith, ap (λ n. min n 10) sizes)
 
-pub short_cut : (emptied : Bool) (v : Volume) (content : Content) → IsSettled v content → (spare : ℕ) → spare < trim_load emptied v → (step : Reclaim) → IsCut step → emptied ≡ cuts_emptied (volume_of content) step → IsShort (capacity_of v) (free_of v.map) spare (volume_of content) step
-short_cut emptied v content settled spare less step cut told = by cut
+pub short_cut : (v : Volume) (content : Content) → IsSettled v content → (spare : ℕ) → spare < trim_load v → (step : Reclaim) → IsCut step → IsShort (capacity_of v) (free_of v.map) spare (volume_of content) step
+short_cut v content settled spare less step cut = by cut
   where
-    room : Room
-    room = room_with (capacity_of v) (free_blocks (volume_of content)) (volume_of content)
-
-    enough : spare < cut_puts (changes_in emptied) room
-    enough = omega (arith, less, trim_is emptied v content settled, cut_puts_is (changes_in emptied) v content settled)
-
-    more : spare < cut_puts (changes_in (cuts_emptied (volume_of content) step)) room
-    more = subst (λ b. spare < cut_puts (changes_in b) room) told enough
+    enough : spare < cut_puts (room_with (capacity_of v) (free_blocks (volume_of content)) (volume_of content))
+    enough = omega (arith, less, trim_is v content settled, cut_puts_is v content settled)
 
     by : IsCut step → IsShort (capacity_of v) (free_of v.map) spare (volume_of content) step
-    by (inl (id, same)) = subst (IsShort (capacity_of v) (free_of v.map) spare (volume_of content)) (sym same) (subst (λ s. spare < cut_puts (changes_in (cuts_emptied (volume_of content) s)) room) same more)
-    by (inr (id, kind, same)) = subst (IsShort (capacity_of v) (free_of v.map) spare (volume_of content)) (sym same) (subst (λ s. spare < cut_puts (changes_in (cuts_emptied (volume_of content) s)) room) same more)
+    by (inl (id, same)) = subst (IsShort (capacity_of v) (free_of v.map) spare (volume_of content)) (sym same) enough
+    by (inr (id, kind, same)) = subst (IsShort (capacity_of v) (free_of v.map) spare (volume_of content)) (sym same) enough
 
 -- the next step is such a cut
-pub short_next : (capacity : ℕ) (shrunk : Option ℕ) (free : List Bool) (spare : ℕ) (content : Content) (id kind keep : ℕ) → IsNextCut shrunk content id kind keep → ((step : Reclaim) → IsCut step → has_empty_record (volume_of content) id kind ≡ cuts_emptied (volume_of content) step → IsShort capacity free spare (volume_of content) step)
+pub short_next : (capacity : ℕ) (shrunk : Option ℕ) (free : List Bool) (spare : ℕ) (content : Content) (id kind keep : ℕ) → IsNextCut shrunk content id kind keep → ((step : Reclaim) → IsCut step → IsShort capacity free spare (volume_of content) step)
     → IsNextShort capacity shrunk free spare (volume_of content)
-short_next capacity shrunk free spare content id kind keep (inl next) short = (CutShrunk id, next.0, short (CutShrunk id) (inl (id, refl)) (ap (has_empty_record (volume_of content) id) next.1))
-short_next capacity shrunk free spare content id kind keep (inr next) short = (CutOrphan id kind, next.0, short (CutOrphan id kind) (inr (id, kind, refl)) refl)
+short_next capacity shrunk free spare content id kind keep (inl next) short = (CutShrunk id, next.0, short (CutShrunk id) (inl (id, refl)))
+short_next capacity shrunk free spare content id kind keep (inr next) short = (CutOrphan id kind, next.0, short (CutOrphan id kind) (inr (id, kind, refl)))

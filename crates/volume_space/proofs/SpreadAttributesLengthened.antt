@@ -28,7 +28,7 @@ use Rattle.volume_space.proofs.GrownBits.{map_few, marked_long}
 use Rattle.volume_space.proofs.AttributesGrownCalls.{own_same, service_after}
 use Rattle.volume_space.proofs.GrownCalls.{touches_told}
 use Rattle.volume_space.proofs.SpreadNumbers.{load_is, run_some}
-use Rattle.volume_space.proofs.SpreadAttributes.{has_before, same_overflow, stands_but}
+use Rattle.volume_space.proofs.SpreadAttributes.{has_before, stands_but}
 use Rattle.volume_space.proofs.GrownRun.{same_fork, same_length, same_per}
 use Rattle.volume_space.proofs.AttributesGrownStands.{own_gained, own_still, put_own}
 
@@ -61,9 +61,6 @@ module _ (more : ℕ) (v : Volume) (a b : Space) (over : StandsOver v a) (settle
 
       pub has_then : IsTrue a.tells → HasExtents (overflow_in_volume (lists_of (lengthened_attributes run.count v later file) b.content)) attributes_id data_kind v.attributes.file.fork
       has_then tells = has_before v a b (over.stands tells) (settled tells) there (blocks_filled v.attributes.file more) run later takes some file (grown tells) within tells over.service.fits.attributes_fork.extents.eight
-
-      pub overflow_then : IsTrue a.tells → overflow_in_volume (lists_of (lengthened_attributes run.count v later file) b.content) ≡ overflow_in_volume (lists_of v a.content)
-      overflow_then tells = same_overflow v a b (over.stands tells) (settled tells) there (blocks_filled v.attributes.file more) run later takes some file (grown tells) within tells
 
       pub lengthens_then : IsTrue a.tells → LengthensAttributes more v (lengthened_attributes run.count v later file) a b
       lengthens_then tells = record { run = run; takes = takes; grown = grown tells; rest = refl; within = within }

@@ -1,15 +1,9 @@
 -- What the calls of a growth with overflow records ask for, one behind another.
-use Rattle.std.proofs.Common.{◌≡◌, ◌≢◌, inl, inr, ◌≤◌, ℕ, ◌*◌, ◌/◌, ◌==◌, ◌&&◌, Bool, true, false, List, length, min, sym, ◌∙◌, ap, subst, arith, ⊎_elim, le-div_iff_mul-le}
-use Rattle.std.specs.Prelude.{Contains, IfOk, IsTrue, Result, Ok, Err, nat_le, slice_index, slice_index_or}
-use Rattle.std.proofs.Math.Nat.{div-zero}
-use Rattle.std.proofs.lemmas.Bool.{and_parts, cases_eq, le-leb, leb-true}
-use Rattle.hx_bytes.specs.declared.faults.Trouble.{Trouble}
-use Rattle.volume_space.specs.declared.ahead.Growth.{Growth}
-use Rattle.volume_space.specs.declared.ahead.Growth.TheVariants as growing
-use Rattle.btree_edit.specs.Editing.{edit_writes}
+use Rattle.std.proofs.Common.{◌≡◌, ◌≢◌, inl, inr, ◌≤◌, ℕ, ◌*◌, ◌/◌, ◌==◌, ◌&&◌, Bool, true, false, List, length, sym, ◌∙◌, ap, subst, arith, ⊎_elim}
+use Rattle.std.specs.Prelude.{Contains, IsTrue, nat_le, slice_index, slice_index_or}
+use Rattle.std.proofs.lemmas.Bool.{and_parts, le-leb, leb-true}
 use Rattle.btree_edit.specs.Edits.{EditRoom}
 use Rattle.btree_file.specs.State.{state_of}
-use Rattle.btree_node.specs.Store.{HasRoom}
 use Rattle.hfs_volume.specs.Cost.{cost_of}
 use Rattle.hfs_volume.specs.declared.cost.Cost.{Cost}
 use Rattle.hfs_volume.specs.declared.cost.Cost.TheVariants as cost
@@ -25,7 +19,6 @@ use Rattle.volume_base.specs.declared.volume.Volume.{Volume}
 use Rattle.volume_space.specs.Spreading.{is_met_extents, needs_extents}
 use Rattle.volume_space.specs.Standing.{HoldsOn}
 use Rattle.volume_space.proofs.ExtentRoom.{extent_room}
-use Rattle.volume_space.proofs.SpreadFile.{room_by_nodes}
 
 -- a load that so many sectors suffice for is met by more
 met_more : (it : Cost) (few more : ℕ) → few ≤ more → is_met_extents it few ≡ true → is_met_extents it more ≡ true
@@ -34,28 +27,12 @@ met_more (cost.Load load grow) few more less ok =
     let parts = and_parts (slice_index grow 0 == 0) (nat_le load few) ok in
     (λ i. parts.0 i && nat_le load more) ∙ le-leb load more (omega (arith, leb-true load few parts.1, less))
 
--- so many parts fit more
-parts_more : (n k few more : ℕ) → few ≤ more → k ≤ few / n → k ≤ more / n
-parts_more n k few more less fits = ⊎_elim
-    (λ (none : n ≡ 0). let zero_parts : few / n ≡ 0 = ap (λ m. few / m) none ∙ div-zero few in omega (arith, fits, zero_parts))
-    (λ (some : n ≢ 0).
-    let low : k * n ≤ few = (le-div_iff_mul-le {k = n} {x = k} {y = few} (omega (arith, some))).0 fits in
-    (le-div_iff_mul-le {k = n} {x = k} {y = more} (omega (arith, some))).1 (omega (arith, low, less)))
-    (cases_eq n 0)
-
 -- room for one edit of the extents overflow file, by what it costs, where the file is as it was
 pub edit_room_later : CommandsHaveRoom → LoadSaysEnough → LoadIsOfParts → (v w : Volume) (spare : ℕ) (b : Space) → is_met_extents (cost_of (needs_extents 1) (room_on blocks.Takable v)) spare ≡ true → spare ≤ b.spare → w.extents ≡ v.extents
     → (names : List ℕ) → IsTrue b.tells → EditRoom 1 10 (state_of names w.extents.file b)
 edit_room_later have says parts v w spare b met enough same names tells =
     subst (λ (t : Tree). EditRoom 1 10 (state_of names t.file b)) (sym same)
     (extent_room have says parts v b blocks.Takable 1 (omega arith) (met_more (cost_of (needs_extents 1) (room_on blocks.Takable v)) spare b.spare enough met) names tells)
-
--- and for two changes that add no record
-pub light_room_later : (v w : Volume) (spare : ℕ) (b : Space) → min (2 * edit_writes v.extents.file.shape.depth) v.extents.file.shape.total ≤ spare / (v.extents.file.shape.node_size / 512) → spare ≤ b.spare → w.extents ≡ v.extents
-    → (names : List ℕ) → HasRoom (2 * edit_writes w.extents.file.shape.depth) (state_of names w.extents.file b)
-light_room_later v w spare b fits enough same names =
-    subst (λ (t : Tree). HasRoom (2 * edit_writes t.file.shape.depth) (state_of names t.file b)) (sym same)
-    (room_by_nodes (2 * edit_writes v.extents.file.shape.depth) v.extents.file b names (parts_more (v.extents.file.shape.node_size / 512) (min (2 * edit_writes v.extents.file.shape.depth) v.extents.file.shape.total) spare b.spare enough fits))
 
 -- the same calls touch sectors that are its own by another list
 pub touches_as : (committed : Content) (x w : Volume) (a b : Space) → own_sectors x ≡ own_sectors w → Touches committed (λ s. Contains (own_sectors w) s) a b → Touches committed (λ s. Contains (own_sectors x) s) a b

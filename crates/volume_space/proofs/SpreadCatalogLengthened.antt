@@ -27,7 +27,7 @@ use Rattle.volume_base.specs.declared.volume.Volume.{Volume}
 use Rattle.volume_space.proofs.GrownBits.{map_few, marked_long}
 use Rattle.volume_space.proofs.GrownCalls.{own_same, service_after, touches_told}
 use Rattle.volume_space.proofs.SpreadNumbers.{load_is, run_some}
-use Rattle.volume_space.proofs.SpreadCatalog.{has_before, same_overflow, stands_but}
+use Rattle.volume_space.proofs.SpreadCatalog.{has_before, stands_but}
 use Rattle.volume_space.proofs.GrownRun.{same_fork, same_length, same_per}
 use Rattle.volume_space.proofs.GrownStands.{own_gained, own_still, put_own}
 
@@ -60,9 +60,6 @@ module _ (more : ℕ) (v : Volume) (a b : Space) (over : StandsOver v a) (settle
 
       pub has_then : IsTrue a.tells → HasExtents (overflow_in_volume (lists_of (lengthened run.count v later file) b.content)) catalog_id data_kind v.catalog.file.fork
       has_then tells = has_before v a b (over.stands tells) (settled tells) (blocks_filled v.catalog.file more) run later takes some file (grown tells) within tells over.service.fits.catalog_fork.extents.eight
-
-      pub overflow_then : IsTrue a.tells → overflow_in_volume (lists_of (lengthened run.count v later file) b.content) ≡ overflow_in_volume (lists_of v a.content)
-      overflow_then tells = same_overflow v a b (over.stands tells) (settled tells) (blocks_filled v.catalog.file more) run later takes some file (grown tells) within tells
 
       pub lengthens_then : IsTrue a.tells → Lengthens more v (lengthened run.count v later file) a b
       lengthens_then tells = record { run = run; takes = takes; grown = grown tells; rest = refl; within = within }

@@ -54,7 +54,8 @@ use Rattle.volume_base.specs.declared.volume.Volume.{Volume}
 use Rattle.volume_base.proofs.CutForks.{fork_owned, front_few, front_used, full_all}
 use Rattle.volume_base.proofs.CutLists.{extents_used}
 use Rattle.volume_base.proofs.Extending.{overflow_told}
-use Rattle.volume_space.proofs.FewChanges.{AreFew, blocks_both, few, few_kept, past_eight}
+use Rattle.volume_space.proofs.RecordCounts.{records_counted}
+use Rattle.volume_space.proofs.FewChanges.{AreFew, blocks_both, few_kept, past_eight}
 use Rattle.volume_base.proofs.NextDrop.{fork_stands}
 
 -- ---- a file and its forks
@@ -143,46 +144,12 @@ module _ (keep : ℕ) (list : List Extent) (cut : Cut) (last : IsLastCut keep li
     whole : list ≡ in_use fork.extents.extents ++ used_by records
     whole = is_list ∙ whole_is (overflow_in_store store) id kind fork other
 
-    few_changes : (b : Bool) → is_full fork.extents.extents ≡ b → AreFew 2 (changes_to (map record_of records) (records_for cut.stays))
-    few_changes true full =
-        let front_is : in_use fork.extents.extents ≡ fork.extents.extents = full_all fork.extents.extents full in
-        let whole_now : list ≡ fork.extents.extents ++ used_by records = whole ∙ ap (λ (l : List Extent). l ++ used_by records) front_is in
-        few list cut.stays stays_used kept_front.0 kept_front.1 most records 8 (length (blocks_of fork.extents.extents)) (pairs_eight id kind (pairs_of store))
-        (subst (λ b. GoOn (length (blocks_of fork.extents.extents)) b records) full (goes_on_in (overflow_in_store store) id kind fork other goes))
-        (ap (λ (l : List Extent). length (blocks_of l)) (sym (ap (take 8) whole_now ∙ take-append-le 8 fork.extents.extents (used_by records) (omega (arith, eight)) ∙ take_all 8 fork.extents.extents (omega (arith, eight)))))
-        (ap (drop 8) whole_now ∙ past_eight fork.extents.extents (used_by records) eight)
-        (omega (arith, ap (λ (l : List Extent). length l) whole_now, length-append fork.extents.extents (used_by records), eight))
-    few_changes false full =
-        by records (subst (λ b. GoOn (length (blocks_of fork.extents.extents)) b records) full (goes_on_in (overflow_in_store store) id kind fork other goes)) whole
-      where
-        in_few : (xs : List Extent) → length (in_use xs) ≤ length xs
-        in_few [] = omega arith
-        in_few (x ∷ xs) = one (x.count == 0) (in_few xs)
-          where
-            one : (b : Bool) → length (in_use xs) ≤ length xs → length ((if not b then x ∷ [] else []) ++ in_use xs) ≤ length (x ∷ xs)
-            one true less = omega (arith, less)
-            one false less = omega (arith, less)
+    -- they are counted by the extents
+    filled : length records ≡ parts_for (length list - 8) 8
+    filled = records_counted id kind (pairs_of store) list other (record { fork = fork; eight = eight; is = sym is_list; goes_on = goes })
 
-        by : (more : List Overflow) → GoOn (length (blocks_of fork.extents.extents)) false more → list ≡ in_use fork.extents.extents ++ used_by more → AreFew 2 (changes_to (map record_of more) (records_for cut.stays))
-        by [] on whole_now =
-            let none : parts_for (length cut.stays - 8) 8 ≡ 0 = omega (arith, most, ap (λ (l : List Extent). length l) whole_now, length-append (in_use fork.extents.extents) [], in_few fork.extents.extents, eight) in
-            subst (λ n. AreFew 2 (changes_to [] (records_from n 8 cut.stays))) (sym none) (refl, omega arith)
-        by (one ∷ more) on whole_now = absurd (both_ways false refl on.1)
-
-    -- two changes at most, which add no record
-    pub few_twice : AreFew 2 (changes_to (map record_of records) (records_for (in_use cut.stays)))
-    few_twice = subst (λ (l : List Extent). AreFew 2 (changes_to (map record_of records) (records_for l))) (sym (all_in_use cut.stays stays_used)) (few_changes (is_full fork.extents.extents) refl)
-
-    pub room_to_store : HasRoom (2 * edit_writes store.shape.depth) store → HasStoreRoom store id kind cut.stays
-    room_to_store room =
-        let changes = few_twice in
-        inr (record {
-          light = changes.0;
-          writes = omega (arith, room, mul-le-mul_right {m = length (changes_to (map record_of records) (records_for (in_use cut.stays)))} {n = 2} (edit_writes store.shape.depth) changes.1);
-        })
-
-    few_once : length records ≡ parts_for (length list - 8) 8 → (b : Bool) → is_full fork.extents.extents ≡ b → AreFew 1 (changes_to (map record_of records) (records_for cut.stays))
-    few_once filled true full =
+    few_once : (b : Bool) → is_full fork.extents.extents ≡ b → AreFew 1 (changes_to (map record_of records) (records_for cut.stays))
+    few_once true full =
         let front_is : in_use fork.extents.extents ≡ fork.extents.extents = full_all fork.extents.extents full in
         let whole_now : list ≡ fork.extents.extents ++ used_by records = whole ∙ ap (λ (l : List Extent). l ++ used_by records) front_is in
         few_kept list cut.stays stays_used kept_front.0 kept_front.1 most records 8 (length (blocks_of fork.extents.extents)) (pairs_eight id kind (pairs_of store))
@@ -191,7 +158,7 @@ module _ (keep : ℕ) (list : List Extent) (cut : Cut) (last : IsLastCut keep li
         (ap (drop 8) whole_now ∙ past_eight fork.extents.extents (used_by records) eight)
         (omega (arith, ap (λ (l : List Extent). length l) whole_now, length-append fork.extents.extents (used_by records), eight))
         filled
-    few_once filled false full =
+    few_once false full =
         by records (subst (λ b. GoOn (length (blocks_of fork.extents.extents)) b records) full (goes_on_in (overflow_in_store store) id kind fork other goes)) whole
       where
         in_few : (xs : List Extent) → length (in_use xs) ≤ length xs
@@ -208,14 +175,14 @@ module _ (keep : ℕ) (list : List Extent) (cut : Cut) (last : IsLastCut keep li
             subst (λ n. AreFew 1 (changes_to [] (records_from n 8 cut.stays))) (sym none) (refl, omega arith)
         by (one ∷ more) on whole_now = absurd (both_ways false refl on.1)
 
-    -- one change, where each record has an extent in use
-    pub few_one : length records ≡ parts_for (length list - 8) 8 → AreFew 1 (changes_to (map record_of records) (records_for (in_use cut.stays)))
-    few_one filled = subst (λ (l : List Extent). AreFew 1 (changes_to (map record_of records) (records_for l))) (sym (all_in_use cut.stays stays_used)) (few_once filled (is_full fork.extents.extents) refl)
+    -- one change at most, which adds no record
+    pub few_one : AreFew 1 (changes_to (map record_of records) (records_for (in_use cut.stays)))
+    few_one = subst (λ (l : List Extent). AreFew 1 (changes_to (map record_of records) (records_for l))) (sym (all_in_use cut.stays stays_used)) (few_once (is_full fork.extents.extents) refl)
 
     -- room for it
-    pub room_once : length records ≡ parts_for (length list - 8) 8 → HasRoom (1 * edit_writes store.shape.depth) store → HasStoreRoom store id kind cut.stays
-    room_once filled room =
-        let changes = few_one filled in
+    pub room_to_store : HasRoom (edit_writes store.shape.depth) store → HasStoreRoom store id kind cut.stays
+    room_to_store room =
+        let changes = few_one in
         inr (record {
           light = changes.0;
           writes = omega (arith, room, mul-le-mul_right {m = length (changes_to (map record_of records) (records_for (in_use cut.stays)))} {n = 1} (edit_writes store.shape.depth) changes.1);
@@ -252,20 +219,20 @@ module _ (v : Volume) (content : Content) (settled : IsSettled v content) (k : F
       subst (λ (o : List Overflow × ℕ). HasExtents o.0 file.fields.id o.1 list) {x = (overflow_in_volume (volume_of content), kind_of k)} {y = (overflow, kind)} (λ i. (sym same i, sym is i))
       (record { fork = fork_at (kind_of k) file; eight = eight; is = sym is_list; goes_on = goes_on_for v content settled k file has })
 
-  -- and there is room for those that a cut leaves, where there is for two changes
+  -- and there is room for those that a cut leaves, where there is for a change
   pub store_room : (keep : ℕ) (cut : Cut) → IsLastCut keep list cut → (store : Store) (kind : ℕ) → kind ≡ kind_of k → overflow_in_store store ≡ overflow_in_volume (volume_of content) → 16 ≤ file.fields.id
-      → HasRoom (2 * edit_writes store.shape.depth) store → HasStoreRoom store file.fields.id kind cut.stays
+      → HasRoom (edit_writes store.shape.depth) store → HasStoreRoom store file.fields.id kind cut.stays
   store_room keep cut last store kind is same user room =
       room_to_store keep list cut last store file.fields.id kind (λ own. absurd (omega (arith, own, user))) (fork_at (kind_of k) file) eight
       (is_list ∙ (λ i. extents_of (sym same i) file.fields.id (sym is i) (fork_at (kind_of k) file)))
       (subst (λ (o : List Overflow × ℕ). GoesOn o.0 (record { id = file.fields.id; kind = o.1; fork = fork_at (kind_of k) file })) {x = (overflow_in_volume (volume_of content), kind_of k)} {y = (overflow_in_store store, kind)} (λ i. (sym same i, sym is i)) (goes_on_for v content settled k file has))
       room
 
-  -- two changes at most make its overflow records those of what a cut leaves
+  -- one change at most makes its overflow records those of what a cut leaves
   pub store_few : (keep : ℕ) (cut : Cut) → IsLastCut keep list cut → (store : Store) (kind : ℕ) → kind ≡ kind_of k → overflow_in_store store ≡ overflow_in_volume (volume_of content) → 16 ≤ file.fields.id
-      → ChangesFew 2 store file.fields.id kind cut.stays
+      → ChangesFew 1 store file.fields.id kind cut.stays
   store_few keep cut last store kind is same user =
-      few_twice keep list cut last store file.fields.id kind (λ own. absurd (omega (arith, own, user))) (fork_at (kind_of k) file) eight
+      few_one keep list cut last store file.fields.id kind (λ own. absurd (omega (arith, own, user))) (fork_at (kind_of k) file) eight
       (is_list ∙ (λ i. extents_of (sym same i) file.fields.id (sym is i) (fork_at (kind_of k) file)))
       (subst (λ (o : List Overflow × ℕ). GoesOn o.0 (record { id = file.fields.id; kind = o.1; fork = fork_at (kind_of k) file })) {x = (overflow_in_volume (volume_of content), kind_of k)} {y = (overflow_in_store store, kind)} (λ i. (sym same i, sym is i)) (goes_on_for v content settled k file has))
 

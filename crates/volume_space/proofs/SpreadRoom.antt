@@ -1,13 +1,11 @@
 -- A run behind a fork changes one of its overflow records or adds one: the room that storing it needs.
 use Rattle.std.proofs.Common.{◌≡◌, ◌≢◌, ◌⊎◌, inl, inr, ◌≤◌, ℕ, zero, suc, ◌+◌, ◌-◌, ◌*◌, Bool, true, false, List, [], ◌∷◌, ◌++◌, length, map, take, drop, refl, sym, ◌∙◌, ap, subst, arith, ⊎_elim, length-append}
 use Rattle.std.specs.Prelude.{◌==◌, IsTrue, not, if◌then◌else◌}
-use Rattle.std.proofs.Math.Nat.{mul-le-mul_right}
 use Rattle.std.proofs.lemmas.Bool.{both_ways, cases_lt}
 use Rattle.std.proofs.lemmas.List.{drop-drop, drop-take, length-drop, take_all, take-append-le}
 use Rattle.hx_bytes.specs.declared.extents.Extent.{Extent}
-use Rattle.btree_node.specs.Store.{HasRoom, Store}
+use Rattle.btree_node.specs.Store.{Store}
 use Rattle.btree_node.specs.Tree.{pairs_of}
-use Rattle.btree_edit.specs.Editing.{edit_writes}
 use Rattle.btree_edit.specs.Edits.{EditRoom}
 use Rattle.btree_edit.proofs.EditLaws.{room_first}
 use Rattle.fork_map.specs.Blocks.{blocks_of}
@@ -26,7 +24,8 @@ use Rattle.overflow.proofs.Cutting.{AreUsed, eight_full, eight_used}
 use Rattle.overflow.proofs.Whole.{HaveEight, goes_on_in, pairs_eight, used_by, whole_is}
 use Rattle.volume_base.proofs.CutForks.{full_all as full_used}
 use Rattle.volume_base.proofs.CutLists.{extents_used}
-use Rattle.volume_space.proofs.FewChanges.{AreFew, a_part_more, at_same, counted, few, few_filled, in_use_few, one_part, past_eight, replaced, same_self}
+use Rattle.volume_space.proofs.FewChanges.{a_part_more, at_same, counted, few_filled, in_use_few, one_part, past_eight, replaced, same_self}
+use Rattle.volume_space.proofs.RecordCounts.{records_counted}
 use Rattle.volume_space.proofs.GrownForks.{join_used}
 use Rattle.volume_space.proofs.SpreadFile.{all_in_use}
 
@@ -190,19 +189,16 @@ module _ (store : Store) (id kind : ℕ) (other : id ≢ extents_id) (list : Lis
       few_inserted (suc zero) less = omega arith
       few_inserted (suc (suc n)) less = absurd (omega (arith, less))
 
-  -- a longer last one is two changes at most, of which none adds a record
-  light_edits : take (length list - 1) new ≡ take (length list - 1) list → length new ≡ length list → AreFew 2 (changes_to (map record_of records) (records_for new))
-  light_edits same long_is = by_front (λ (l : List OverflowRecord). AreFew 2 (changes_to l (records_for new)))
-      (λ full at place at_is place_is before behind_it least.
-      few list new now_used same (omega (arith, long_is)) (omega (arith, long_is)) records 8 (length (blocks_of front)) (pairs_eight id kind (pairs_of store)) (subst (λ b. GoOn (length (blocks_of front)) b records) full go) (sym place_is ∙ before) behind_it least)
-      (λ none short. let no_part : parts_for (length new - 8) 8 ≡ 0 = omega (arith, short, long_is) in subst (λ n. AreFew 2 (changes_to [] (records_from n 8 new))) (sym no_part) (refl, omega arith))
+  -- they are counted by the extents
+  filled : length records ≡ parts_for (length list - 8) 8
+  filled = records_counted id kind (pairs_of store) list other has
 
-  -- a longer last one is one change, where each record has an extent in use
-  filled_edits : take (length list - 1) new ≡ take (length list - 1) list → length new ≡ length list → length records ≡ parts_for (length list - 8) 8 → length (changes_to (map record_of records) (records_for new)) ≤ 1
-  filled_edits same long_is = by_front (λ (l : List OverflowRecord). length records ≡ parts_for (length list - 8) 8 → length (changes_to l (records_for new)) ≤ 1)
-      (λ full at place at_is place_is before behind_it least filled.
+  -- and so is a longer last one
+  longer_edit : take (length list - 1) new ≡ take (length list - 1) list → length new ≡ length list → length (changes_to (map record_of records) (records_for new)) ≤ 1
+  longer_edit same long_is = by_front (λ (l : List OverflowRecord). length (changes_to l (records_for new)) ≤ 1)
+      (λ full at place at_is place_is before behind_it least.
       (few_filled list new now_used same (omega (arith, long_is)) (omega (arith, long_is)) records 8 (length (blocks_of front)) (pairs_eight id kind (pairs_of store)) (subst (λ b. GoOn (length (blocks_of front)) b records) full go) (sym place_is ∙ before) behind_it least long_is filled).1)
-      (λ none short filled. let no_part : parts_for (length new - 8) 8 ≡ 0 = omega (arith, short, long_is) in subst (λ n. length (changes_to [] (records_from n 8 new)) ≤ 1) (sym no_part) (omega arith))
+      (λ none short. let no_part : parts_for (length new - 8) 8 ≡ 0 = omega (arith, short, long_is) in subst (λ n. length (changes_to [] (records_from n 8 new)) ≤ 1) (sym no_part) (omega arith))
 
   -- of the list itself, each of whose extents has blocks
   abbrev changes_on : List Extent → List Change
@@ -211,35 +207,11 @@ module _ (store : Store) (id kind : ℕ) (other : id ≢ extents_id) (list : Lis
   used_on : (P : List Change → Type 0) → P (changes_on new) → P (changes_for store id kind (join list (run ∷ [])))
   used_on P here = subst (λ (l : List Extent). P (changes_on l)) (sym (all_in_use new now_used)) here
 
-  -- a run behind the list is one edit, or two changes at most, of which none adds a record
-  run_changes : (edits_for store id kind (join list (run ∷ [])) ≤ 1) ⊎ AreFew 2 (changes_for store id kind (join list (run ∷ [])))
-  run_changes = ⊎_elim
-      (λ more. inl (used_on (λ cs. length cs ≤ 1) (one_edit more)))
-      (λ goes. inr (used_on (AreFew 2) (light_edits goes.0 goes.1)))
-      (joined_so list run)
+  -- a run behind the list is one edit
+  pub run_edit : edits_for store id kind (join list (run ∷ [])) ≤ 1
+  run_edit = used_on (λ cs. length cs ≤ 1) (⊎_elim (λ more. one_edit more) (λ goes. longer_edit goes.0 goes.1) (joined_so list run))
 
-  -- two edits at most
-  pub two_edits : edits_for store id kind (join list (run ∷ [])) ≤ 2
-  two_edits = ⊎_elim (λ one. omega (arith, one)) (λ few_changes. few_changes.1) run_changes
-
-  -- and one where each record has an extent in use
-  pub filled_edit : length records ≡ parts_for (length list - 8) 8 → edits_for store id kind (join list (run ∷ [])) ≤ 1
-  filled_edit filled = used_on (λ cs. length cs ≤ 1) (⊎_elim (λ more. one_edit more) (λ goes. filled_edits goes.0 goes.1 filled) (joined_so list run))
-
-  pub room_for_run : IsTrue store.tells → EditRoom 1 10 store → (length records ≡ parts_for (length list - 8) 8) ⊎ HasRoom (2 * edit_writes store.shape.depth) store → HasStoreRoom store id kind (join list (run ∷ []))
-  room_for_run tells one room = ⊎_elim
-      (λ filled. inl (by_one (filled_edit filled)))
-      (λ light. ⊎_elim
-      (λ less. inl (by_one less))
-      (λ changes. inr (record {
-        light = changes.0;
-        writes = omega (arith, light, mul-le-mul_right {m = edits_for store id kind (join list (run ∷ []))} {n = 2} (edit_writes store.shape.depth) changes.1);
-      }))
-      run_changes)
-      room
-    where
-      -- one change has room
-      by_one : edits_for store id kind (join list (run ∷ [])) ≤ 1 → EditRoom (edits_for store id kind (join list (run ∷ []))) 10 store
-      by_one less =
-          let sum : 1 ≡ edits_for store id kind (join list (run ∷ [])) + (1 - edits_for store id kind (join list (run ∷ []))) = omega (arith, less) in
-          room_first (edits_for store id kind (join list (run ∷ []))) (1 - edits_for store id kind (join list (run ∷ []))) 10 store (λ told. subst (λ n. EditRoom n 10 store) sum one) tells
+  pub room_for_run : IsTrue store.tells → EditRoom 1 10 store → HasStoreRoom store id kind (join list (run ∷ []))
+  room_for_run tells one =
+      let sum : 1 ≡ edits_for store id kind (join list (run ∷ [])) + (1 - edits_for store id kind (join list (run ∷ []))) = omega (arith, run_edit) in
+      inl (room_first (edits_for store id kind (join list (run ∷ []))) (1 - edits_for store id kind (join list (run ∷ []))) 10 store (λ told. subst (λ n. EditRoom n 10 store) sum one) tells)

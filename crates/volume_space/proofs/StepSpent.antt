@@ -1,6 +1,6 @@
 -- What a step of reclaiming puts.
-use Rattle.std.proofs.Common.{◌≡◌, ◌≤◌, ◌<◌, ℕ, zero, suc, ◌+◌, ◌-◌, ◌*◌, ◌/◌, min, Bool, true, false, List, [], inl, inr, refl, sym, ◌∙◌, ap, subst, arith}
-use Rattle.volume_space.specs.CuttingAhead.{PutsCut, PutsCutAhead, TakesCutLoad}
+use Rattle.std.proofs.Common.{◌≡◌, ◌≤◌, ◌<◌, ℕ, zero, suc, ◌+◌, ◌-◌, ◌*◌, ◌/◌, Bool, true, false, List, [], inl, inr, refl, sym, ◌∙◌, ap, subst, arith}
+use Rattle.volume_space.specs.CuttingAhead.{PutsCut, TakesCutLoad}
 use Rattle.volume_base.specs.Making.{catalog_cost}
 use Rattle.std.specs.Prelude.{Option, Some, None, IsTrue, not, nat_lt, if◌then◌else◌}
 use Rattle.std.specs.List.{range_with_len}
@@ -11,23 +11,22 @@ use Rattle.sector_disk.specs.Space.{Space}
 use Rattle.btree_edit.specs.Edits.{TakesAtMost, TreeTop, tops, top_after}
 use Rattle.btree_file.specs.State.{is_written, state_of}
 use Rattle.hfs_volume.specs.Content.{VolumeState, has_attributes, volume_of}
-use Rattle.hfs_volume.specs.Cost.{attributes_key, catalog_key, cost_of, growth, load_of, no_tree, plan_of, resource_refusal, tree_at, tree_load, node_sectors}
+use Rattle.hfs_volume.specs.Cost.{attributes_key, catalog_key, cost_of, growth, load_of, no_tree, plan_of, resource_refusal, tree_at, tree_load}
 use Rattle.hfs_volume.specs.Forks.{attributes_id, catalog_id}
 use Rattle.hfs_volume.specs.Reclaim.{CutOrphan, CutShrunk, DropAttribute, DropOrphan, Reclaim, next_reclaim, reclaim_cost, reclaim_cost_with}
 use Rattle.hfs_volume.specs.Weight.{Edits, cost_of_tree, cut_cost, cut_load, edits, extents_in_use, free_blocks, needs_for, room_with}
 use Rattle.hfs_volume.specs.declared.cost.Cost.TheVariants as cost
-use Rattle.hfs_volume.specs.declared.cost.Room.{Room}
 use Rattle.hfs_volume.specs.declared.cost.TreeCost.{TreeCost}
 use Rattle.volume_header.specs.declared.header.VolumeHeader.{VolumeHeader}
 use Rattle.tree_weights.specs.Weights.{EditsTakeTheirLoad, HasGrown, IsWrittenByGrowth}
-use Rattle.volume_runs.specs.Rest.{cut_puts, cuts_emptied, has_empty_record}
+use Rattle.volume_runs.specs.Rest.{cut_puts}
 use Rattle.volume_base.specs.Attributing.{attributes_cost}
 use Rattle.volume_base.specs.Removing.{bare_load, remove_load}
 use Rattle.volume_base.specs.Room.{capacity_of}
 use Rattle.volume_base.specs.Standing.{IsSettled}
 use Rattle.volume_base.specs.declared.volume.Volume.{Volume}
 use Rattle.volume_base.proofs.Loads.{load_is}
-use Rattle.volume_space.specs.Cutting.{IsNextCut, changes_in, trim_load}
+use Rattle.volume_space.specs.Cutting.{IsNextCut, trim_load}
 use Rattle.volume_space.specs.Orphans.{PutsNext, PutsStep, TakesNextLoad}
 use Rattle.volume_space.proofs.EditsTaken.{load_grown}
 use Rattle.volume_space.proofs.HeldUp.{cut_puts_is}
@@ -41,19 +40,15 @@ next_behind before between same capacity first one shrunk file two spare left th
 
 -- ---- a cut
 
-pub cut_spent : (emptied : Bool) (v : Volume) (content : Content) → IsSettled v content → (before after : ℕ) → before ≤ after + trim_load emptied v → (shrunk : Option ℕ) (id kind keep : ℕ) → IsNextCut shrunk content id kind keep
-    → emptied ≡ has_empty_record (volume_of content) id kind → PutsNext (capacity_of v) shrunk (volume_of content) before after
-cut_spent emptied v content settled before after less shrunk id kind keep next told = by next
+pub cut_spent : (v : Volume) (content : Content) → IsSettled v content → (before after : ℕ) → before ≤ after + trim_load v → (shrunk : Option ℕ) (id kind keep : ℕ) → IsNextCut shrunk content id kind keep → PutsNext (capacity_of v) shrunk (volume_of content) before after
+cut_spent v content settled before after less shrunk id kind keep next = by next
   where
-    room : Room
-    room = room_with (capacity_of v) (free_blocks (volume_of content)) (volume_of content)
-
-    enough : before ≤ after + cut_puts (changes_in emptied) room
-    enough = omega (arith, less, trim_is emptied v content settled, cut_puts_is (changes_in emptied) v content settled)
+    enough : before ≤ after + cut_puts (room_with (capacity_of v) (free_blocks (volume_of content)) (volume_of content))
+    enough = omega (arith, less, trim_is v content settled, cut_puts_is v content settled)
 
     by : IsNextCut shrunk content id kind keep → PutsNext (capacity_of v) shrunk (volume_of content) before after
-    by (inl next) = inr (CutShrunk id, next.0, subst (λ b. before ≤ after + cut_puts (changes_in b) room) (told ∙ ap (has_empty_record (volume_of content) id) next.1) enough)
-    by (inr next) = inr (CutOrphan id kind, next.0, subst (λ b. before ≤ after + cut_puts (changes_in b) room) told enough)
+    by (inl step) = inr (CutShrunk id, step.0, enough)
+    by (inr step) = inr (CutOrphan id kind, step.0, enough)
 
 -- ---- drops
 
@@ -148,56 +143,41 @@ bare_taken law many v w a b tells large takes =
 -- ---- by its load
 
 -- what a cut puts doesn't hang on the blocks that are free
-puts_any : (capacity : ℕ) (volume : VolumeState) (one other : List Bool) → cut_puts 1 (room_with capacity one volume) ≡ cut_puts 1 (room_with capacity other volume)
+puts_any : (capacity : ℕ) (volume : VolumeState) (one other : List Bool) → cut_puts (room_with capacity one volume) ≡ cut_puts (room_with capacity other volume)
 unfolding room_with
 puts_any capacity volume one other = refl
 
--- a cut of a fork whose overflow records have extents in use puts no more than its load
-cut_within : (capacity : ℕ) (volume : VolumeState) (free : List Bool) (n : ℕ) (grow : List ℕ) → cut_cost (room_with capacity free volume) ≡ cost.Load n grow → cut_puts 1 (room_with capacity (free_blocks volume) volume) ≤ n
-cut_within capacity volume free n grow is =
-    let tree : TreeCost = tree_at (room_with capacity free volume) 0 in
-    let nodes : min (1 * (4 * (tree.depth + 1) + 4)) tree.nodes ≡ min (4 * (tree.depth + 1) + 4) tree.nodes = omega arith in
-    let own : cut_puts 1 (room_with capacity free volume) ≤ n = omega (arith, load_is _ (cut_load (room_with capacity free volume)) n _ grow is, ap (λ k. node_sectors tree * k) nodes) in
-    omega (arith, own, puts_any capacity volume free (free_blocks volume))
+-- a cut puts no more than its load
+cut_within : (capacity : ℕ) (volume : VolumeState) (free : List Bool) (n : ℕ) (grow : List ℕ) → cut_cost (room_with capacity free volume) ≡ cost.Load n grow → cut_puts (room_with capacity (free_blocks volume) volume) ≤ n
+cut_within capacity volume free n grow is = omega (arith, load_is _ (cut_load (room_with capacity free volume)) n _ grow is, puts_any capacity volume free (free_blocks volume))
 
-step_within : (capacity : ℕ) (volume : VolumeState) (step : Reclaim) (before after load : ℕ) (grow : List ℕ) → PutsStep capacity volume step before after → cuts_emptied volume step ≡ false → reclaim_cost capacity volume step ≡ cost.Load load grow → before ≤ after + load
+step_within : (capacity : ℕ) (volume : VolumeState) (step : Reclaim) (before after load : ℕ) (grow : List ℕ) → PutsStep capacity volume step before after → reclaim_cost capacity volume step ≡ cost.Load load grow → before ≤ after + load
 unfolding reclaim_cost_with
-step_within capacity volume (CutShrunk id) before after load grow puts filled is =
-    omega (arith, subst (λ b. before ≤ after + cut_puts (changes_in b) (room_with capacity (free_blocks volume) volume)) filled puts, cut_within capacity volume (free_blocks volume) load grow is)
-step_within capacity volume (CutOrphan id kind) before after load grow puts filled is =
-    omega (arith, subst (λ b. before ≤ after + cut_puts (changes_in b) (room_with capacity (free_blocks volume) volume)) filled puts, cut_within capacity volume (free_blocks volume) load grow is)
-step_within capacity volume (DropAttribute id name) before after load grow puts filled is = puts load grow is
-step_within capacity volume (DropOrphan id) before after load grow puts filled is = puts load grow is
+step_within capacity volume (CutShrunk id) before after load grow puts is = omega (arith, puts, cut_within capacity volume (free_blocks volume) load grow is)
+step_within capacity volume (CutOrphan id kind) before after load grow puts is = omega (arith, puts, cut_within capacity volume (free_blocks volume) load grow is)
+step_within capacity volume (DropAttribute id name) before after load grow puts is = puts load grow is
+step_within capacity volume (DropOrphan id) before after load grow puts is = puts load grow is
 
 one_step : (step other : Reclaim) (o : Option Reclaim) → o ≡ Some step → o ≡ Some other → step ≡ other
 one_step step other o first second = let same : Some step ≡ Some other = sym first ∙ second in cc same
 
 pub next_within : (capacity : ℕ) (shrunk : Option ℕ) (volume : VolumeState) (before after : ℕ) → PutsNext capacity shrunk volume before after → TakesNextLoad capacity shrunk volume before after
-next_within capacity shrunk volume before after (inl none) step load grow next filled is = omega (arith, none)
-next_within capacity shrunk volume before after (inr (found, at, puts)) step load grow next filled is =
-    step_within capacity volume step before after load grow (subst (λ s. PutsStep capacity volume s before after) (one_step found step (next_reclaim volume shrunk) at next) puts) filled is
+next_within capacity shrunk volume before after (inl none) step load grow next is = omega (arith, none)
+next_within capacity shrunk volume before after (inr (found, at, puts)) step load grow next is =
+    step_within capacity volume step before after load grow (subst (λ s. PutsStep capacity volume s before after) (one_step found step (next_reclaim volume shrunk) at next) puts) is
 
 -- ---- a cut ahead of data
 
 -- the next step is the cut
-pub past_spent : (capacity id : ℕ) (volume : VolumeState) (shrunk : Option ℕ) → shrunk ≡ Some id → next_reclaim volume (Some id) ≡ Some (CutShrunk id) → (before after : ℕ) → PutsNext capacity shrunk volume before after → PutsCut capacity id volume before after
+pub past_spent : (capacity id : ℕ) (volume : VolumeState) (shrunk : Option ℕ) → shrunk ≡ Some id → next_reclaim volume (Some id) ≡ Some (CutShrunk id) → (before after : ℕ) → PutsNext capacity shrunk volume before after → PutsCut capacity volume before after
 past_spent capacity id volume shrunk is next before after (inl none) = omega (arith, none)
 past_spent capacity id volume shrunk is next before after (inr (step, at, puts)) =
     subst (λ s. PutsStep capacity volume s before after) (one_step step (CutShrunk id) (next_reclaim volume shrunk) at (ap (next_reclaim volume) is ∙ next)) puts
 
-pub cut_behind : (id : ℕ) (before between : Content) → between ≡ before → (capacity first : ℕ) → first ≡ capacity → (spare left : ℕ) → left ≡ spare → (after : ℕ) → PutsCut first id (volume_of between) left after → PutsCut capacity id (volume_of before) spare after
-cut_behind id before between same capacity first one spare left three after was =
-    subst (λ (k : Content × ℕ × ℕ). PutsCut k.1 id (volume_of k.0) k.2 after) {x = (between, first, left)} {y = (before, capacity, spare)} (λ i. (same i, one i, three i)) was
-
-pub ahead_spent : (path : List (List ℕ)) (before between : Content) → between ≡ before → (capacity first : ℕ) → first ≡ capacity → (spare left : ℕ) → left ≡ spare → (after : ℕ) → PutsCutAhead first path between left after → PutsCutAhead capacity path before spare after
-ahead_spent path before between same capacity first one spare left three after was =
-    subst (λ (k : Content × ℕ × ℕ). PutsCutAhead k.1 path k.0 k.2 after) {x = (between, first, left)} {y = (before, capacity, spare)} (λ i. (same i, one i, three i)) was
+pub cut_behind : (before between : Content) → between ≡ before → (capacity first : ℕ) → first ≡ capacity → (spare left : ℕ) → left ≡ spare → (after : ℕ) → PutsCut first (volume_of between) left after → PutsCut capacity (volume_of before) spare after
+cut_behind before between same capacity first one spare left three after was =
+    subst (λ (k : Content × ℕ × ℕ). PutsCut k.1 (volume_of k.0) k.2 after) {x = (between, first, left)} {y = (before, capacity, spare)} (λ i. (same i, one i, three i)) was
 
 -- no more than its load
-pub ahead_within : (capacity : ℕ) (path : List (List ℕ)) (content : Content) (before after : ℕ) → PutsCutAhead capacity path content before after → TakesCutLoad capacity path content before after
-ahead_within capacity path content before after puts node is filled free load grow costs =
-    omega (
-      arith,
-      subst (λ b. before ≤ after + cut_puts (changes_in b) (room_with capacity (free_blocks (volume_of content)) (volume_of content))) filled (puts node is),
-      cut_within capacity (volume_of content) free load grow costs,
-    )
+pub ahead_within : (capacity : ℕ) (volume : VolumeState) (before after : ℕ) → PutsCut capacity volume before after → TakesCutLoad capacity volume before after
+ahead_within capacity volume before after puts free load grow costs = omega (arith, puts, cut_within capacity volume free load grow costs)

@@ -8,8 +8,8 @@ use Rattle.flag_rows.specs.Bits.{sectors_for}
 use Rattle.alloc_bitmap.specs.Map.{none}
 use Rattle.hx_bytes.specs.declared.extents.ForkRecord.{ForkRecord}
 use Rattle.btree_file.specs.declared.tree.TreeFile.{TreeFile}
-use Rattle.volume_space.specs.Growing.{CountsHaveRoom, GrowthFits, HasFilledRecords, IsOwnOrFree, growth_room}
-use Rattle.volume_space.specs.SpreadGrowth.{SpreadFits, SpreadGrowthFits, growth_room_with}
+use Rattle.volume_space.specs.Growing.{CountsHaveRoom, GrowthFits, IsOwnOrFree, growth_room}
+use Rattle.volume_space.specs.SpreadGrowth.{SpreadFits, SpreadGrowthFits, growth_room_spread}
 use Rattle.volume_space.specs.declared.ahead.WhichTree.{WhichTree}
 use Rattle.volume_space.specs.declared.ahead.WhichTree.TheVariants as which
 use Rattle.volume_base.specs.Keeping.{Keeps}
@@ -144,8 +144,8 @@ module _ (v w : Volume) (keeps : Keeps v w) where
 
       by : (t : WhichTree) → SpreadGrowthFits t more v space → SpreadGrowthFits t more as_marked space
       by which.Extents it = (it.0, record { some = it.1.some; run = it.1.run; counts = counts_marked more _ _ w.map.changed w.map.kept_used w.map.kept_held w.kept v it.1.counts; room = it.1.room })
-      by which.Catalog it = (it.0, marked_fits v.catalog.file v.header.catalog_fork it.1)
-      by which.Attributes it = (it.0, (it.1.0, marked_fits v.attributes.file v.header.attributes_fork it.1.1))
+      by which.Catalog it = marked_fits v.catalog.file v.header.catalog_fork it
+      by which.Attributes it = (it.0, marked_fits v.attributes.file v.header.attributes_fork it.1)
 
   pub load_kept : (tree : WhichTree) (more : ℕ) → growth_room tree more w ≡ growth_room tree more v
   load_kept tree more = ap (λ (u : Volume). growth_room tree more u) (sym is_marked) ∙ by tree
@@ -155,21 +155,13 @@ module _ (v w : Volume) (keeps : Keeps v w) where
       by which.Catalog = refl
       by which.Attributes = refl
 
-  pub load_kept_with : (edits : ℕ) (tree : WhichTree) (more : ℕ) → growth_room_with edits tree more w ≡ growth_room_with edits tree more v
-  load_kept_with edits tree more = ap (λ (u : Volume). growth_room_with edits tree more u) (sym is_marked) ∙ by tree
+  pub load_kept_spread : (tree : WhichTree) (more : ℕ) → growth_room_spread tree more w ≡ growth_room_spread tree more v
+  load_kept_spread tree more = ap (λ (u : Volume). growth_room_spread tree more u) (sym is_marked) ∙ by tree
     where
-      by : (t : WhichTree) → growth_room_with edits t more as_marked ≡ growth_room_with edits t more v
+      by : (t : WhichTree) → growth_room_spread t more as_marked ≡ growth_room_spread t more v
       by which.Extents = refl
       by which.Catalog = refl
       by which.Attributes = refl
-
-  pub records_kept : (tree : WhichTree) (content : Content) → HasFilledRecords tree v content → HasFilledRecords tree w content
-  records_kept tree content was = subst (λ (u : Volume). HasFilledRecords tree u content) is_marked (by tree was)
-    where
-      by : (t : WhichTree) → HasFilledRecords t v content → HasFilledRecords t as_marked content
-      by which.Extents it = it
-      by which.Catalog it = it
-      by which.Attributes it = it
 
 -- what touches these sectors touches those, where these are among them
 pub touches_those : (committed : Content) (these those : ℕ → Type 0) (a b : Space) → (IsTrue a.tells → (s : ℕ) → these s → those s) → Touches committed these a b → Touches committed those a b

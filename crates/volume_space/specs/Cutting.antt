@@ -1,5 +1,5 @@
 -- Blocks at the end of a file's fork, which a step of housekeeping gives back.
-use Rattle.std.specs.Prelude.{◌≡◌, ◌⊎◌, ◌<◌, ◌≤◌, ℕ, ◌+◌, ◌-◌, ◌*◌, ◌/◌, ◌^◌, ◌==◌, min, nat_lt, not, Bool, true, false, List, [], ◌∷◌, length, take, drop, Option, None, Some, if◌then◌else◌}
+use Rattle.std.specs.Prelude.{◌≡◌, ◌⊎◌, ◌<◌, ◌≤◌, ℕ, ◌+◌, ◌-◌, ◌*◌, ◌/◌, ◌^◌, ◌==◌, min, nat_lt, not, true, false, List, [], ◌∷◌, length, take, drop, Option, None, Some, if◌then◌else◌}
 use Rattle.std.specs.List.{Contains}
 use Rattle.sector_disk.specs.Lists.{Content}
 use Rattle.sector_disk.specs.Space.{AgreesOutside}
@@ -63,17 +63,13 @@ given_back run volume = record volume { map = without_run run volume.map; header
 abbrev pub given_load : Volume → ℕ
 given_load volume = min (sectors_for (length volume.map.used)) 10
 
--- how many changes of the extents overflow file a cut makes at most: two where the fork has an overflow record without an extent in use
-abbrev pub changes_in : Bool → ℕ
-changes_in emptied = if emptied then 2 else 1
-
--- the sectors of the extents overflow file that these changes of its records put at most
-abbrev pub spread_load : Bool → Volume → ℕ
-spread_load emptied volume = volume.extents.file.shape.node_size / 512 * min (changes_in emptied * edit_writes volume.extents.file.shape.depth) volume.extents.file.shape.total
+-- the sectors of the extents overflow file that a change of one of its records puts at most
+abbrev pub spread_load : Volume → ℕ
+spread_load volume = volume.extents.file.shape.node_size / 512 * min (edit_writes volume.extents.file.shape.depth) volume.extents.file.shape.total
 
 -- the sectors that a cut puts at most: those of the bitmap, the header's, those of the extents overflow file, and those of a node of the catalog
-abbrev pub trim_load : Bool → Volume → ℕ
-trim_load emptied volume = given_load volume + 1 + spread_load emptied volume + catalog_node volume
+abbrev pub trim_load : Volume → ℕ
+trim_load volume = given_load volume + 1 + spread_load volume + catalog_node volume
 
 -- a file's fork of this kind has these extents
 abbrev pub IsForkOf : List Extent → ℕ → FileRecord → Content → Type 0

@@ -6,13 +6,11 @@ use Rattle.cat_records.specs.declared.record.CatRecord.TheVariants.{Folder, File
 use Rattle.hfs_model.specs.Step.{to_file}
 use Rattle.hfs_model.specs.declared.plain.PlainNode.{PlainNode}
 use Rattle.hfs_volume.specs.Content.{VolumeState, volume_of}
-use Rattle.hfs_volume.specs.Forks.{data_kind}
 use Rattle.hfs_volume.specs.Reclaim.{CutShrunk, next_reclaim}
 use Rattle.hfs_volume.specs.TreeOf.{tree_of}
 use Rattle.hfs_volume.specs.Weight.{cut_cost, free_blocks, has_surplus, room_with}
 use Rattle.hfs_volume.specs.declared.cost.Cost.TheVariants as cost
-use Rattle.volume_runs.specs.Rest.{cut_puts, has_empty_record, is_tight}
-use Rattle.volume_space.specs.Cutting.{changes_in}
+use Rattle.volume_runs.specs.Rest.{cut_puts}
 use Rattle.volume_space.specs.Orphans.{HasMade}
 use Rattle.volume_space.specs.declared.cutting_ahead.CutAhead.{CutAhead}
 use Rattle.volume_space.specs.declared.cutting_ahead.CutAhead.TheVariants as ahead
@@ -52,31 +50,15 @@ abbrev pub CutsAhead : CutAhead → ℕ → List (List ℕ) → ℕ → Content 
 CutsAhead came capacity path end before after =
     (node : PlainNode) × (to_file (tree_of before) path ≡ Ok node) × CutsAs came capacity node.id (cuts_first (volume_of before) node.id (length node.bytes) end) before after
 
--- There is too little room to cut a file's data fork: fewer sectors may be put than the cut puts at most, or a transaction holds fewer than the two
--- changes of the extents overflow file put that it makes.
-abbrev pub LacksCutRoom : ℕ → ℕ → ℕ → VolumeState → Type 0
-LacksCutRoom capacity spare id volume =
-    (spare < cut_puts (changes_in (has_empty_record volume id data_kind)) (room_with capacity (free_blocks volume) volume)) ⊎ IsTrue (is_tight capacity volume (CutShrunk id))
+-- a commit comes first only where fewer sectors may be put than a cut puts at most
+abbrev pub IsShortCut : CutAhead → ℕ → ℕ → VolumeState → Type 0
+IsShortCut ahead.CommitFirst capacity spare volume = spare < cut_puts (room_with capacity (free_blocks volume) volume)
+IsShortCut _ capacity spare volume = Unit {0}
 
--- a commit comes first only where there is too little room for the cut
-abbrev pub IsShortCut : CutAhead → ℕ → ℕ → ℕ → VolumeState → Type 0
-IsShortCut ahead.CommitFirst capacity spare id volume = LacksCutRoom capacity spare id volume
-IsShortCut _ capacity spare id volume = Unit {0}
+-- of the sectors that could be put, no more were put than a cut puts at most
+abbrev pub PutsCut : ℕ → VolumeState → ℕ → ℕ → Type 0
+PutsCut capacity volume before after = before ≤ after + cut_puts (room_with capacity (free_blocks volume) volume)
 
--- the same of the file that a path stands for
-abbrev pub IsShortAhead : CutAhead → ℕ → ℕ → List (List ℕ) → Content → Type 0
-IsShortAhead came capacity spare path content = (node : PlainNode) → to_file (tree_of content) path ≡ Ok node → IsShortCut came capacity spare node.id (volume_of content)
-
--- of the sectors that could be put, no more were put than a cut of this file's data fork puts at most
-abbrev pub PutsCut : ℕ → ℕ → VolumeState → ℕ → ℕ → Type 0
-PutsCut capacity id volume before after = before ≤ after + cut_puts (changes_in (has_empty_record volume id data_kind)) (room_with capacity (free_blocks volume) volume)
-
--- the same of the file that a path stands for
-abbrev pub PutsCutAhead : ℕ → List (List ℕ) → Content → ℕ → ℕ → Type 0
-PutsCutAhead capacity path content before after = (node : PlainNode) → to_file (tree_of content) path ≡ Ok node → PutsCut capacity node.id (volume_of content) before after
-
--- Where the cost of a cut is a load, and each overflow record of the file's data fork has an extent in use, no more was put than that load.
-abbrev pub TakesCutLoad : ℕ → List (List ℕ) → Content → ℕ → ℕ → Type 0
-TakesCutLoad capacity path content before after =
-    (node : PlainNode) → to_file (tree_of content) path ≡ Ok node → has_empty_record (volume_of content) node.id data_kind ≡ false
-    → (free : List Bool) (load : ℕ) (grow : List ℕ) → cut_cost (room_with capacity free (volume_of content)) ≡ cost.Load load grow → before ≤ after + load
+-- where the cost of a cut is a load, no more was put than that load
+abbrev pub TakesCutLoad : ℕ → VolumeState → ℕ → ℕ → Type 0
+TakesCutLoad capacity volume before after = (free : List Bool) (load : ℕ) (grow : List ℕ) → cut_cost (room_with capacity free volume) ≡ cost.Load load grow → before ≤ after + load

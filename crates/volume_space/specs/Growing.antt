@@ -15,9 +15,7 @@ use Rattle.btree_file.specs.Map.{bits_of}
 use Rattle.btree_file.specs.declared.tree.TreeFile.{TreeFile}
 use Rattle.fork_map.specs.Cut.{join}
 use Rattle.hfs_volume.specs.Content.{VolumeState, has_attributes, volume_of}
-use Rattle.volume_base.specs.Lists.{lists_of}
-use Rattle.volume_space.specs.Recording.{AreFilled}
-use Rattle.hfs_volume.specs.Forks.{attributes_id, catalog_id, data_kind, per_block_of}
+use Rattle.hfs_volume.specs.Forks.{data_kind, per_block_of}
 use Rattle.hfs_volume.specs.Cost.{cost_of}
 use Rattle.hfs_volume.specs.Reclaim.{GrowsTrees, KeepsTree, SameFiles, blocks_at, first_growth}
 use Rattle.hfs_volume.specs.Weight.{room_with}
@@ -253,14 +251,8 @@ IsShort which.Extents volume = Unit {0}
 IsShort which.Catalog volume = length volume.catalog.file.fork < 8
 IsShort which.Attributes volume = length volume.attributes.file.fork < 8
 
--- Each overflow record of a tree's fork has an extent in use; the extents overflow file has none.
-abbrev pub HasFilledRecords : WhichTree → Volume → Content → Type 0
-HasFilledRecords which.Extents volume content = Unit {0}
-HasFilledRecords which.Catalog volume content = AreFilled (lists_of volume content) catalog_id (length volume.catalog.file.fork)
-HasFilledRecords which.Attributes volume content = AreFilled (lists_of volume content) attributes_id (length volume.attributes.file.fork)
-
 -- What needs this, of the blocks that may be taken, costs a load that may be put, and wants so many nodes more of this tree first. Its fork has fewer
--- than eight extents; or each overflow record of it has an extent in use, and the load is weighed by the volume's own journal.
+-- than eight extents, or the load is weighed by the volume's own journal.
 pub record WantsFirst (tree : WhichTree) (more : ℕ) (volume : Volume) (space : Space) : Type 0 where
   pub needs : Needs
   pub capacity : ℕ
@@ -271,7 +263,7 @@ pub record WantsFirst (tree : WhichTree) (more : ℕ) (volume : Volume) (space :
   pub some : 0 < more
   pub first : first_growth grow ≡ alone tree more
   pub there : IsThere tree volume.header
-  pub short : IsShort tree volume ⊎ (HasFilledRecords tree volume space.content × (capacity ≡ volume.capacity))
+  pub short : IsShort tree volume ⊎ (capacity ≡ volume.capacity)
 
 -- One tree has so many nodes more: the content is sound and the tree that it stands for is as it was, and so are the blocks of every fork
 -- but a tree's, the journal's place, and of the header all but the number of free blocks and the trees' forks.

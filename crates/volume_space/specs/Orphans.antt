@@ -16,9 +16,9 @@ use Rattle.hfs_volume.specs.TreeOf.{tree_of}
 use Rattle.hfs_volume.specs.declared.cost.Cost.{Cost}
 use Rattle.hfs_volume.specs.declared.cost.Cost.TheVariants as cost
 use Rattle.hfs_volume.specs.Weight.{free_blocks, room_with}
-use Rattle.volume_runs.specs.Rest.{IsAtRest, cut_puts, cuts_emptied}
+use Rattle.volume_runs.specs.Rest.{IsAtRest, cut_puts}
 use Rattle.volume_base.specs.Changing.{ChangesCatalog}
-use Rattle.volume_space.specs.Cutting.{CutsFile, changes_in}
+use Rattle.volume_space.specs.Cutting.{CutsFile}
 use Rattle.volume_base.specs.Fitting.{is_met}
 use Rattle.volume_base.specs.Lists.{lists_of}
 use Rattle.volume_base.specs.declared.entries.Entry.{Entry}
@@ -152,8 +152,8 @@ HasMade capacity shrunk before after = HasDropped capacity shrunk before after �
 -- So many sectors may be put behind a step, of those that could be before it: a cut puts no more than a cut puts at most, and a drop, where its cost is a
 -- load, no more than that load.
 abbrev pub PutsStep : ℕ → VolumeState → Reclaim → ℕ → ℕ → Type 0
-PutsStep capacity volume (CutShrunk id) before after = before ≤ after + cut_puts (changes_in (cuts_emptied volume (CutShrunk id))) (room_with capacity (free_blocks volume) volume)
-PutsStep capacity volume (CutOrphan id kind) before after = before ≤ after + cut_puts (changes_in (cuts_emptied volume (CutOrphan id kind))) (room_with capacity (free_blocks volume) volume)
+PutsStep capacity volume (CutShrunk id) before after = before ≤ after + cut_puts (room_with capacity (free_blocks volume) volume)
+PutsStep capacity volume (CutOrphan id kind) before after = before ≤ after + cut_puts (room_with capacity (free_blocks volume) volume)
 PutsStep capacity volume (DropAttribute id name) before after = (load : ℕ) (grow : List ℕ) → reclaim_cost capacity volume (DropAttribute id name) ≡ cost.Load load grow → before ≤ after + load
 PutsStep capacity volume (DropOrphan id) before after = (load : ℕ) (grow : List ℕ) → reclaim_cost capacity volume (DropOrphan id) ≡ cost.Load load grow → before ≤ after + load
 
@@ -161,15 +161,15 @@ PutsStep capacity volume (DropOrphan id) before after = (load : ℕ) (grow : Lis
 abbrev pub PutsNext : ℕ → Option ℕ → VolumeState → ℕ → ℕ → Type 0
 PutsNext capacity shrunk volume before after = (before ≤ after) ⊎ ((step : Reclaim) × (next_reclaim volume shrunk ≡ Some step) × PutsStep capacity volume step before after)
 
--- Where the cost of the next step is a load, and it cuts no fork with an overflow record without an extent in use, no more was put than that load.
+-- Where the cost of the next step is a load, no more was put than that load.
 abbrev pub TakesNextLoad : ℕ → Option ℕ → VolumeState → ℕ → ℕ → Type 0
 TakesNextLoad capacity shrunk volume before after =
-    (step : Reclaim) (load : ℕ) (grow : List ℕ) → next_reclaim volume shrunk ≡ Some step → cuts_emptied volume step ≡ false → reclaim_cost capacity volume step ≡ cost.Load load grow → before ≤ after + load
+    (step : Reclaim) (load : ℕ) (grow : List ℕ) → next_reclaim volume shrunk ≡ Some step → reclaim_cost capacity volume step ≡ cost.Load load grow → before ≤ after + load
 
 -- where these blocks may be taken and so many sectors be put, there is too little room for a step: a cut may put more, and a drop isn't met by what it costs
 abbrev pub IsShort : ℕ → List Bool → ℕ → VolumeState → Reclaim → Type 0
-IsShort capacity free spare volume (CutShrunk id) = spare < cut_puts (changes_in (cuts_emptied volume (CutShrunk id))) (room_with capacity (free_blocks volume) volume)
-IsShort capacity free spare volume (CutOrphan id kind) = spare < cut_puts (changes_in (cuts_emptied volume (CutOrphan id kind))) (room_with capacity (free_blocks volume) volume)
+IsShort capacity free spare volume (CutShrunk id) = spare < cut_puts (room_with capacity (free_blocks volume) volume)
+IsShort capacity free spare volume (CutOrphan id kind) = spare < cut_puts (room_with capacity (free_blocks volume) volume)
 IsShort capacity free spare volume (DropAttribute id name) = is_met (reclaim_cost_with capacity free volume (DropAttribute id name)) spare ≡ false
 IsShort capacity free spare volume (DropOrphan id) = is_met (reclaim_cost_with capacity free volume (DropOrphan id)) spare ≡ false
 

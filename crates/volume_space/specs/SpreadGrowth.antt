@@ -1,5 +1,5 @@
 -- The catalog or the attributes file gets more nodes, where its fork has eight extents or more: those behind the eight stand in overflow records.
-use Rattle.std.specs.Prelude.{◌≡◌, ◌≢◌, ◌⊎◌, ◌<◌, ◌≤◌, ℕ, ◌+◌, ◌-◌, ◌*◌, ◌/◌, ◌^◌, min, true, List, [], ◌∷◌, IsTrue, length}
+use Rattle.std.specs.Prelude.{◌≡◌, ◌≢◌, ◌<◌, ◌≤◌, ℕ, ◌+◌, ◌-◌, ◌*◌, ◌/◌, ◌^◌, true, List, [], ◌∷◌, IsTrue, length}
 use Rattle.std.specs.List.{Contains}
 use Rattle.sector_disk.specs.Space.{Space}
 use Rattle.alloc_bitmap.specs.Apart.{AreApart}
@@ -8,7 +8,6 @@ use Rattle.flag_rows.specs.Bits.{count_set, sectors_for}
 use Rattle.flag_rows.specs.Runs.{longest_of, runs_of}
 use Rattle.hx_bytes.specs.declared.extents.Extent.{Extent}
 use Rattle.hx_bytes.specs.declared.extents.ForkRecord.{ForkRecord}
-use Rattle.btree_edit.specs.Editing.{edit_writes}
 use Rattle.btree_file.specs.declared.tree.TreeFile.{TreeFile}
 use Rattle.fork_map.specs.Cut.{join}
 use Rattle.hfs_volume.specs.Cost.{cost_of}
@@ -18,7 +17,6 @@ use Rattle.volume_base.specs.Lists.{lists_of}
 use Rattle.volume_base.specs.Room.{room_on}
 use Rattle.volume_base.specs.declared.room.FreeBlocks.TheVariants as blocks
 use Rattle.volume_space.specs.Growing.{GrowthFits, HasFreeRun, TakesRun, blocks_filled, growth_load, growth_room}
-use Rattle.volume_space.specs.Recording.{AreFilled}
 use Rattle.volume_space.specs.declared.ahead.WhichTree.{WhichTree}
 use Rattle.volume_space.specs.declared.ahead.WhichTree.TheVariants as which
 use Rattle.volume_space.specs.Spreading.{edits_load, is_met_extents, needs_extents}
@@ -56,11 +54,9 @@ pub record GoesOnInRun (old new : List Extent) : Type 0 where
   pub some : 0 < run.count
   pub is : new ≡ join old (run ∷ [])
 
--- The extents overflow file has room for the records of a fork that goes on in a run, where so many sectors may be put: for one edit, and for two
--- changes that add no record, or each record of it has an extent in use.
-pub record HasRoomForRun (filled : Type 0) (volume : Volume) (spare : ℕ) : Type 0 where
-  pub one : is_met_extents (cost_of (needs_extents 1) (room_on blocks.Takable volume)) spare ≡ true
-  pub light : filled ⊎ (min (2 * edit_writes volume.extents.file.shape.depth) volume.extents.file.shape.total ≤ spare / (volume.extents.file.shape.node_size / 512))
+-- The extents overflow file has room for the records of a fork that goes on in a run, where so many sectors may be put: for one edit.
+abbrev pub HasRoomForRun : Volume → ℕ → Type 0
+HasRoomForRun volume spare = is_met_extents (cost_of (needs_extents 1) (room_on blocks.Takable volume)) spare ≡ true
 
 -- The numbers that count a file's nodes, blocks and bytes have room for so many nodes more, which fill blocks; its nodes have a size that nodes have.
 pub record NumbersHaveRoom (more : ℕ) (file : TreeFile) (fork : ForkRecord) (volume : Volume) : Type 0 where
@@ -88,8 +84,8 @@ pub record CanGrowSpread (more : ℕ) (file : TreeFile) (fork : ForkRecord) (vol
   pub room : growth_load volume file more ≤ space.spare
 
 -- Behind the growth of a file by so many nodes there is room for its overflow records.
-abbrev pub HasRoomBehind : Type 0 → ℕ → TreeFile → Volume → Space → Type 0
-HasRoomBehind filled more file volume space = HasRoomForRun filled volume (space.spare - growth_load volume file more)
+abbrev pub HasRoomBehind : ℕ → TreeFile → Volume → Space → Type 0
+HasRoomBehind more file volume space = HasRoomForRun volume (space.spare - growth_load volume file more)
 
 -- A file with this fork, of any number of extents, has room for so many nodes more: they fill blocks, so many blocks in a row are free and not held, the
 -- numbers that count its nodes, blocks and bytes have room, as many sectors as its growth puts may be put, and behind them an edit of the extents
@@ -99,14 +95,14 @@ pub record SpreadFits (more : ℕ) (file : TreeFile) (fork : ForkRecord) (volume
   pub run : blocks_filled file more ≤ longest_of (runs_of (free_of volume.map))
   pub counts : NumbersHaveRoom more file fork volume
   pub room : growth_load volume file more ≤ space.spare
-  pub edit : is_met_extents (cost_of (needs_extents 1) (room_on blocks.Takable volume)) (space.spare - growth_load volume file more) ≡ true
+  pub edit : HasRoomBehind more file volume space
 
--- The growth of a tree by so many nodes fits, whose fork has any number of extents: there is such a tree, each overflow record of its fork has an extent
--- in use, and its file has room for them. The extents overflow file has no overflow records.
+-- The growth of a tree by so many nodes fits, whose fork has any number of extents: there is such a tree, and its file has room for them. The extents
+-- overflow file has no overflow records.
 abbrev pub SpreadGrowthFits : WhichTree → ℕ → Volume → Space → Type 0
 SpreadGrowthFits which.Extents more volume space = GrowthFits which.Extents more volume space
-SpreadGrowthFits which.Catalog more volume space = AreFilled (lists_of volume space.content) catalog_id (length volume.catalog.file.fork) × SpreadFits more volume.catalog.file volume.header.catalog_fork volume space
-SpreadGrowthFits which.Attributes more volume space = IsTrue (has_attributes volume.header) × (AreFilled (lists_of volume space.content) attributes_id (length volume.attributes.file.fork) × SpreadFits more volume.attributes.file volume.header.attributes_fork volume space)
+SpreadGrowthFits which.Catalog more volume space = SpreadFits more volume.catalog.file volume.header.catalog_fork volume space
+SpreadGrowthFits which.Attributes more volume space = IsTrue (has_attributes volume.header) × SpreadFits more volume.attributes.file volume.header.attributes_fork volume space
 
 -- A run of so many free blocks was taken, and blocks have the size that they had.
 pub record TakesBlocks (count : ℕ) (old new : Volume) : Type 0 where
@@ -116,6 +112,6 @@ pub record TakesBlocks (count : ℕ) (old new : Volume) : Type 0 where
 
 -- ---- what it puts
 
--- the sectors that the growth of a tree by so many nodes puts at most, with so many edits of the extents overflow file
-abbrev pub growth_room_with : ℕ → WhichTree → ℕ → Volume → ℕ
-growth_room_with edits tree more volume = growth_room tree more volume + edits_load volume.extents.file.shape edits
+-- the sectors that the growth of a tree by so many nodes puts at most, with an edit of the extents overflow file
+abbrev pub growth_room_spread : WhichTree → ℕ → Volume → ℕ
+growth_room_spread tree more volume = growth_room tree more volume + edits_load volume.extents.file.shape 1

@@ -1,5 +1,5 @@
 -- The extents of a fork, of which those behind the eight of its record stand in overflow records.
-use Rattle.std.specs.Prelude.{◌≡◌, ◌<◌, ℕ, ◌==◌, ◌&&◌, Bool, false, not, nat_le, List, [], ◌∷◌, slice_index, ◌≤◌, ◌*◌, ◌/◌, min, true, length}
+use Rattle.std.specs.Prelude.{◌≡◌, ◌<◌, ℕ, ◌==◌, ◌&&◌, Bool, false, not, nat_le, List, [], ◌∷◌, slice_index, ◌≤◌, ◌*◌, ◌/◌, min, true}
 use Rattle.overflow.specs.Room.{changes_for, edits_for}
 use Rattle.overflow.specs.Changes.{are_light}
 use Rattle.btree_edit.specs.Editing.{edit_writes}

@@ -34,7 +34,7 @@ use Rattle.volume_base.specs.Changing.{ReplacesRecord, catalog_node}
 use Rattle.volume_base.specs.DataWeighing.{needs_data}
 use Rattle.volume_base.specs.Lists.{bits_on, lists_of}
 use Rattle.volume_base.specs.Reading.{HasFile}
-use Rattle.volume_space.specs.Recording.{AreFilled, records_held}
+use Rattle.volume_space.specs.Recording.{records_held}
 use Rattle.volume_space.specs.Spreading.{SpreadsExtents, edits_load, is_met_extents}
 use Rattle.volume_base.specs.Standing.{IsSettled}
 use Rattle.volume_base.specs.declared.entries.Entry.{Entry}
@@ -64,12 +64,7 @@ data_load volume put = 1 + catalog_node volume + bits_load volume put
 abbrev pub records_load : Volume → VolumeState → Data → ℕ
 records_load volume lists put = edits_load volume.extents.file.shape (records_held lists put.id + overflow_records (length (file_extents lists put.id data_kind) + 1 + fresh_runs volume put))
 
--- There are as many free blocks as the data takes, and room to put what it puts.
-pub record HasRoomToPutData (put : Data) (volume : Volume) (spare : ℕ) : Type 0 where
-  pub blocks : fresh_blocks volume put ≤ count_set (free_of volume.map)
-  pub sectors : data_load volume put ≤ spare
-
--- whether there is this room, where so many sectors may be put
+-- whether there are as many free blocks as the data takes, and room to put what it puts, where so many sectors may be put
 abbrev pub fits_data : Volume → ℕ → Data → Bool
 fits_data volume spare put = nat_le (fresh_blocks volume put) (count_set (free_of volume.map)) && nat_le (data_load volume put) spare
 
@@ -82,23 +77,17 @@ may_overflow extents runs = nat_lt 8 (extents + 1 + runs)
 abbrev pub is_put_later : Volume → VolumeState → Data → Bool
 is_put_later volume lists put = needs_cut lists (Some put) || may_overflow (length (file_extents lists put.id data_kind)) (fresh_runs volume put)
 
--- where a command puts data, each overflow record of the file's fork has an extent in use
-abbrev pub IsFilled : Command → Content → Type 0
-IsFilled asked content = (put : Data) → data_of (tree_of content) asked ≡ Some put → AreFilled (volume_of content) put.id (length (file_extents (volume_of content) put.id data_kind))
-
 -- there is data to put, it isn't still to come to put it, and there is room for it, where so many sectors may be put
 abbrev pub is_put_now : Volume → ℕ → VolumeState → Option Data → Bool
 is_put_now volume spare lists None = false
 is_put_now volume spare lists (Some put) = not (is_put_later volume lists put) && fits_data volume spare put
 
--- there is data to put, no blocks of the file go first, the last overflow record of its fork isn't without an extent, and what the data costs of the blocks that
--- may be taken is a load that so many sectors suffice for, without growth of the extents overflow file
+-- there is data to put, no blocks of the file go first, and what the data costs of the blocks that may be taken is a load that so many sectors suffice for,
+-- without growth of the extents overflow file
 abbrev pub is_data_met : Volume → ℕ → VolumeState → Option Data → Bool
 is_data_met volume spare lists None = false
 is_data_met volume spare lists (Some put) =
-    not (needs_cut lists (Some put))
-    && ((records_held lists put.id == overflow_records (length (file_extents lists put.id data_kind)))
-    && is_met_extents (cost_of (needs_data (free_of volume.map) lists put) (room_with volume.capacity (free_of volume.map) lists)) spare)
+    not (needs_cut lists (Some put)) && is_met_extents (cost_of (needs_data (free_of volume.map) lists put) (room_with volume.capacity (free_of volume.map) lists)) spare
 
 -- The file has the data of a command: it has fresh blocks in place of those from the first that is written on, its size and its dates are others,
 -- and the header counts the free blocks anew; nothing else of the lists is changed, and of all forks this one alone has other blocks.

@@ -5,8 +5,8 @@ ghost use Rattle.alloc_bitmap.specs.Map.{none};
 ghost use Rattle.flag_rows.specs.Bits.{sectors_for};
 ghost use Rattle.btree_edit.specs.Causes.{HasTroubleCause};
 ghost use Rattle.hfs_volume.specs.Aside.{IsJournalSector};
-ghost use Rattle.volume_space.specs.Growing.{GoesAhead, GrowthFits, HasFilledRecords, IsOwnOrFree, WantsFirst, file_of, growth_room};
-ghost use Rattle.volume_space.specs.SpreadGrowth.{SpreadGrowthFits, growth_room_with};
+ghost use Rattle.volume_space.specs.Growing.{GoesAhead, GrowthFits, IsOwnOrFree, WantsFirst, file_of, growth_room};
+ghost use Rattle.volume_space.specs.SpreadGrowth.{SpreadGrowthFits, growth_room_spread};
 ghost use Rattle.volume_base.specs.Service.{IsInService};
 ghost use Rattle.volume_space.specs.Standing.{HoldsOn};
 ghost use Rattle.volume_base.specs.Standing.{IsSettled, StandsOver};
@@ -97,8 +97,7 @@ fn grow_catalog_kept<P: SectorSpace>(
     ensures touches { (committed : Content) → Touches committed (IsOwnOrFree volume.old) (P.SectorView.space space.old) (P.SectorView.space space.new) }
     ensures gained { IsTrue (P.SectorView.space space.old).tells → OnOk result ((s : ℕ) → IsOwnOrFree volume.new s → IsOwnOrFree volume.old s) }
     ensures spent { length volume.old.catalog.file.fork < 8 → (P.SectorView.space space.old).spare ≤ (P.SectorView.space space.new).spare + growth_room which.Catalog more volume.old }
-    ensures spent_any { IsTrue (P.SectorView.space space.old).tells → (P.SectorView.space space.old).spare ≤ (P.SectorView.space space.new).spare + growth_room_with 2 which.Catalog more volume.old }
-    ensures spent_filled { IsTrue (P.SectorView.space space.old).tells → HasFilledRecords which.Catalog volume.old (P.SectorView.space space.old).content → (P.SectorView.space space.old).spare ≤ (P.SectorView.space space.new).spare + growth_room_with 1 which.Catalog more volume.old }
+    ensures spent_spread { IsTrue (P.SectorView.space space.old).tells → (P.SectorView.space space.old).spare ≤ (P.SectorView.space space.new).spare + growth_room_spread which.Catalog more volume.old }
     ensures below { P.SectorView.follows space.old space.new }
     ensures cause { HasTroubleCause (P.SectorView.space space.old).faults (P.SectorView.space space.new).faults result }
 {
@@ -134,8 +133,7 @@ fn grow_attributes_kept<P: SectorSpace>(
     ensures touches { (committed : Content) → Touches committed (IsOwnOrFree volume.old) (P.SectorView.space space.old) (P.SectorView.space space.new) }
     ensures gained { IsTrue (P.SectorView.space space.old).tells → OnOk result ((s : ℕ) → IsOwnOrFree volume.new s → IsOwnOrFree volume.old s) }
     ensures spent { length volume.old.attributes.file.fork < 8 → (P.SectorView.space space.old).spare ≤ (P.SectorView.space space.new).spare + growth_room which.Attributes more volume.old }
-    ensures spent_any { IsTrue (P.SectorView.space space.old).tells → (P.SectorView.space space.old).spare ≤ (P.SectorView.space space.new).spare + growth_room_with 2 which.Attributes more volume.old }
-    ensures spent_filled { IsTrue (P.SectorView.space space.old).tells → HasFilledRecords which.Attributes volume.old (P.SectorView.space space.old).content → (P.SectorView.space space.old).spare ≤ (P.SectorView.space space.new).spare + growth_room_with 1 which.Attributes more volume.old }
+    ensures spent_spread { IsTrue (P.SectorView.space space.old).tells → (P.SectorView.space space.old).spare ≤ (P.SectorView.space space.new).spare + growth_room_spread which.Attributes more volume.old }
     ensures below { P.SectorView.follows space.old space.new }
     ensures cause { HasTroubleCause (P.SectorView.space space.old).faults (P.SectorView.space space.new).faults result }
 {
@@ -171,7 +169,7 @@ pub fn grow_tree<P: SectorSpace>(
     ensures ahead { IsTrue (P.SectorView.space space.old).tells → IfOk result (λ said. GoesAhead said tree more (P.SectorView.space space.old).content (P.SectorView.space space.new).content) }
     // A growth that fits is made.
     ensures sure { IsTrue (P.SectorView.space space.old).tells → GrowthFits tree more volume.old (P.SectorView.space space.old) → IfOk result (λ said. said ≡ growing.Grown) }
-    // So is one of a file of any number of extents, where each overflow record of its fork has an extent in use.
+    // So is one of a file of any number of extents.
     ensures spread { IsTrue (P.SectorView.space space.old).tells → SpreadGrowthFits tree more volume.old (P.SectorView.space space.old) → IfOk result (λ said. said ≡ growing.Grown) }
     // What costs a load that may be put never waits for a commit ahead of its first growth.
     ensures counted { IsTrue (P.SectorView.space space.old).tells → WantsFirst tree more volume.old (P.SectorView.space space.old) → IfOk result (λ said. said ≡ growing.Grown) }
@@ -187,10 +185,8 @@ pub fn grow_tree<P: SectorSpace>(
     ensures gained { IsTrue (P.SectorView.space space.old).tells → OnOk result ((s : ℕ) → IsOwnOrFree volume.new s → IsOwnOrFree volume.old s) }
     // Of a file without overflow records it takes no more of the room for puts than such a growth puts at most.
     ensures spent { length (file_of tree volume.old).fork < 8 → (P.SectorView.space space.old).spare ≤ (P.SectorView.space space.new).spare + growth_room tree more volume.old }
-    // Of any file, told, no more than that and what the load counts for two edits of the extents overflow file; for one, where each overflow record of
-    // its fork has an extent in use.
-    ensures spent_any { IsTrue (P.SectorView.space space.old).tells → (P.SectorView.space space.old).spare ≤ (P.SectorView.space space.new).spare + growth_room_with 2 tree more volume.old }
-    ensures spent_filled { IsTrue (P.SectorView.space space.old).tells → HasFilledRecords tree volume.old (P.SectorView.space space.old).content → (P.SectorView.space space.old).spare ≤ (P.SectorView.space space.new).spare + growth_room_with 1 tree more volume.old }
+    // Of any file, told, no more than that and what the load counts for an edit of the extents overflow file.
+    ensures spent_spread { IsTrue (P.SectorView.space space.old).tells → (P.SectorView.space space.old).spare ≤ (P.SectorView.space space.new).spare + growth_room_spread tree more volume.old }
     // What costs a load that may be put puts no more than that load for its first growth.
     ensures loads { IsTrue (P.SectorView.space space.old).tells → (wants : WantsFirst tree more volume.old (P.SectorView.space space.old)) → (P.SectorView.space space.old).spare ≤ (P.SectorView.space space.new).spare + wants.load }
     ensures below { P.SectorView.follows space.old space.new }

@@ -7,14 +7,11 @@ ghost use Rattle.btree_edit.specs.Causes.{HasTroubleCause};
 ghost use Rattle.hfs_volume.specs.Aside.{IsJournalSector};
 ghost use Rattle.hfs_volume.specs.Content.{has_attributes};
 ghost use Rattle.volume_space.specs.Growing.{GoesAhead, IsOwnOrFree};
-ghost use Rattle.hfs_volume.specs.Forks.{attributes_id, catalog_id};
-ghost use Rattle.volume_base.specs.Lists.{lists_of};
-ghost use Rattle.volume_space.specs.Recording.{AreFilled};
 ghost use Rattle.volume_base.specs.Service.{IsInService};
 ghost use Rattle.volume_space.specs.Standing.{HoldsOn};
 ghost use Rattle.volume_base.specs.Standing.{IsSettled, StandsOver};
 ghost use Rattle.volume_base.specs.Touching.{Touches};
-ghost use Rattle.volume_space.specs.SpreadGrowth.{SpreadFits, growth_room_with};
+ghost use Rattle.volume_space.specs.SpreadGrowth.{SpreadFits, growth_room_spread};
 ghost use Rattle.volume_space.specs.declared.ahead.Growth.TheVariants as growing;
 ghost use Rattle.volume_space.specs.declared.ahead.WhichTree.TheVariants as which;
 
@@ -22,59 +19,10 @@ use crate::ahead::Growth;
 use crate::growable_spread::can_grow_spread;
 use crate::growing_spread::grow_catalog_spread;
 use crate::growing_spread_attributes::grow_attributes_spread;
-use crate::recorded::are_filled;
 use hx_bytes::Trouble;
 use sector_disk::SectorSpace;
 use std::alloc::Global;
 use volume_base::Volume;
-
-/// The CNID of the catalog (TN1150, "Special Files").
-const CATALOG_FILE: u32 = 4;
-/// The CNID of the attributes file.
-const ATTRIBUTES_FILE: u32 = 8;
-
-/// Grows the catalog by so many nodes, whose fork has extents in overflow records or gets some; no bit was changed since the last keep. A
-/// commit comes first where there is too little room for what the growth puts, or for the blocks. Each overflow record of its fork has an extent in
-/// use, or one may be without.
-fn grow_catalog_recorded<P: SectorSpace>(
-    volume: &mut Volume,
-    alloc: Global,
-    space: &mut P,
-    more: u32,
-    filled: bool,
-) -> Result<Growth, Trouble>
-    requires stands { StandsOver volume.old (P.SectorView.space space.old) }
-    requires settled { IsTrue (P.SectorView.space space.old).tells → IsSettled volume.old (P.SectorView.space space.old).content }
-    requires unchanged { volume.old.map.changed ≡ none (sectors_for (length volume.old.map.used)) }
-    requires closed { IsTrue (P.SectorView.space space.old).tells → (at : ℕ) → (P.SectorView.space space.old).closed at → IsJournalSector (P.SectorView.space space.old).content at }
-    requires filled { IsTrue (P.SectorView.space space.old).tells → IsTrue filled → AreFilled (lists_of volume.old (P.SectorView.space space.old).content) catalog_id (length volume.old.catalog.file.fork) }
-    ensures ahead { IsTrue (P.SectorView.space space.old).tells → IfOk result (λ said. GoesAhead said which.Catalog more (P.SectorView.space space.old).content (P.SectorView.space space.new).content) }
-    ensures sure { IsTrue (P.SectorView.space space.old).tells → IsTrue filled → SpreadFits more volume.old.catalog.file volume.old.header.catalog_fork volume.old (P.SectorView.space space.old) → IfOk result (λ said. said ≡ growing.Grown) }
-    ensures stands { OnOk result (StandsOver volume.new (P.SectorView.space space.new)) }
-    ensures settled { IsTrue (P.SectorView.space space.old).tells → OnOk result (IsSettled volume.new (P.SectorView.space space.new).content) }
-    ensures service { IsInService volume.new (P.SectorView.space space.new) }
-    ensures holds { (committed : Content) → HoldsOn committed volume.old → HoldsOn committed volume.new }
-    ensures same { (volume.new.private ≡ volume.old.private) × (volume.new.shrunk ≡ volume.old.shrunk) × (volume.new.capacity ≡ volume.old.capacity) }
-    ensures touches { (committed : Content) → Touches committed (IsOwnOrFree volume.old) (P.SectorView.space space.old) (P.SectorView.space space.new) }
-    ensures gained { IsTrue (P.SectorView.space space.old).tells → OnOk result ((s : ℕ) → IsOwnOrFree volume.new s → IsOwnOrFree volume.old s) }
-    ensures spent_any { IsTrue (P.SectorView.space space.old).tells → (P.SectorView.space space.old).spare ≤ (P.SectorView.space space.new).spare + growth_room_with 2 which.Catalog more volume.old }
-    ensures spent_filled { IsTrue (P.SectorView.space space.old).tells → AreFilled (lists_of volume.old (P.SectorView.space space.old).content) catalog_id (length volume.old.catalog.file.fork) → (P.SectorView.space space.old).spare ≤ (P.SectorView.space space.new).spare + growth_room_with 1 which.Catalog more volume.old }
-    ensures below { P.SectorView.follows space.old space.new }
-    ensures cause { HasTroubleCause (P.SectorView.space space.old).faults (P.SectorView.space space.new).faults result }
-{
-    if !can_grow_spread(
-        volume,
-        space,
-        &volume.catalog.file,
-        volume.header.catalog_fork,
-        more,
-        filled,
-    ) {
-        return Ok(Growth::CommitFirst);
-    }
-    grow_catalog_spread(volume, alloc, space, more)?;
-    Ok(Growth::Grown)
-}
 
 /// Grows the catalog by so many nodes, whose fork has extents in overflow records or gets some; no bit was changed since the last keep. A
 /// commit comes first where there is too little room for what the growth puts, or for the blocks.
@@ -89,7 +37,7 @@ pub(crate) fn grow_catalog_of_eight<P: SectorSpace>(
     requires unchanged { volume.old.map.changed ≡ none (sectors_for (length volume.old.map.used)) }
     requires closed { IsTrue (P.SectorView.space space.old).tells → (at : ℕ) → (P.SectorView.space space.old).closed at → IsJournalSector (P.SectorView.space space.old).content at }
     ensures ahead { IsTrue (P.SectorView.space space.old).tells → IfOk result (λ said. GoesAhead said which.Catalog more (P.SectorView.space space.old).content (P.SectorView.space space.new).content) }
-    ensures sure { IsTrue (P.SectorView.space space.old).tells → AreFilled (lists_of volume.old (P.SectorView.space space.old).content) catalog_id (length volume.old.catalog.file.fork) → SpreadFits more volume.old.catalog.file volume.old.header.catalog_fork volume.old (P.SectorView.space space.old) → IfOk result (λ said. said ≡ growing.Grown) }
+    ensures sure { IsTrue (P.SectorView.space space.old).tells → SpreadFits more volume.old.catalog.file volume.old.header.catalog_fork volume.old (P.SectorView.space space.old) → IfOk result (λ said. said ≡ growing.Grown) }
     ensures stands { OnOk result (StandsOver volume.new (P.SectorView.space space.new)) }
     ensures settled { IsTrue (P.SectorView.space space.old).tells → OnOk result (IsSettled volume.new (P.SectorView.space space.new).content) }
     ensures service { IsInService volume.new (P.SectorView.space space.new) }
@@ -97,57 +45,20 @@ pub(crate) fn grow_catalog_of_eight<P: SectorSpace>(
     ensures same { (volume.new.private ≡ volume.old.private) × (volume.new.shrunk ≡ volume.old.shrunk) × (volume.new.capacity ≡ volume.old.capacity) }
     ensures touches { (committed : Content) → Touches committed (IsOwnOrFree volume.old) (P.SectorView.space space.old) (P.SectorView.space space.new) }
     ensures gained { IsTrue (P.SectorView.space space.old).tells → OnOk result ((s : ℕ) → IsOwnOrFree volume.new s → IsOwnOrFree volume.old s) }
-    ensures spent_any { IsTrue (P.SectorView.space space.old).tells → (P.SectorView.space space.old).spare ≤ (P.SectorView.space space.new).spare + growth_room_with 2 which.Catalog more volume.old }
-    ensures spent_filled { IsTrue (P.SectorView.space space.old).tells → AreFilled (lists_of volume.old (P.SectorView.space space.old).content) catalog_id (length volume.old.catalog.file.fork) → (P.SectorView.space space.old).spare ≤ (P.SectorView.space space.new).spare + growth_room_with 1 which.Catalog more volume.old }
-    ensures below { P.SectorView.follows space.old space.new }
-    ensures cause { HasTroubleCause (P.SectorView.space space.old).faults (P.SectorView.space space.new).faults result }
-{
-    let list = volume.catalog.file.fork().copy(alloc)?;
-    let filled = are_filled(volume, space, CATALOG_FILE, &list)?;
-    grow_catalog_recorded(volume, alloc, space, more, filled)
-}
-
-/// Grows the attributes file by so many nodes, whose fork has extents in overflow records or gets some; no bit was changed since the last keep. A
-/// commit comes first where there is too little room for what the growth puts, or for the blocks. Each overflow record of its fork has an extent in
-/// use, or one may be without.
-fn grow_attributes_recorded<P: SectorSpace>(
-    volume: &mut Volume,
-    alloc: Global,
-    space: &mut P,
-    more: u32,
-    filled: bool,
-) -> Result<Growth, Trouble>
-    requires stands { StandsOver volume.old (P.SectorView.space space.old) }
-    requires settled { IsTrue (P.SectorView.space space.old).tells → IsSettled volume.old (P.SectorView.space space.old).content }
-    requires there { IsTrue (has_attributes volume.old.header) }
-    requires unchanged { volume.old.map.changed ≡ none (sectors_for (length volume.old.map.used)) }
-    requires closed { IsTrue (P.SectorView.space space.old).tells → (at : ℕ) → (P.SectorView.space space.old).closed at → IsJournalSector (P.SectorView.space space.old).content at }
-    requires filled { IsTrue (P.SectorView.space space.old).tells → IsTrue filled → AreFilled (lists_of volume.old (P.SectorView.space space.old).content) attributes_id (length volume.old.attributes.file.fork) }
-    ensures ahead { IsTrue (P.SectorView.space space.old).tells → IfOk result (λ said. GoesAhead said which.Attributes more (P.SectorView.space space.old).content (P.SectorView.space space.new).content) }
-    ensures sure { IsTrue (P.SectorView.space space.old).tells → IsTrue filled → SpreadFits more volume.old.attributes.file volume.old.header.attributes_fork volume.old (P.SectorView.space space.old) → IfOk result (λ said. said ≡ growing.Grown) }
-    ensures stands { OnOk result (StandsOver volume.new (P.SectorView.space space.new)) }
-    ensures settled { IsTrue (P.SectorView.space space.old).tells → OnOk result (IsSettled volume.new (P.SectorView.space space.new).content) }
-    ensures service { IsInService volume.new (P.SectorView.space space.new) }
-    ensures holds { (committed : Content) → HoldsOn committed volume.old → HoldsOn committed volume.new }
-    ensures same { (volume.new.private ≡ volume.old.private) × (volume.new.shrunk ≡ volume.old.shrunk) × (volume.new.capacity ≡ volume.old.capacity) }
-    ensures touches { (committed : Content) → Touches committed (IsOwnOrFree volume.old) (P.SectorView.space space.old) (P.SectorView.space space.new) }
-    ensures gained { IsTrue (P.SectorView.space space.old).tells → OnOk result ((s : ℕ) → IsOwnOrFree volume.new s → IsOwnOrFree volume.old s) }
-    ensures spent_any { IsTrue (P.SectorView.space space.old).tells → (P.SectorView.space space.old).spare ≤ (P.SectorView.space space.new).spare + growth_room_with 2 which.Attributes more volume.old }
-    ensures spent_filled { IsTrue (P.SectorView.space space.old).tells → AreFilled (lists_of volume.old (P.SectorView.space space.old).content) attributes_id (length volume.old.attributes.file.fork) → (P.SectorView.space space.old).spare ≤ (P.SectorView.space space.new).spare + growth_room_with 1 which.Attributes more volume.old }
+    ensures spent { IsTrue (P.SectorView.space space.old).tells → (P.SectorView.space space.old).spare ≤ (P.SectorView.space space.new).spare + growth_room_spread which.Catalog more volume.old }
     ensures below { P.SectorView.follows space.old space.new }
     ensures cause { HasTroubleCause (P.SectorView.space space.old).faults (P.SectorView.space space.new).faults result }
 {
     if !can_grow_spread(
         volume,
         space,
-        &volume.attributes.file,
-        volume.header.attributes_fork,
+        &volume.catalog.file,
+        volume.header.catalog_fork,
         more,
-        filled,
     ) {
         return Ok(Growth::CommitFirst);
     }
-    grow_attributes_spread(volume, alloc, space, more)?;
+    grow_catalog_spread(volume, alloc, space, more)?;
     Ok(Growth::Grown)
 }
 
@@ -165,7 +76,7 @@ pub(crate) fn grow_attributes_of_eight<P: SectorSpace>(
     requires unchanged { volume.old.map.changed ≡ none (sectors_for (length volume.old.map.used)) }
     requires closed { IsTrue (P.SectorView.space space.old).tells → (at : ℕ) → (P.SectorView.space space.old).closed at → IsJournalSector (P.SectorView.space space.old).content at }
     ensures ahead { IsTrue (P.SectorView.space space.old).tells → IfOk result (λ said. GoesAhead said which.Attributes more (P.SectorView.space space.old).content (P.SectorView.space space.new).content) }
-    ensures sure { IsTrue (P.SectorView.space space.old).tells → AreFilled (lists_of volume.old (P.SectorView.space space.old).content) attributes_id (length volume.old.attributes.file.fork) → SpreadFits more volume.old.attributes.file volume.old.header.attributes_fork volume.old (P.SectorView.space space.old) → IfOk result (λ said. said ≡ growing.Grown) }
+    ensures sure { IsTrue (P.SectorView.space space.old).tells → SpreadFits more volume.old.attributes.file volume.old.header.attributes_fork volume.old (P.SectorView.space space.old) → IfOk result (λ said. said ≡ growing.Grown) }
     ensures stands { OnOk result (StandsOver volume.new (P.SectorView.space space.new)) }
     ensures settled { IsTrue (P.SectorView.space space.old).tells → OnOk result (IsSettled volume.new (P.SectorView.space space.new).content) }
     ensures service { IsInService volume.new (P.SectorView.space space.new) }
@@ -173,12 +84,19 @@ pub(crate) fn grow_attributes_of_eight<P: SectorSpace>(
     ensures same { (volume.new.private ≡ volume.old.private) × (volume.new.shrunk ≡ volume.old.shrunk) × (volume.new.capacity ≡ volume.old.capacity) }
     ensures touches { (committed : Content) → Touches committed (IsOwnOrFree volume.old) (P.SectorView.space space.old) (P.SectorView.space space.new) }
     ensures gained { IsTrue (P.SectorView.space space.old).tells → OnOk result ((s : ℕ) → IsOwnOrFree volume.new s → IsOwnOrFree volume.old s) }
-    ensures spent_any { IsTrue (P.SectorView.space space.old).tells → (P.SectorView.space space.old).spare ≤ (P.SectorView.space space.new).spare + growth_room_with 2 which.Attributes more volume.old }
-    ensures spent_filled { IsTrue (P.SectorView.space space.old).tells → AreFilled (lists_of volume.old (P.SectorView.space space.old).content) attributes_id (length volume.old.attributes.file.fork) → (P.SectorView.space space.old).spare ≤ (P.SectorView.space space.new).spare + growth_room_with 1 which.Attributes more volume.old }
+    ensures spent { IsTrue (P.SectorView.space space.old).tells → (P.SectorView.space space.old).spare ≤ (P.SectorView.space space.new).spare + growth_room_spread which.Attributes more volume.old }
     ensures below { P.SectorView.follows space.old space.new }
     ensures cause { HasTroubleCause (P.SectorView.space space.old).faults (P.SectorView.space space.new).faults result }
 {
-    let list = volume.attributes.file.fork().copy(alloc)?;
-    let filled = are_filled(volume, space, ATTRIBUTES_FILE, &list)?;
-    grow_attributes_recorded(volume, alloc, space, more, filled)
+    if !can_grow_spread(
+        volume,
+        space,
+        &volume.attributes.file,
+        volume.header.attributes_fork,
+        more,
+    ) {
+        return Ok(Growth::CommitFirst);
+    }
+    grow_attributes_spread(volume, alloc, space, more)?;
+    Ok(Growth::Grown)
 }

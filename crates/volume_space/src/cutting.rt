@@ -12,14 +12,12 @@ ghost use Rattle.file_io.specs.Places.{AreUsed};
 ghost use Rattle.flag_rows.specs.Bits.{sectors_for};
 ghost use Rattle.fork_map.specs.Blocks.{AreNumbers, blocks_of};
 ghost use Rattle.hfs_volume.specs.Changes.{with_fork};
-ghost use Rattle.hfs_volume.specs.Content.{volume_of};
 ghost use Rattle.hfs_volume.specs.Entries.{AreSpelled};
 ghost use Rattle.hfs_volume.specs.Records.{id_in, is_link_type, is_thread};
 ghost use Rattle.hx_bytes.specs.Fork.{FitsFork};
 ghost use Rattle.hfs_model.specs.Step.{is_private_name};
 ghost use Rattle.overflow.specs.Records.{no_extent};
 ghost use Rattle.volume_header.specs.Header.{FitsHeader};
-ghost use Rattle.volume_runs.specs.Rest.{has_empty_record};
 ghost use Rattle.volume_base.specs.Changing.{HasRoomToUpdate, ReplacesRecord, catalog_node};
 ghost use Rattle.volume_space.specs.Cutting.{CutsFile, IsForkOf, IsNextCut, IsSplit, KeepsUsed, MayGive, PutsGiven, given_back, given_load, kind_of, trim_load};
 ghost use Rattle.volume_base.specs.Cutting.{IsCutOf, IsLastCut, cut_fork_of, fork_at, shorter_fork, with_freed};
@@ -291,13 +289,13 @@ fn count_given_sectors(volume: &Volume) -> u64
     all.min(10)
 }
 
-/// Whether there is room to cut a fork, where `emptied` says that it has an overflow record without an extent in use.
-pub(crate) fn fits_cut<P: SectorSpace>(volume: &Volume, space: &P, emptied: bool) -> bool
-    ensures fits { IsTrue result → trim_load emptied volume.now ≤ (P.SectorView.space space.now).spare }
-    ensures short { result ≡ false → (P.SectorView.space space.now).spare < trim_load emptied volume.now }
+/// Whether there is room to cut a fork.
+pub(crate) fn fits_cut<P: SectorSpace>(volume: &Volume, space: &P) -> bool
+    ensures fits { IsTrue result → trim_load volume.now ≤ (P.SectorView.space space.now).spare }
+    ensures short { result ≡ false → (P.SectorView.space space.now).spare < trim_load volume.now }
 {
     let node = u64::from(volume.catalog.file.shape().node_size / 512);
-    let load = count_given_sectors(volume) + 1 + count_spread_sectors(volume, emptied) + node;
+    let load = count_given_sectors(volume) + 1 + count_spread_sectors(volume) + node;
     fit_load(load, space.spare())
 }
 
@@ -386,7 +384,6 @@ pub(crate) fn cut_fork<P: SectorSpace>(
     kind: ForkKind,
     _keep: u128,
     list: &ExtentList,
-    emptied: bool,
     cut: &Cut,
 ) -> Result<(), Trouble>
     requires stands { StandsOver volume.old (P.SectorView.space space.old) }
@@ -397,14 +394,13 @@ pub(crate) fn cut_fork<P: SectorSpace>(
     requires fits { FitsFile file.now }
     requires number { 16 ≤ file.now.fields.id }
     requires list { IsTrue (P.SectorView.space space.old).tells → IsForkOf list.now (kind_of kind) file.now (P.SectorView.space space.old).content }
-    requires emptied { IsTrue (P.SectorView.space space.old).tells → emptied ≡ has_empty_record (volume_of (P.SectorView.space space.old).content) file.now.fields.id (kind_of kind) }
     requires cut { IsCutOf list.now (fork_at (kind_of kind) file.now) _keep cut.now }
     requires gives { MayGive cut.now.goes volume.old }
     requires no_link { is_link_type file.now.fields ≡ false }
     requires user { (entry.now.parent ≡ 2) × (is_private_name entry.now.name ≡ true) → ⊥ }
     requires next { IsTrue (P.SectorView.space space.old).tells → IsNextCut (shrunk_of volume.old) (P.SectorView.space space.old).content (id_in entry.now.rec) (kind_of kind) _keep }
     requires unchanged { volume.old.map.changed ≡ none (sectors_for (length volume.old.map.used)) }
-    requires room { trim_load emptied volume.old ≤ (P.SectorView.space space.old).spare }
+    requires room { trim_load volume.old ≤ (P.SectorView.space space.old).spare }
     ensures stands { OnOk result (StandsOver volume.new (P.SectorView.space space.new)) }
     ensures cuts { IsTrue (P.SectorView.space space.old).tells
         → OnOk result (IsSettled volume.new (P.SectorView.space space.new).content × CutsFile (shrunk_of volume.old) (P.SectorView.space space.old).content (P.SectorView.space space.new).content) }
@@ -412,7 +408,7 @@ pub(crate) fn cut_fork<P: SectorSpace>(
     ensures service { IsInService volume.new (P.SectorView.space space.new) }
     ensures touches { (committed : Content) → Touches committed (λ s. Contains (own_sectors volume.old) s) (P.SectorView.space space.old) (P.SectorView.space space.new) }
     // On a fault too, it puts no more sectors than a cut puts at most.
-    ensures spent { IsTrue (P.SectorView.space space.old).tells → (P.SectorView.space space.old).spare ≤ (P.SectorView.space space.new).spare + trim_load emptied volume.old }
+    ensures spent { IsTrue (P.SectorView.space space.old).tells → (P.SectorView.space space.old).spare ≤ (P.SectorView.space space.new).spare + trim_load volume.old }
     ensures below { P.SectorView.follows space.old space.new }
     ensures cause { HasTroubleCause (P.SectorView.space space.old).faults (P.SectorView.space space.new).faults result }
 {
@@ -420,7 +416,7 @@ pub(crate) fn cut_fork<P: SectorSpace>(
     cut_of_an_orphan_keeps_the_tree();
     other_files_keep_their_bytes();
     put_back(volume, alloc, space, cut.goes)?;
-    if !fits_spread(volume, space, emptied) {
+    if !fits_spread(volume, space) {
         return Err(Trouble::Memory);
     }
     let id = file.fields.id;

@@ -15,7 +15,7 @@ ghost use Rattle.hfs_volume.specs.TreeOf.{tree_of};
 ghost use Rattle.hfs_volume.specs.Weight.{cut_cost, free_blocks, has_surplus, room_with};
 ghost use Rattle.hfs_volume.specs.declared.cost.Cost.TheVariants as cost;
 ghost use Rattle.volume_space.specs.Cutting.{KeepsUsed, surplus_in};
-ghost use Rattle.volume_space.specs.CuttingAhead.{CutsAhead, CutsAs, CutsSome, IsShortAhead, IsShortCut, is_sized_file, PutsCut, PutsCutAhead, TakesCutLoad};
+ghost use Rattle.volume_space.specs.CuttingAhead.{CutsAhead, CutsAs, CutsSome, IsShortCut, is_sized_file, PutsCut, TakesCutLoad};
 ghost use Rattle.volume_base.specs.Keeping.{shrunk_of};
 ghost use Rattle.volume_base.specs.Lists.{lists_of};
 ghost use Rattle.volume_base.specs.Refusing.{facts_or};
@@ -42,7 +42,7 @@ pub enum CutAhead {
     NotNeeded,
     /// Blocks past its size were cut.
     Made,
-    /// There is too little room for it, or a transaction may be too small for it. Nothing was changed.
+    /// There is too little room for it. Nothing was changed.
     CommitFirst,
     /// The journal has no room for a cut. Nothing was changed.
     Refused(Refusal),
@@ -104,13 +104,13 @@ fn cut_past<P: SectorSpace>(
     requires shrunk { shrunk_of volume.old ≡ Some id }
     requires some { Some surplus ≡ surplus_in volume.old.header.block_size entry.now.rec }
     ensures came { IsTrue (P.SectorView.space space.old).tells → IfOk result (λ came. CutsSome came (capacity_of volume.old) id (P.SectorView.space space.old).content (P.SectorView.space space.new).content) }
-    ensures short { IsTrue (P.SectorView.space space.old).tells → IfOk result (λ came. IsShortCut came (capacity_of volume.old) (P.SectorView.space space.old).spare id (volume_of (P.SectorView.space space.old).content)) }
+    ensures short { IsTrue (P.SectorView.space space.old).tells → IfOk result (λ came. IsShortCut came (capacity_of volume.old) (P.SectorView.space space.old).spare (volume_of (P.SectorView.space space.old).content)) }
     ensures stands { OnOk result (StandsOver volume.new (P.SectorView.space space.new)) }
     ensures settled { IsTrue (P.SectorView.space space.old).tells → OnOk result (IsSettled volume.new (P.SectorView.space space.new).content) }
     ensures service { IsInService volume.new (P.SectorView.space space.new) }
     ensures used { KeepsUsed volume.old volume.new }
     ensures touches { (committed : Content) → Touches committed (λ s. Contains (own_sectors volume.old) s) (P.SectorView.space space.old) (P.SectorView.space space.new) }
-    ensures spent { IsTrue (P.SectorView.space space.old).tells → PutsCut (capacity_of volume.old) id (volume_of (P.SectorView.space space.old).content) (P.SectorView.space space.old).spare (P.SectorView.space space.new).spare }
+    ensures spent { IsTrue (P.SectorView.space space.old).tells → PutsCut (capacity_of volume.old) (volume_of (P.SectorView.space space.old).content) (P.SectorView.space space.old).spare (P.SectorView.space space.new).spare }
     ensures below { P.SectorView.follows space.old space.new }
     ensures cause { HasTroubleCause (P.SectorView.space space.old).faults (P.SectorView.space space.new).faults result }
 {
@@ -140,13 +140,13 @@ fn cut_entry<P: SectorSpace>(
     requires fits { is_thread entry.now.rec ≡ false → FitsRecord entry.now.rec }
     requires shrunk { shrunk_of volume.old ≡ Some id }
     ensures came { IsTrue (P.SectorView.space space.old).tells → IfOk result (λ came. CutsAs came (capacity_of volume.old) id (has_surplus (volume_of (P.SectorView.space space.old).content) id size) (P.SectorView.space space.old).content (P.SectorView.space space.new).content) }
-    ensures short { IsTrue (P.SectorView.space space.old).tells → IfOk result (λ came. IsShortCut came (capacity_of volume.old) (P.SectorView.space space.old).spare id (volume_of (P.SectorView.space space.old).content)) }
+    ensures short { IsTrue (P.SectorView.space space.old).tells → IfOk result (λ came. IsShortCut came (capacity_of volume.old) (P.SectorView.space space.old).spare (volume_of (P.SectorView.space space.old).content)) }
     ensures stands { OnOk result (StandsOver volume.new (P.SectorView.space space.new)) }
     ensures settled { IsTrue (P.SectorView.space space.old).tells → OnOk result (IsSettled volume.new (P.SectorView.space space.new).content) }
     ensures service { IsInService volume.new (P.SectorView.space space.new) }
     ensures used { KeepsUsed volume.old volume.new }
     ensures touches { (committed : Content) → Touches committed (λ s. Contains (own_sectors volume.old) s) (P.SectorView.space space.old) (P.SectorView.space space.new) }
-    ensures spent { IsTrue (P.SectorView.space space.old).tells → PutsCut (capacity_of volume.old) id (volume_of (P.SectorView.space space.old).content) (P.SectorView.space space.old).spare (P.SectorView.space space.new).spare }
+    ensures spent { IsTrue (P.SectorView.space space.old).tells → PutsCut (capacity_of volume.old) (volume_of (P.SectorView.space space.old).content) (P.SectorView.space space.old).spare (P.SectorView.space space.new).spare }
     ensures below { P.SectorView.follows space.old space.new }
     ensures cause { HasTroubleCause (P.SectorView.space space.old).faults (P.SectorView.space space.new).faults result }
 {
@@ -171,13 +171,13 @@ fn cut_there<P: SectorSpace>(
     requires settled { IsTrue (P.SectorView.space space.old).tells → IsSettled volume.old (P.SectorView.space space.old).content }
     requires shrunk { shrunk_of volume.old ≡ Some id }
     ensures came { IsTrue (P.SectorView.space space.old).tells → IfOk result (λ came. CutsAs came (capacity_of volume.old) id (has_surplus (volume_of (P.SectorView.space space.old).content) id size) (P.SectorView.space space.old).content (P.SectorView.space space.new).content) }
-    ensures short { IsTrue (P.SectorView.space space.old).tells → IfOk result (λ came. IsShortCut came (capacity_of volume.old) (P.SectorView.space space.old).spare id (volume_of (P.SectorView.space space.old).content)) }
+    ensures short { IsTrue (P.SectorView.space space.old).tells → IfOk result (λ came. IsShortCut came (capacity_of volume.old) (P.SectorView.space space.old).spare (volume_of (P.SectorView.space space.old).content)) }
     ensures stands { OnOk result (StandsOver volume.new (P.SectorView.space space.new)) }
     ensures settled { IsTrue (P.SectorView.space space.old).tells → OnOk result (IsSettled volume.new (P.SectorView.space space.new).content) }
     ensures service { IsInService volume.new (P.SectorView.space space.new) }
     ensures used { KeepsUsed volume.old volume.new }
     ensures touches { (committed : Content) → Touches committed (λ s. Contains (own_sectors volume.old) s) (P.SectorView.space space.old) (P.SectorView.space space.new) }
-    ensures spent { IsTrue (P.SectorView.space space.old).tells → PutsCut (capacity_of volume.old) id (volume_of (P.SectorView.space space.old).content) (P.SectorView.space space.old).spare (P.SectorView.space space.new).spare }
+    ensures spent { IsTrue (P.SectorView.space space.old).tells → PutsCut (capacity_of volume.old) (volume_of (P.SectorView.space space.old).content) (P.SectorView.space space.old).spare (P.SectorView.space space.new).spare }
     ensures below { P.SectorView.follows space.old space.new }
     ensures cause { HasTroubleCause (P.SectorView.space space.old).faults (P.SectorView.space space.new).faults result }
 {
@@ -198,13 +198,13 @@ fn cut_file<P: SectorSpace>(
     requires stands { StandsOver volume.old (P.SectorView.space space.old) }
     requires settled { IsTrue (P.SectorView.space space.old).tells → IsSettled volume.old (P.SectorView.space space.old).content }
     ensures came { IsTrue (P.SectorView.space space.old).tells → IfOk result (λ came. CutsAs came (capacity_of volume.old) id (has_surplus (volume_of (P.SectorView.space space.old).content) id size) (P.SectorView.space space.old).content (P.SectorView.space space.new).content) }
-    ensures short { IsTrue (P.SectorView.space space.old).tells → IfOk result (λ came. IsShortCut came (capacity_of volume.old) (P.SectorView.space space.old).spare id (volume_of (P.SectorView.space space.old).content)) }
+    ensures short { IsTrue (P.SectorView.space space.old).tells → IfOk result (λ came. IsShortCut came (capacity_of volume.old) (P.SectorView.space space.old).spare (volume_of (P.SectorView.space space.old).content)) }
     ensures stands { OnOk result (StandsOver volume.new (P.SectorView.space space.new)) }
     ensures settled { IsTrue (P.SectorView.space space.old).tells → OnOk result (IsSettled volume.new (P.SectorView.space space.new).content) }
     ensures service { IsInService volume.new (P.SectorView.space space.new) }
     ensures used { KeepsUsed volume.old volume.new }
     ensures touches { (committed : Content) → Touches committed (λ s. Contains (own_sectors volume.old) s) (P.SectorView.space space.old) (P.SectorView.space space.new) }
-    ensures spent { IsTrue (P.SectorView.space space.old).tells → PutsCut (capacity_of volume.old) id (volume_of (P.SectorView.space space.old).content) (P.SectorView.space space.old).spare (P.SectorView.space space.new).spare }
+    ensures spent { IsTrue (P.SectorView.space space.old).tells → PutsCut (capacity_of volume.old) (volume_of (P.SectorView.space space.old).content) (P.SectorView.space space.old).spare (P.SectorView.space space.new).spare }
     ensures below { P.SectorView.follows space.old space.new }
     ensures cause { HasTroubleCause (P.SectorView.space space.old).faults (P.SectorView.space space.new).faults result }
 {
@@ -228,13 +228,13 @@ fn cut_told<P: SectorSpace>(
     requires settled { IsTrue (P.SectorView.space space.old).tells → IsSettled volume.old (P.SectorView.space space.old).content }
     requires told { IsTrue (P.SectorView.space space.old).tells → Ok told.now ≡ facts_or (step_line (tree_of (P.SectorView.space space.old).content) (Ok (command.Stat _path.now))).0 }
     ensures came { IsTrue (P.SectorView.space space.old).tells → IfOk result (λ came. CutsAhead came (capacity_of volume.old) _path.now end (P.SectorView.space space.old).content (P.SectorView.space space.new).content) }
-    ensures short { IsTrue (P.SectorView.space space.old).tells → IfOk result (λ came. IsShortAhead came (capacity_of volume.old) (P.SectorView.space space.old).spare _path.now (P.SectorView.space space.old).content) }
+    ensures short { IsTrue (P.SectorView.space space.old).tells → IfOk result (λ came. IsShortCut came (capacity_of volume.old) (P.SectorView.space space.old).spare (volume_of (P.SectorView.space space.old).content)) }
     ensures stands { OnOk result (StandsOver volume.new (P.SectorView.space space.new)) }
     ensures settled { IsTrue (P.SectorView.space space.old).tells → OnOk result (IsSettled volume.new (P.SectorView.space space.new).content) }
     ensures service { IsInService volume.new (P.SectorView.space space.new) }
     ensures used { KeepsUsed volume.old volume.new }
     ensures touches { (committed : Content) → Touches committed (λ s. Contains (own_sectors volume.old) s) (P.SectorView.space space.old) (P.SectorView.space space.new) }
-    ensures spent { IsTrue (P.SectorView.space space.old).tells → PutsCutAhead (capacity_of volume.old) _path.now (P.SectorView.space space.old).content (P.SectorView.space space.old).spare (P.SectorView.space space.new).spare }
+    ensures spent { IsTrue (P.SectorView.space space.old).tells → PutsCut (capacity_of volume.old) (volume_of (P.SectorView.space space.old).content) (P.SectorView.space space.old).spare (P.SectorView.space space.new).spare }
     ensures below { P.SectorView.follows space.old space.new }
     ensures cause { HasTroubleCause (P.SectorView.space space.old).faults (P.SectorView.space space.new).faults result }
 {
@@ -263,7 +263,7 @@ pub fn cut_ahead<P: SectorSpace>(
     // Told, a cut was made where one goes first, or nothing was changed.
     ensures came { IsTrue (P.SectorView.space space.old).tells → IfOk result (λ came. CutsAhead came (capacity_of volume.old) path.now end (P.SectorView.space space.old).content (P.SectorView.space space.new).content) }
     // A commit comes first only where there is too little room for the cut.
-    ensures short { IsTrue (P.SectorView.space space.old).tells → IfOk result (λ came. IsShortAhead came (capacity_of volume.old) (P.SectorView.space space.old).spare path.now (P.SectorView.space space.old).content) }
+    ensures short { IsTrue (P.SectorView.space space.old).tells → IfOk result (λ came. IsShortCut came (capacity_of volume.old) (P.SectorView.space space.old).spare (volume_of (P.SectorView.space space.old).content)) }
     ensures stands { OnOk result (StandsOver volume.new (P.SectorView.space space.new)) }
     ensures settled { IsTrue (P.SectorView.space space.old).tells → OnOk result (IsSettled volume.new (P.SectorView.space space.new).content) }
     ensures service { IsInService volume.new (P.SectorView.space space.new) }
@@ -271,10 +271,9 @@ pub fn cut_ahead<P: SectorSpace>(
     ensures used { KeepsUsed volume.old volume.new }
     // On a fault too, it puts sectors of its own alone, whatever was committed last.
     ensures touches { (committed : Content) → Touches committed (λ s. Contains (own_sectors volume.old) s) (P.SectorView.space space.old) (P.SectorView.space space.new) }
-    // On a fault too, it puts no more sectors than the cut puts at most; and than its load, where each overflow record of the file's data fork has
-    // an extent in use.
-    ensures spent { IsTrue (P.SectorView.space space.old).tells → PutsCutAhead (capacity_of volume.old) path.now (P.SectorView.space space.old).content (P.SectorView.space space.old).spare (P.SectorView.space space.new).spare }
-    ensures loads { IsTrue (P.SectorView.space space.old).tells → TakesCutLoad (capacity_of volume.old) path.now (P.SectorView.space space.old).content (P.SectorView.space space.old).spare (P.SectorView.space space.new).spare }
+    // On a fault too, it puts no more sectors than a cut puts at most, and than its load.
+    ensures spent { IsTrue (P.SectorView.space space.old).tells → PutsCut (capacity_of volume.old) (volume_of (P.SectorView.space space.old).content) (P.SectorView.space space.old).spare (P.SectorView.space space.new).spare }
+    ensures loads { IsTrue (P.SectorView.space space.old).tells → TakesCutLoad (capacity_of volume.old) (volume_of (P.SectorView.space space.old).content) (P.SectorView.space space.old).spare (P.SectorView.space space.new).spare }
     ensures below { P.SectorView.follows space.old space.new }
     ensures cause { HasTroubleCause (P.SectorView.space space.old).faults (P.SectorView.space space.new).faults result }
 {

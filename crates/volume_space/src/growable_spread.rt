@@ -1,18 +1,15 @@
 //! Whether the file of a tree whose fork has eight extents or more can grow: those behind the eight of the header's record stand in overflow records (TN1150, "Extents Overflow File").
-ghost use Rattle.std.specs.Prelude.{◌≡◌, ◌⊎◌, ◌≤◌, ◌-◌, ◌*◌, ◌/◌, min, true, IsTrue, length};
+ghost use Rattle.std.specs.Prelude.{◌≡◌, ◌⊎◌, ◌≤◌, ◌-◌, ◌*◌, ◌/◌, true, IsTrue, length};
 ghost use Rattle.alloc_bitmap.specs.Map.{none};
-ghost use Rattle.btree_edit.specs.Editing.{edit_writes};
 ghost use Rattle.flag_rows.specs.Bits.{sectors_for};
-ghost use Rattle.hfs_volume.specs.Cost.{cost_of};
 ghost use Rattle.volume_base.specs.Room.{room_on};
 ghost use Rattle.volume_base.specs.Weighing.{is_measured};
 ghost use Rattle.volume_base.specs.declared.room.FreeBlocks.TheVariants as blocks;
-ghost use Rattle.volume_space.specs.Spreading.{is_met_extents, needs_extents};
 ghost use Rattle.volume_space.specs.Growing.{blocks_filled};
 ghost use Rattle.volume_space.specs.SpreadGrowth.{CanGrowSpread, HasRoomBehind, HasRoomForRun, NumbersHaveRoom, SpreadFits};
 
 use crate::growable::{count_blocks, count_growth_sectors, has_free_run};
-use crate::storing::{count_nodes, fit_nodes, is_met, needs_of_extents};
+use crate::storing::{is_met, needs_of_extents};
 use btree_file::TreeFile;
 use hx_bytes::ForkRecord;
 use sector_disk::SectorSpace;
@@ -53,28 +50,11 @@ fn numbers_have_room(
     blocks <= u64::from(volume.header.free_blocks)
 }
 
-/// Whether so many sectors suffice for two changes of the extents overflow file that add no record; none are made of a fork whose records have
-/// an extent in use each.
-fn fit_changes(volume: &Volume, spare: u64, filled: bool) -> bool
-    ensures room { IsTrue result → IsTrue filled ⊎ (min (2 * edit_writes volume.now.extents.file.shape.depth) volume.now.extents.file.shape.total ≤ spare / (volume.now.extents.file.shape.node_size / 512)) }
-    ensures sure { IsTrue filled → IsTrue result }
+/// Whether the extents overflow file has room for the records of a fork that goes on in a run, where so many sectors may be put.
+fn can_store_run<P: SectorSpace>(volume: &Volume, _space: &P, spare: u64) -> bool
+    ensures room { IsTrue result → HasRoomForRun volume.now spare }
+    ensures sure { is_measured (room_on blocks.Takable volume.now) ≡ true → HasRoomForRun volume.now spare → IsTrue result }
 {
-    if filled {
-        return true;
-    }
-    let shape = volume.extents.file.shape();
-    fit_nodes(u64::from(shape.node_size / 512), count_nodes(shape), spare)
-}
-
-/// Whether the extents overflow file has room for the records of a fork that goes on in a run, where so many sectors may be put. Each record of the
-/// fork has an extent in use, or one may be without.
-fn can_store_run<P: SectorSpace>(volume: &Volume, _space: &P, spare: u64, filled: bool) -> bool
-    ensures room { IsTrue result → HasRoomForRun (IsTrue filled) volume.now spare }
-    ensures sure { IsTrue filled → is_measured (room_on blocks.Takable volume.now) ≡ true → is_met_extents (cost_of (needs_extents 1) (room_on blocks.Takable volume.now)) spare ≡ true → IsTrue result }
-{
-    if !fit_changes(volume, spare, filled) {
-        return false;
-    }
     let room = volume.room(FreeBlocks::Takable);
     if !is_measured(&room) {
         return false;
@@ -83,19 +63,18 @@ fn can_store_run<P: SectorSpace>(volume: &Volume, _space: &P, spare: u64, filled
 }
 
 /// Whether a file with this fork, of any number of extents, can get so many nodes more now: they fill blocks that are free in a row, and
-/// there is room to put what is changed, with the overflow records of its fork, of which each has an extent in use, or one may be without.
+/// there is room to put what is changed, with the overflow records of its fork.
 pub(crate) fn can_grow_spread<P: SectorSpace>(
     volume: &Volume,
     space: &P,
     file: &TreeFile,
     fork: ForkRecord,
     more: u32,
-    filled: bool,
 ) -> bool
     requires unchanged { volume.now.map.changed ≡ none (sectors_for (length volume.now.map.used)) }
     ensures sure { IsTrue result → CanGrowSpread more file.now fork volume.now (P.SectorView.space space.now) }
-    ensures fits { IsTrue filled → is_measured (room_on blocks.Takable volume.now) ≡ true → SpreadFits more file.now fork volume.now (P.SectorView.space space.now) → length volume.now.map.used * file.now.per_block ≤ (P.SectorView.space space.now).sectors → IsTrue result }
-    ensures records { IsTrue result → HasRoomBehind (IsTrue filled) more file.now volume.now (P.SectorView.space space.now) }
+    ensures fits { is_measured (room_on blocks.Takable volume.now) ≡ true → SpreadFits more file.now fork volume.now (P.SectorView.space space.now) → length volume.now.map.used * file.now.per_block ≤ (P.SectorView.space space.now).sectors → IsTrue result }
+    ensures records { IsTrue result → HasRoomBehind more file.now volume.now (P.SectorView.space space.now) }
 {
     if file.per_block() == 0 {
         return false;
@@ -115,5 +94,5 @@ pub(crate) fn can_grow_spread<P: SectorSpace>(
     if spare < sectors {
         return false;
     }
-    can_store_run(volume, space, spare - sectors, filled)
+    can_store_run(volume, space, spare - sectors)
 }

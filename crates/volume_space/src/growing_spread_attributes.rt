@@ -3,10 +3,8 @@ ghost use Rattle.std.specs.Prelude.{◌≡◌, ◌⊎◌, ◌<◌, ◌≤◌, �
 ghost use Rattle.std.specs.List.{Contains};
 ghost use Rattle.sector_disk.specs.Lists.{Content};
 ghost use Rattle.btree_node.specs.Keys.{IsExtentKey, extent_cmp, is_eight_extents};
-ghost use Rattle.btree_node.specs.Store.{HasRoom};
 ghost use Rattle.btree_node.specs.TreeFile.{extents_form};
 ghost use Rattle.btree_edit.specs.Causes.{HasTroubleCause};
-ghost use Rattle.btree_edit.specs.Editing.{edit_writes};
 ghost use Rattle.btree_edit.specs.Edits.{EditRoom};
 ghost use Rattle.btree_file.specs.Frame.{FollowsOn};
 ghost use Rattle.btree_file.specs.Standing.{HoldsTree, pairs_in};
@@ -20,8 +18,7 @@ ghost use Rattle.overflow.specs.Reading.{HasExtents};
 ghost use Rattle.overflow.specs.Records.{eight_at};
 ghost use Rattle.volume_space.specs.Growing.{HeadGrows, IsOwnOrFree, KeepsForks, LengthensAttributes, blocks_filled, nodes_load, run_load};
 ghost use Rattle.volume_space.specs.Mapping.{changed_sectors};
-ghost use Rattle.volume_space.specs.Recording.{AreFilled};
-ghost use Rattle.volume_space.specs.SpreadGrowth.{CanGrowSpread, GoesOnInRun, HasRoomBehind, StandsButOver, TakesBlocks, growth_room_with};
+ghost use Rattle.volume_space.specs.SpreadGrowth.{CanGrowSpread, GoesOnInRun, HasRoomBehind, StandsButOver, TakesBlocks, growth_room_spread};
 ghost use Rattle.volume_space.specs.Spreading.{edits_load};
 ghost use Rattle.volume_space.specs.Standing.{HoldsOn};
 ghost use Rattle.volume_space.specs.declared.ahead.WhichTree.TheVariants as which;
@@ -63,7 +60,6 @@ fn lengthen_attributes_spread<P: SectorSpace>(
     ensures but { OnOk result (StandsButOver attributes_id volume.new (P.SectorView.space space.new)) }
     ensures lengthens { IsTrue (P.SectorView.space space.old).tells → OnOk result (LengthensAttributes more volume.old volume.new (P.SectorView.space space.old) (P.SectorView.space space.new)) }
     ensures records { IsTrue (P.SectorView.space space.old).tells → OnOk result (HasExtents (overflow_in_volume (lists_of volume.new (P.SectorView.space space.new).content)) attributes_id data_kind volume.old.attributes.file.fork) }
-    ensures overflow { IsTrue (P.SectorView.space space.old).tells → OnOk result (overflow_in_volume (lists_of volume.new (P.SectorView.space space.new).content) ≡ overflow_in_volume (lists_of volume.old (P.SectorView.space space.old).content)) }
     ensures extents { volume.new.extents ≡ volume.old.extents }
     ensures held { volume.new.map.held ≡ volume.old.map.held }
     ensures size { length volume.new.map.used ≡ length volume.old.map.used }
@@ -102,7 +98,6 @@ fn store_attributes_run<P: SectorSpace>(
     requires longer { IsTrue (P.SectorView.space space.old).tells → GoesOnInRun before.now volume.old.attributes.file.fork }
     requires head { IsTrue (P.SectorView.space space.old).tells → volume.old.header.attributes_fork.extents ≡ eight_at volume.old.attributes.file.fork 0 }
     requires one { (names : List ℕ) → IsTrue (P.SectorView.space space.old).tells → EditRoom 1 10 (state_of names volume.old.extents.file (P.SectorView.space space.old)) }
-    requires light { (IsTrue (P.SectorView.space space.old).tells → AreFilled (lists_of volume.old (P.SectorView.space space.old).content) attributes_id (length before.now)) ⊎ ((names : List ℕ) → HasRoom (2 * edit_writes volume.old.extents.file.shape.depth) (state_of names volume.old.extents.file (P.SectorView.space space.old))) }
     ensures stands { OnOk result (StandsOver volume.new (P.SectorView.space space.new)) }
     ensures service { IsInService volume.new (P.SectorView.space space.new) }
     ensures rest { volume.new ≡ record volume.old { extents = volume.new.extents } }
@@ -111,9 +106,8 @@ fn store_attributes_run<P: SectorSpace>(
     ensures follows { FollowsOn volume.old.extents.file volume.new.extents.file (P.SectorView.space space.old) (P.SectorView.space space.new) }
     ensures tree { IsTrue (P.SectorView.space space.old).tells → OnOk result (HoldsTree extents_form IsExtentKey is_eight_extents extent_cmp volume.new.extents.file (P.SectorView.space space.new).content) }
     ensures stores { IsTrue (P.SectorView.space space.old).tells → OnOk result (StoresFork attributes_id data_kind volume.old.attributes.file.fork (pairs_in (sectors_of_tree volume.old.extents.file) (P.SectorView.space space.old).content) (pairs_in (sectors_of_tree volume.old.extents.file) (P.SectorView.space space.new).content)) }
-    // Told, it puts no more than the load counts for two edits of the extents overflow file, and for one where each overflow record has an extent in use.
-    ensures spent_any { IsTrue (P.SectorView.space space.old).tells → (P.SectorView.space space.old).spare ≤ (P.SectorView.space space.new).spare + edits_load volume.old.extents.file.shape 2 }
-    ensures spent_filled { IsTrue (P.SectorView.space space.old).tells → AreFilled (lists_of volume.old (P.SectorView.space space.old).content) attributes_id (length before.now) → (P.SectorView.space space.old).spare ≤ (P.SectorView.space space.new).spare + edits_load volume.old.extents.file.shape 1 }
+    // Told, it puts no more than the load counts for an edit of the extents overflow file.
+    ensures spent { IsTrue (P.SectorView.space space.old).tells → (P.SectorView.space space.old).spare ≤ (P.SectorView.space space.new).spare + edits_load volume.old.extents.file.shape 1 }
     ensures below { P.SectorView.follows space.old space.new }
     ensures cause { HasTroubleCause (P.SectorView.space space.old).faults (P.SectorView.space space.new).faults result }
 {
@@ -146,7 +140,7 @@ pub(crate) fn grow_attributes_spread<P: SectorSpace>(
     requires settled { IsTrue (P.SectorView.space space.old).tells → IsSettled volume.old (P.SectorView.space space.old).content }
     requires there { IsTrue (has_attributes volume.old.header) }
     requires can { CanGrowSpread more volume.old.attributes.file volume.old.header.attributes_fork volume.old (P.SectorView.space space.old) }
-    requires records { HasRoomBehind (IsTrue (P.SectorView.space space.old).tells → AreFilled (lists_of volume.old (P.SectorView.space space.old).content) attributes_id (length volume.old.attributes.file.fork)) more volume.old.attributes.file volume.old (P.SectorView.space space.old) }
+    requires records { HasRoomBehind more volume.old.attributes.file volume.old (P.SectorView.space space.old) }
     // Only the journal's sectors are closed.
     requires closed { IsTrue (P.SectorView.space space.old).tells → (at : ℕ) → (P.SectorView.space space.old).closed at → IsJournalSector (P.SectorView.space space.old).content at }
     ensures stands { OnOk result (StandsOver volume.new (P.SectorView.space space.new)) }
@@ -168,9 +162,8 @@ pub(crate) fn grow_attributes_spread<P: SectorSpace>(
     ensures touches { (committed : Content) → Touches committed (λ s. Contains (own_sectors volume.new) s) (P.SectorView.space space.old) (P.SectorView.space space.new) }
     // What is its own besides lies in blocks that were free.
     ensures gained { IsTrue (P.SectorView.space space.old).tells → (s : ℕ) → Contains (own_sectors volume.new) s → IsOwnOrFree volume.old s }
-    // Told, it puts no more than such a growth with two edits of the extents overflow file, and with one where each overflow record has an extent in use.
-    ensures spent_any { IsTrue (P.SectorView.space space.old).tells → (P.SectorView.space space.old).spare ≤ (P.SectorView.space space.new).spare + growth_room_with 2 which.Attributes more volume.old }
-    ensures spent_filled { IsTrue (P.SectorView.space space.old).tells → AreFilled (lists_of volume.old (P.SectorView.space space.old).content) attributes_id (length volume.old.attributes.file.fork) → (P.SectorView.space space.old).spare ≤ (P.SectorView.space space.new).spare + growth_room_with 1 which.Attributes more volume.old }
+    // Told, it puts no more than such a growth with an edit of the extents overflow file.
+    ensures spent { IsTrue (P.SectorView.space space.old).tells → (P.SectorView.space space.old).spare ≤ (P.SectorView.space space.new).spare + growth_room_spread which.Attributes more volume.old }
     ensures below { P.SectorView.follows space.old space.new }
     ensures cause { HasTroubleCause (P.SectorView.space space.old).faults (P.SectorView.space space.new).faults result }
 {

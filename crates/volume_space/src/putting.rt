@@ -1,5 +1,5 @@
 //! Data put into a file of a volume in service.
-ghost use Rattle.std.specs.Prelude.{◌≡◌, ◌⊎◌, ◌<◌, ◌≤◌, ◌+◌, ◌-◌, ◌*◌, ◌/◌, ◌%◌, ◌^◌, ℕ, Some, true, false, max, min, nat_le, IsTrue, IfNone, IfOk, IfSome, OnOk, length, slice_index};
+ghost use Rattle.std.specs.Prelude.{◌≡◌, ◌⊎◌, ◌<◌, ◌≤◌, ◌+◌, ◌-◌, ◌*◌, ◌/◌, ◌%◌, ◌^◌, ℕ, Some, true, false, max, min, nat_le, IsTrue, IfNone, IfOk, IfSome, OnOk, length};
 ghost use Rattle.std.specs.List.{Contains};
 ghost use Rattle.sector_disk.specs.Lists.{Content};
 ghost use Rattle.sector_disk.specs.Space.{SameSpace};
@@ -14,7 +14,7 @@ ghost use Rattle.flag_rows.specs.Bits.{count_set, sectors_for};
 ghost use Rattle.flag_rows.specs.Runs.{fewest_of};
 ghost use Rattle.hfs_model.specs.declared.plain.PlainNode.{PlainNode};
 ghost use Rattle.hfs_volume.specs.TreeOf.{tree_of};
-ghost use Rattle.hfs_volume.specs.Weight.{Data, file_extents, free_runs, needs_cut};
+ghost use Rattle.hfs_volume.specs.Weight.{Data, free_runs, needs_cut};
 ghost use Rattle.hfs_volume.specs.Aside.{IsJournalSector};
 ghost use Rattle.volume_cost.specs.Sizes.{AreSmall};
 ghost use Rattle.volume_base.specs.Changing.{catalog_node};
@@ -32,14 +32,13 @@ ghost use Rattle.volume_space.specs.Spreading.{edits_load, is_met_extents};
 ghost use Rattle.volume_space.specs.Standing.{HoldsOn};
 ghost use Rattle.volume_base.specs.Standing.{IsSettled, StandsOver, own_sectors};
 ghost use Rattle.volume_base.specs.Touching.{Touches};
-ghost use Rattle.volume_space.specs.Writing.{AreHad, IsAt, IsSureToPut, IsToldFile, PlacesData, PutsAt, PutsValue, are_apart, blocks_put, can_put, cost_to_put, data_load, ends_before, extents_in, fork_with, fresh_runs, has_more, is_apart_from, is_data_met, is_put_met, is_put_now, may_overflow, most_extents, needs_of_put, put_load, record_with, records_load, spread_put_load};
+ghost use Rattle.volume_space.specs.Writing.{AreHad, IsAt, IsSureToPut, IsToldFile, PlacesData, PutsAt, PutsValue, are_apart, blocks_put, can_put, cost_to_put, data_load, ends_before, extents_in, fork_with, has_more, is_apart_from, is_data_met, is_put_met, is_put_now, may_overflow, most_extents, needs_of_put, put_load, record_with, records_load, spread_put_load};
 
 use crate::growing::first_eight;
 use crate::mapping::put_map;
-use crate::recorded::count_records;
 use crate::resizing::with_change;
 use crate::spilling::spill;
-use crate::storing::{count_edits, is_met, store_later};
+use crate::storing::{count_edits, count_records, is_met, store_later};
 use alloc_bitmap::Bitmap;
 use cat_records::{CatRecord, FileRecord};
 use fork_map::ExtentList;
@@ -684,7 +683,7 @@ fn data_fork<P: SectorSpace>(
     ensures cause { HasTroubleCause (P.SectorView.space space.old).faults (P.SectorView.space space.new).faults result }
 {
     let list = data_extents(volume, alloc, space, file)?;
-    let records = count_records(volume, space, file.fields.id, &list)?;
+    let records = count_records(list.len());
     Ok(DataFork { list, records })
 }
 

@@ -20,7 +20,7 @@ ghost use Rattle.hfs_volume.specs.Records.{overflow_of};
 ghost use Rattle.overflow.specs.Reading.{HasExtents, fork_records};
 ghost use Rattle.overflow.specs.Room.{HasStoreRoom, edits_for};
 ghost use Rattle.volume_cost.specs.Sizes.{AreSmall};
-ghost use Rattle.volume_space.specs.Cutting.{IsForkOf, changes_in, kind_of, spread_load};
+ghost use Rattle.volume_space.specs.Cutting.{IsForkOf, kind_of, spread_load};
 ghost use Rattle.volume_base.specs.Lists.{lists_of};
 ghost use Rattle.volume_base.specs.Looking.{ReadsVolume};
 ghost use Rattle.volume_base.specs.Reading.{HasFile};
@@ -66,15 +66,15 @@ pub(crate) fn is_user_id(id: u32) -> bool
     16 <= id
 }
 
-/// How many nodes two changes of records put at most in a tree with these numbers.
-pub(crate) fn count_nodes(shape: TreeShape) -> u64
-    ensures { result ≡ min (2 * edit_writes shape.depth) shape.total }
+/// How many nodes a change of a record puts at most in a tree with these numbers, which adds none.
+fn count_nodes(shape: TreeShape) -> u64
+    ensures { result ≡ min (edit_writes shape.depth) shape.total }
 {
-    (8 * (u64::from(shape.depth) + 1) + 8).min(u64::from(shape.total))
+    (4 * (u64::from(shape.depth) + 1) + 4).min(u64::from(shape.total))
 }
 
 /// Whether so many nodes of so many sectors can be put.
-pub(crate) fn fit_nodes(node: u64, nodes: u64, spare: u64) -> bool
+fn fit_nodes(node: u64, nodes: u64, spare: u64) -> bool
     ensures { IsTrue result → nodes ≤ spare / node }
 {
     if node == 0 {
@@ -109,13 +109,20 @@ pub(crate) fn is_met(cost: Cost, spare: u64) -> bool
 }
 
 /// An eighth of a number, rounded up.
-pub(crate) fn eighths(number: u64) -> u64
+fn eighths(number: u64) -> u64
     ensures { result ≡ parts_for number 8 }
 {
     if number == 0 {
         return 0;
     }
     (number - 1) / 8 + 1
+}
+
+/// How many overflow records a fork of so many extents has: each has an extent in use.
+pub(crate) fn count_records(extents: usize) -> u64
+    ensures { result ≡ overflow_records extents }
+{
+    eighths((extents as u64).saturating_sub(8))
 }
 
 /// How many edits at most make so many overflow records of a fork those of so many extents, and one at least; none where there are too many.
@@ -204,33 +211,23 @@ pub(crate) fn store_records<P: SectorSpace>(
     store_fork(alloc, &mut on, desk, id, kind, old, new)
 }
 
-/// How many nodes the changes of records that a cut makes put at most in a tree with these numbers.
-fn count_cut_nodes(shape: TreeShape, emptied: bool) -> u64
-    ensures { result ≡ min (changes_in emptied * edit_writes shape.depth) shape.total }
-{
-    if emptied {
-        return count_nodes(shape);
-    }
-    (4 * (u64::from(shape.depth) + 1) + 4).min(u64::from(shape.total))
-}
-
-/// How many sectors of the extents overflow file the changes that a cut makes put at most.
-pub(crate) fn count_spread_sectors(volume: &Volume, emptied: bool) -> u64
-    ensures same { result ≡ spread_load emptied volume.now }
+/// How many sectors of the extents overflow file the change that a cut makes puts at most.
+pub(crate) fn count_spread_sectors(volume: &Volume) -> u64
+    ensures same { result ≡ spread_load volume.now }
     ensures few { result < 2 ^ 60 }
 {
     let shape = volume.extents.file.shape();
-    u64::from(shape.node_size / 512) * count_cut_nodes(shape, emptied)
+    u64::from(shape.node_size / 512) * count_nodes(shape)
 }
 
-/// Whether there is room for the changes of overflow records that a cut makes, which add none.
-pub(crate) fn fits_spread<P: SectorSpace>(volume: &Volume, space: &P, emptied: bool) -> bool
-    ensures { IsTrue result → (names : List ℕ) → HasRoom (changes_in emptied * edit_writes volume.now.extents.file.shape.depth) (state_of names volume.now.extents.file (P.SectorView.space space.now)) }
+/// Whether there is room for the change of an overflow record that a cut makes, which adds none.
+pub(crate) fn fits_spread<P: SectorSpace>(volume: &Volume, space: &P) -> bool
+    ensures { IsTrue result → (names : List ℕ) → HasRoom (edit_writes volume.now.extents.file.shape.depth) (state_of names volume.now.extents.file (P.SectorView.space space.now)) }
 {
     let shape = volume.extents.file.shape();
     fit_nodes(
         u64::from(shape.node_size / 512),
-        count_cut_nodes(shape, emptied),
+        count_nodes(shape),
         space.spare(),
     )
 }

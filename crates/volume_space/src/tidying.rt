@@ -290,8 +290,7 @@ pub fn tidy<P: SectorSpace>(
     ensures used { KeepsUsed volume.old volume.new }
     // On a fault too, it puts sectors of its own alone, whatever was committed last.
     ensures touches { (committed : Content) → Touches committed (λ s. Contains (own_sectors volume.old) s) (P.SectorView.space space.old) (P.SectorView.space space.new) }
-    // On a fault too, it puts no more sectors than the next step puts at most; and than its load, but where a cut is of a fork that has an
-    // overflow record without an extent in use.
+    // On a fault too, it puts no more sectors than the next step puts at most, and than its load.
     ensures spent { IsTrue (P.SectorView.space space.old).tells → PutsNext (capacity_of volume.old) (shrunk_of volume.old) (volume_of (P.SectorView.space space.old).content) (P.SectorView.space space.old).spare (P.SectorView.space space.new).spare }
     ensures loads { IsTrue (P.SectorView.space space.old).tells → TakesNextLoad (capacity_of volume.old) (shrunk_of volume.old) (volume_of (P.SectorView.space space.old).content) (P.SectorView.space space.old).spare (P.SectorView.space space.new).spare }
     ensures below { P.SectorView.follows space.old space.new }

@@ -13,7 +13,7 @@ ghost use Rattle.hfs_volume.specs.Forks.{parts_for};
 ghost use Rattle.hfs_volume.specs.Links.{orphans_of};
 ghost use Rattle.hfs_volume.specs.Reclaim.{Reclaim, has_surplus_left, least};
 ghost use Rattle.hfs_volume.specs.Records.{id_in, is_link_type, is_thread};
-ghost use Rattle.volume_runs.specs.Rest.{IsHeldUp, cut_puts, cuts_emptied, has_empty_record};
+ghost use Rattle.volume_runs.specs.Rest.{IsHeldUp};
 ghost use Rattle.volume_space.specs.Cutting.{IsCut, IsForkOf, IsNextCut, KeepsUsed, MayGive, blocks_left, kind_of, surplus_in};
 ghost use Rattle.volume_base.specs.Cutting.{IsCutOf, fork_at};
 ghost use Rattle.volume_base.specs.Keeping.{shrunk_of};
@@ -25,13 +25,11 @@ ghost use Rattle.volume_base.specs.Standing.{IsSettled, StandsOver, own_sectors}
 ghost use Rattle.volume_base.specs.Touching.{Touches};
 
 use crate::cutting::{ForkKind, cut_fork, cut_of, fits_cut, fork_of};
-use crate::emptied::whole_fork;
 use crate::orphans::is_link;
-use crate::storing::is_user_id;
+use crate::storing::{fork_extents, is_user_id};
 use crate::tidying::{Tidying, grows_none, tidy_unshrunk};
 use cat_records::{CatRecord, FileRecord};
 use fork_map::ExtentList;
-use hfs_volume::Room;
 use hx_bytes::Trouble;
 use sector_disk::SectorSpace;
 use std::alloc::Global;
@@ -133,40 +131,12 @@ pub(crate) fn has_id(rec: &CatRecord, id: u32) -> bool
     }
 }
 
-/// The sectors that a cut puts at most, with two changes of the extents overflow file.
-fn count_cut_sectors(room: &Room) -> u64
-    ensures { result ≡ cut_puts 2 room.now }
-{
-    let extents = room.trees[0];
-    let node = u64::from(room.trees[1].node_size / 512);
-    let map = (u64::from(room.total) + 4095) / 4096;
-    let nodes = (2 * (4 * (u64::from(extents.depth) + 1) + 4)).min(u64::from(extents.nodes));
-    1 + node + map.min(10) + u64::from(extents.node_size / 512) * nodes
-}
-
-/// Whether so many sectors are more than a transaction holds.
-fn exceeds(load: u64, capacity: u64) -> bool
-    ensures { result ≡ nat_lt capacity load }
-{
-    capacity < load
-}
-
-/// Whether the journal has room for a cut, by its cost; and by what it puts at most, where the fork has an overflow record without an extent in use.
-fn affords_cut(volume: &Volume, emptied: bool) -> bool
+/// Whether the journal has room for a cut.
+fn affords_cut(volume: &Volume) -> bool
     ensures affords { (content : Content) → IsSettled volume.now content → IsTrue result → (step : Reclaim) → IsCut step → AffordsStep (capacity_of volume.now) content step }
-    ensures held_up { (content : Content) → IsSettled volume.now content → result ≡ false → (step : Reclaim) → IsCut step → emptied ≡ cuts_emptied (volume_of content) step → IsHeldUp (capacity_of volume.now) (volume_of content) step }
+    ensures held_up { (content : Content) → IsSettled volume.now content → result ≡ false → (step : Reclaim) → IsCut step → IsHeldUp (capacity_of volume.now) (volume_of content) step }
 {
-    let all = volume.room(FreeBlocks::All);
-    if !grows_none(cut_cost(&all)) {
-        return false;
-    }
-    if !emptied {
-        return true;
-    }
-    if exceeds(count_cut_sectors(&all), all.capacity) {
-        return false;
-    }
-    true
+    grows_none(cut_cost(&volume.room(FreeBlocks::All)))
 }
 
 /// Cuts this of a file's fork, where nothing is missing for it.
@@ -178,7 +148,6 @@ fn tidy_part<P: SectorSpace>(
     file: &FileRecord,
     surplus: Surplus,
     list: &ExtentList,
-    emptied: bool,
     cut: &Cut,
 ) -> Result<Tidying, Trouble>
     requires stands { StandsOver volume.old (P.SectorView.space space.old) }
@@ -191,7 +160,6 @@ fn tidy_part<P: SectorSpace>(
     requires user { (entry.now.parent ≡ 2) × (is_private_name entry.now.name ≡ true) → ⊥ }
     requires number { 16 ≤ file.now.fields.id }
     requires list { IsTrue (P.SectorView.space space.old).tells → IsForkOf list.now (kind_of surplus.kind) file.now (P.SectorView.space space.old).content }
-    requires emptied { IsTrue (P.SectorView.space space.old).tells → emptied ≡ has_empty_record (volume_of (P.SectorView.space space.old).content) file.now.fields.id (kind_of surplus.kind) }
     requires cut { IsCutOf list.now (fork_at (kind_of surplus.kind) file.now) surplus.keep cut.now }
     requires gives { MayGive cut.now.goes volume.old }
     requires next { IsTrue (P.SectorView.space space.old).tells → IsNextCut (shrunk_of volume.old) (P.SectorView.space space.old).content (id_in entry.now.rec) (kind_of surplus.kind) surplus.keep }
@@ -205,10 +173,10 @@ fn tidy_part<P: SectorSpace>(
     ensures below { P.SectorView.follows space.old space.new }
     ensures cause { HasTroubleCause (P.SectorView.space space.old).faults (P.SectorView.space space.new).faults result }
 {
-    if !affords_cut(volume, emptied) {
+    if !affords_cut(volume) {
         return Ok(Tidying::Rest);
     }
-    if !fits_cut(volume, space, emptied) {
+    if !fits_cut(volume, space) {
         return Ok(Tidying::CommitFirst);
     }
     volume.keep();
@@ -222,7 +190,6 @@ fn tidy_part<P: SectorSpace>(
         kind,
         surplus.keep,
         list,
-        emptied,
         cut,
     )?;
     Ok(Tidying::Made)
@@ -237,7 +204,6 @@ fn tidy_extents<P: SectorSpace>(
     file: &FileRecord,
     surplus: Surplus,
     list: &ExtentList,
-    emptied: bool,
 ) -> Result<Tidying, Trouble>
     requires stands { StandsOver volume.old (P.SectorView.space space.old) }
     requires settled { IsTrue (P.SectorView.space space.old).tells → IsSettled volume.old (P.SectorView.space space.old).content }
@@ -249,7 +215,6 @@ fn tidy_extents<P: SectorSpace>(
     requires user { (entry.now.parent ≡ 2) × (is_private_name entry.now.name ≡ true) → ⊥ }
     requires number { 16 ≤ file.now.fields.id }
     requires list { IsTrue (P.SectorView.space space.old).tells → IsForkOf list.now (kind_of surplus.kind) file.now (P.SectorView.space space.old).content }
-    requires emptied { IsTrue (P.SectorView.space space.old).tells → emptied ≡ has_empty_record (volume_of (P.SectorView.space space.old).content) file.now.fields.id (kind_of surplus.kind) }
     requires next { IsTrue (P.SectorView.space space.old).tells → IsNextCut (shrunk_of volume.old) (P.SectorView.space space.old).content (id_in entry.now.rec) (kind_of surplus.kind) surplus.keep }
     ensures tidied { IsTrue (P.SectorView.space space.old).tells → IfOk result (λ came. TidiesAs came (capacity_of volume.old) (shrunk_of volume.old) (free_of volume.old.map) (P.SectorView.space space.old).spare (P.SectorView.space space.old).content (P.SectorView.space space.new).content) }
     ensures stands { OnOk result (StandsOver volume.new (P.SectorView.space space.new)) }
@@ -263,9 +228,7 @@ fn tidy_extents<P: SectorSpace>(
 {
     let fork = fork_of(surplus.kind, file);
     let cut = cut_of(volume, alloc, list, &fork, surplus.keep)?;
-    tidy_part(
-        volume, alloc, space, entry, file, surplus, list, emptied, &cut,
-    )
+    tidy_part(volume, alloc, space, entry, file, surplus, list, &cut)
 }
 
 /// Cuts a file's fork.
@@ -303,17 +266,8 @@ fn tidy_fork<P: SectorSpace>(
     if !is_user_id(file.fields.id) {
         return Err(Trouble::Memory);
     }
-    let whole = whole_fork(volume, alloc, space, file, surplus.kind)?;
-    tidy_extents(
-        volume,
-        alloc,
-        space,
-        entry,
-        file,
-        surplus,
-        &whole.list,
-        whole.emptied,
-    )
+    let list = fork_extents(volume, alloc, space, file, surplus.kind)?;
+    tidy_extents(volume, alloc, space, entry, file, surplus, &list)
 }
 
 /// Cuts a fork of the file that stands there.

@@ -22,7 +22,7 @@ ghost use Rattle.volume_space.specs.Spilling.{IsLaidOutAs};
 ghost use Rattle.volume_space.specs.Standing.{HoldsOn};
 ghost use Rattle.volume_base.specs.Standing.{IsSettled, StandsOver, own_sectors};
 ghost use Rattle.volume_base.specs.Touching.{Touches};
-ghost use Rattle.volume_space.specs.Writing.{HasData, IsFilled, is_data_met, is_put_now};
+ghost use Rattle.volume_space.specs.Writing.{HasData, is_data_met, is_put_now};
 
 use crate::putting::put_data;
 use hfs_language::{Facts, Path, Reply};
@@ -82,7 +82,7 @@ fn write_told<P: SectorSpace>(
     ensures service { IsInService volume.new (P.SectorView.space space.new) }
     ensures holds { (committed : Content) → HoldsOn committed volume.old → OnOk result (HoldsOn committed volume.new) }
     ensures touches { (committed : Content) → HoldsOn committed volume.old → IsLaidOutAs committed volume.old → Touches committed (λ s. Contains (own_sectors volume.old) s) (P.SectorView.space space.old) (P.SectorView.space space.new) }
-    ensures loads { IsTrue (P.SectorView.space space.old).tells → IsFilled (command.Write _path.now from value.now) (P.SectorView.space space.old).content → (n : ℕ) (grow : List ℕ) → weight_with volume.old.capacity (free_of volume.old.map) (volume_of (P.SectorView.space space.old).content) (tree_of (P.SectorView.space space.old).content) (command.Write _path.now from value.now) ≡ cost.Load n grow
+    ensures loads { IsTrue (P.SectorView.space space.old).tells → (n : ℕ) (grow : List ℕ) → weight_with volume.old.capacity (free_of volume.old.map) (volume_of (P.SectorView.space space.old).content) (tree_of (P.SectorView.space space.old).content) (command.Write _path.now from value.now) ≡ cost.Load n grow
         → (P.SectorView.space space.old).spare ≤ (P.SectorView.space space.new).spare + n }
     ensures space { SameSpace (P.SectorView.space space.old) (P.SectorView.space space.new) }
     ensures below { P.SectorView.follows space.old space.new }
@@ -130,7 +130,7 @@ fn lengthen_told<P: SectorSpace>(
     ensures service { IsInService volume.new (P.SectorView.space space.new) }
     ensures holds { (committed : Content) → HoldsOn committed volume.old → OnOk result (HoldsOn committed volume.new) }
     ensures touches { (committed : Content) → HoldsOn committed volume.old → IsLaidOutAs committed volume.old → Touches committed (λ s. Contains (own_sectors volume.old) s) (P.SectorView.space space.old) (P.SectorView.space space.new) }
-    ensures loads { IsTrue (P.SectorView.space space.old).tells → IsFilled (command.Trunc _path.now size) (P.SectorView.space space.old).content → (n : ℕ) (grow : List ℕ) → weight_with volume.old.capacity (free_of volume.old.map) (volume_of (P.SectorView.space space.old).content) (tree_of (P.SectorView.space space.old).content) (command.Trunc _path.now size) ≡ cost.Load n grow
+    ensures loads { IsTrue (P.SectorView.space space.old).tells → (n : ℕ) (grow : List ℕ) → weight_with volume.old.capacity (free_of volume.old.map) (volume_of (P.SectorView.space space.old).content) (tree_of (P.SectorView.space space.old).content) (command.Trunc _path.now size) ≡ cost.Load n grow
         → (P.SectorView.space space.old).spare ≤ (P.SectorView.space space.new).spare + n }
     ensures space { SameSpace (P.SectorView.space space.old) (P.SectorView.space space.new) }
     ensures below { P.SectorView.follows space.old space.new }
@@ -188,8 +188,8 @@ pub fn write<P: SectorSpace>(
     ensures holds { (committed : Content) → HoldsOn committed volume.old → OnOk result (HoldsOn committed volume.new) }
     // On a fault too, it puts sectors of its own alone, and spills into blocks that were free at the last commit.
     ensures touches { (committed : Content) → HoldsOn committed volume.old → IsLaidOutAs committed volume.old → Touches committed (λ s. Contains (own_sectors volume.old) s) (P.SectorView.space space.old) (P.SectorView.space space.new) }
-    // What its load names bounds the sectors that it puts, on a fault too, where each overflow record of the file has an extent in use.
-    ensures loads { IsTrue (P.SectorView.space space.old).tells → IsFilled (command.Write path.now from value.now) (P.SectorView.space space.old).content → (n : ℕ) (grow : List ℕ) → weight_with (capacity_of volume.old) (free_of volume.old.map) (volume_of (P.SectorView.space space.old).content) (tree_of (P.SectorView.space space.old).content) (command.Write path.now from value.now) ≡ cost.Load n grow
+    // What its load names bounds the sectors that it puts, on a fault too.
+    ensures loads { IsTrue (P.SectorView.space space.old).tells → (n : ℕ) (grow : List ℕ) → weight_with (capacity_of volume.old) (free_of volume.old.map) (volume_of (P.SectorView.space space.old).content) (tree_of (P.SectorView.space space.old).content) (command.Write path.now from value.now) ≡ cost.Load n grow
         → (P.SectorView.space space.old).spare ≤ (P.SectorView.space space.new).spare + n }
     ensures same { SameSpace (P.SectorView.space space.old) (P.SectorView.space space.new) }
     ensures below { P.SectorView.follows space.old space.new }
@@ -237,8 +237,8 @@ pub fn lengthen<P: SectorSpace>(
     ensures holds { (committed : Content) → HoldsOn committed volume.old → OnOk result (HoldsOn committed volume.new) }
     // On a fault too, it puts sectors of its own alone, and spills into blocks that were free at the last commit.
     ensures touches { (committed : Content) → HoldsOn committed volume.old → IsLaidOutAs committed volume.old → Touches committed (λ s. Contains (own_sectors volume.old) s) (P.SectorView.space space.old) (P.SectorView.space space.new) }
-    // What its load names bounds the sectors that it puts, on a fault too, where each overflow record of the file has an extent in use.
-    ensures loads { IsTrue (P.SectorView.space space.old).tells → IsFilled (command.Trunc path.now size) (P.SectorView.space space.old).content → (n : ℕ) (grow : List ℕ) → weight_with (capacity_of volume.old) (free_of volume.old.map) (volume_of (P.SectorView.space space.old).content) (tree_of (P.SectorView.space space.old).content) (command.Trunc path.now size) ≡ cost.Load n grow
+    // What its load names bounds the sectors that it puts, on a fault too.
+    ensures loads { IsTrue (P.SectorView.space space.old).tells → (n : ℕ) (grow : List ℕ) → weight_with (capacity_of volume.old) (free_of volume.old.map) (volume_of (P.SectorView.space space.old).content) (tree_of (P.SectorView.space space.old).content) (command.Trunc path.now size) ≡ cost.Load n grow
         → (P.SectorView.space space.old).spare ≤ (P.SectorView.space space.new).spare + n }
     ensures same { SameSpace (P.SectorView.space space.old) (P.SectorView.space space.new) }
     ensures below { P.SectorView.follows space.old space.new }

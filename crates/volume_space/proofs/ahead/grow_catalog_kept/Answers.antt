@@ -4,7 +4,7 @@ use Rattle.hfs_volume.specs.Forks.{per_block_of}
 use Rattle.volume_space.specs.Growing.{IsOwnOrFree, blocks_filled}
 use Rattle.volume_base.specs.Standing.{own_sectors}
 use Rattle.volume_base.specs.declared.volume.Volume.{Volume}
-use Rattle.volume_space.proofs.Filled.{short_fits}
+use Rattle.volume_space.proofs.ShortFits.{short_fits}
 use Rattle.volume_space.proofs.GrownAhead.{gained_before}
 use Rattle.volume_space.proofs.Sounding.{sound_here}
 use Rattle.volume_space.proofs.SpreadSpent.{spent_more}
@@ -51,25 +51,16 @@ returns-then-len-ge8-clause-spent g c few = absurd (omega (arith, few, c.if-len-
 pub returns-then-not-can_grow_catalog-clause-spread : goal.returns-then-not-can_grow_catalog-clause-spread
 returns-then-not-can_grow_catalog-clause-spread g c tells fits =
     let short : length c.args.volume.now.catalog.file.fork < 8 = omega (arith, c.if-len-ge8.false, c.len.ensures, ap (λ (l : List Extent). length l) c.fork.ensures) in
-    absurd (true≢false (sym (c.if-not-can_grow_catalog.ensures.fits tells (tt, short_fits c.args.more c.args.volume.now.catalog.file c.args.volume.now.header.catalog_fork c.args.volume.now (g.P.SectorView.space c.args.space.now) short fits.1))))
+    absurd (true≢false (sym (c.if-not-can_grow_catalog.ensures.fits tells (tt, short_fits c.args.more c.args.volume.now.catalog.file c.args.volume.now.header.catalog_fork c.args.volume.now (g.P.SectorView.space c.args.space.now) short fits))))
 
 pub returns-then-len-ge8-clause-spread : goal.returns-then-len-ge8-clause-spread
-returns-then-len-ge8-clause-spread g c tells fits = c.grow_catalog_of_eight.ensures.sure tells fits.0 fits.1
+returns-then-len-ge8-clause-spread g c tells fits = c.grow_catalog_of_eight.ensures.sure tells fits
 
-pub returns-clause-spent_any : goal.returns-clause-spent_any
-returns-clause-spent_any g c tells = spent_more 2 which.Catalog c.args.more c.args.volume.now (g.P.SectorView.space c.args.space.now) (g.P.SectorView.space c.grow_catalog.new.space) c.grow_catalog.ensures.spent
+pub returns-clause-spent_spread : goal.returns-clause-spent_spread
+returns-clause-spent_spread g c tells = spent_more which.Catalog c.args.more c.args.volume.now (g.P.SectorView.space c.args.space.now) (g.P.SectorView.space c.grow_catalog.new.space) c.grow_catalog.ensures.spent
 
-pub returns-clause-spent_filled : goal.returns-clause-spent_filled
-returns-clause-spent_filled g c tells filled = spent_more 1 which.Catalog c.args.more c.args.volume.now (g.P.SectorView.space c.args.space.now) (g.P.SectorView.space c.grow_catalog.new.space) c.grow_catalog.ensures.spent
+pub returns-in_err-grow_catalog-clause-spent_spread : goal.returns-in_err-grow_catalog-clause-spent_spread
+returns-in_err-grow_catalog-clause-spent_spread g c tells = spent_more which.Catalog c.args.more c.args.volume.now (g.P.SectorView.space c.args.space.now) (g.P.SectorView.space c.grow_catalog.new.space) c.grow_catalog.ensures.spent
 
-pub returns-in_err-grow_catalog-clause-spent_any : goal.returns-in_err-grow_catalog-clause-spent_any
-returns-in_err-grow_catalog-clause-spent_any g c tells = spent_more 2 which.Catalog c.args.more c.args.volume.now (g.P.SectorView.space c.args.space.now) (g.P.SectorView.space c.grow_catalog.new.space) c.grow_catalog.ensures.spent
-
-pub returns-in_err-grow_catalog-clause-spent_filled : goal.returns-in_err-grow_catalog-clause-spent_filled
-returns-in_err-grow_catalog-clause-spent_filled g c tells filled = spent_more 1 which.Catalog c.args.more c.args.volume.now (g.P.SectorView.space c.args.space.now) (g.P.SectorView.space c.grow_catalog.new.space) c.grow_catalog.ensures.spent
-
-pub returns-then-len-ge8-clause-spent_any : goal.returns-then-len-ge8-clause-spent_any
-returns-then-len-ge8-clause-spent_any g c tells = c.grow_catalog_of_eight.ensures.spent_any tells
-
-pub returns-then-len-ge8-clause-spent_filled : goal.returns-then-len-ge8-clause-spent_filled
-returns-then-len-ge8-clause-spent_filled g c tells filled = c.grow_catalog_of_eight.ensures.spent_filled tells filled
+pub returns-then-len-ge8-clause-spent_spread : goal.returns-then-len-ge8-clause-spent_spread
+returns-then-len-ge8-clause-spent_spread g c tells = c.grow_catalog_of_eight.ensures.spent tells

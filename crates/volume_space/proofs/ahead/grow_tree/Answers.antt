@@ -1,15 +1,14 @@
 use Rattle.volume_base.specs.declared.volume.Tree.{Tree}
 use Rattle.std.proofs.Common.{◌<◌, ◌≤◌, length, arith, ◌+◌, sym, ◌∙◌, subst, ⊎_elim}
 use Rattle.std.specs.Prelude.{IfOk}
-use Rattle.volume_space.specs.Growing.{GoesAhead, GrowthFits, HasFilledRecords, IsOwnOrFree, WantsFirst, file_of, growth_room}
-use Rattle.volume_space.specs.SpreadGrowth.{SpreadGrowthFits, growth_room_with}
+use Rattle.volume_space.specs.Growing.{GoesAhead, GrowthFits, IsOwnOrFree, WantsFirst, file_of, growth_room}
+use Rattle.volume_space.specs.SpreadGrowth.{SpreadGrowthFits, growth_room_spread}
 use Rattle.volume_space.specs.declared.ahead.Growth.{Growth}
-use Rattle.volume_space.specs.declared.ahead.Growth.TheVariants as growing
 use Rattle.volume_space.specs.declared.ahead.WhichTree.{WhichTree}
 use Rattle.volume_space.specs.declared.ahead.WhichTree.TheVariants as which
 use Rattle.volume_space.proofs.GrowthFitted.{wanted_fits, wanted_loads}
 use Rattle.volume_space.proofs.SpreadSpent.{spent_more}
-use Rattle.volume_space.proofs.WhenKept.{fits_kept, free_kept, holds_kept, load_kept, load_kept_with, on_ok, records_kept, settled_kept, spread_kept, stands_kept, touches_those, unchanged_kept}
+use Rattle.volume_space.proofs.WhenKept.{fits_kept, free_kept, holds_kept, load_kept, load_kept_spread, on_ok, settled_kept, spread_kept, stands_kept, touches_those, unchanged_kept}
 use Rattle.volume_space.proofs.ahead.grow_tree.Goals as goal
 
 pub grow_extents_kept-requires-clause-stands : goal.grow_extents_kept-requires-clause-stands
@@ -138,50 +137,35 @@ returns-in-Catalog-clause-spread g c tells fits = c.grow_catalog_kept.ensures.sp
 pub returns-in-Attributes-clause-spread : goal.returns-in-Attributes-clause-spread
 returns-in-Attributes-clause-spread g c tells fits = c.grow_attributes_kept.ensures.spread tells (spread_kept c.args.volume.now c.keep.new.self c.keep.ensures which.Attributes c.args.more (g.P.SectorView.space c.args.space.now) (subst (λ (t : WhichTree). SpreadGrowthFits t c.args.more c.args.volume.now (g.P.SectorView.space c.args.space.now)) c.in-Attributes.is fits))
 
-pub returns-in-Extents-clause-spent_any : goal.returns-in-Extents-clause-spent_any
-returns-in-Extents-clause-spent_any g c tells =
-    subst (λ (t : WhichTree). (g.P.SectorView.space c.args.space.now).spare ≤ (g.P.SectorView.space c.grow_extents_kept.new.space).spare + growth_room_with 2 t c.args.more c.args.volume.now) (sym c.in-Extents.is)
-    (subst (λ n. (g.P.SectorView.space c.args.space.now).spare ≤ (g.P.SectorView.space c.grow_extents_kept.new.space).spare + n) (load_kept_with c.args.volume.now c.keep.new.self c.keep.ensures 2 which.Extents c.args.more) (spent_more 2 which.Extents c.args.more c.keep.new.self (g.P.SectorView.space c.args.space.now) (g.P.SectorView.space c.grow_extents_kept.new.space) c.grow_extents_kept.ensures.spent))
+pub returns-in-Extents-clause-spent_spread : goal.returns-in-Extents-clause-spent_spread
+returns-in-Extents-clause-spent_spread g c tells =
+    subst (λ (t : WhichTree). (g.P.SectorView.space c.args.space.now).spare ≤ (g.P.SectorView.space c.grow_extents_kept.new.space).spare + growth_room_spread t c.args.more c.args.volume.now) (sym c.in-Extents.is)
+    (subst (λ n. (g.P.SectorView.space c.args.space.now).spare ≤ (g.P.SectorView.space c.grow_extents_kept.new.space).spare + n) (load_kept_spread c.args.volume.now c.keep.new.self c.keep.ensures which.Extents c.args.more) (spent_more which.Extents c.args.more c.keep.new.self (g.P.SectorView.space c.args.space.now) (g.P.SectorView.space c.grow_extents_kept.new.space) c.grow_extents_kept.ensures.spent))
 
-pub returns-in-Extents-clause-spent_filled : goal.returns-in-Extents-clause-spent_filled
-returns-in-Extents-clause-spent_filled g c tells filled =
-    subst (λ (t : WhichTree). (g.P.SectorView.space c.args.space.now).spare ≤ (g.P.SectorView.space c.grow_extents_kept.new.space).spare + growth_room_with 1 t c.args.more c.args.volume.now) (sym c.in-Extents.is)
-    (subst (λ n. (g.P.SectorView.space c.args.space.now).spare ≤ (g.P.SectorView.space c.grow_extents_kept.new.space).spare + n) (load_kept_with c.args.volume.now c.keep.new.self c.keep.ensures 1 which.Extents c.args.more) (spent_more 1 which.Extents c.args.more c.keep.new.self (g.P.SectorView.space c.args.space.now) (g.P.SectorView.space c.grow_extents_kept.new.space) c.grow_extents_kept.ensures.spent))
+pub returns-in-Catalog-clause-spent_spread : goal.returns-in-Catalog-clause-spent_spread
+returns-in-Catalog-clause-spent_spread g c tells =
+    subst (λ (t : WhichTree). (g.P.SectorView.space c.args.space.now).spare ≤ (g.P.SectorView.space c.grow_catalog_kept.new.space).spare + growth_room_spread t c.args.more c.args.volume.now) (sym c.in-Catalog.is)
+    (subst (λ n. (g.P.SectorView.space c.args.space.now).spare ≤ (g.P.SectorView.space c.grow_catalog_kept.new.space).spare + n) (load_kept_spread c.args.volume.now c.keep.new.self c.keep.ensures which.Catalog c.args.more) (c.grow_catalog_kept.ensures.spent_spread tells))
 
-pub returns-in-Catalog-clause-spent_any : goal.returns-in-Catalog-clause-spent_any
-returns-in-Catalog-clause-spent_any g c tells =
-    subst (λ (t : WhichTree). (g.P.SectorView.space c.args.space.now).spare ≤ (g.P.SectorView.space c.grow_catalog_kept.new.space).spare + growth_room_with 2 t c.args.more c.args.volume.now) (sym c.in-Catalog.is)
-    (subst (λ n. (g.P.SectorView.space c.args.space.now).spare ≤ (g.P.SectorView.space c.grow_catalog_kept.new.space).spare + n) (load_kept_with c.args.volume.now c.keep.new.self c.keep.ensures 2 which.Catalog c.args.more) (c.grow_catalog_kept.ensures.spent_any tells))
-
-pub returns-in-Catalog-clause-spent_filled : goal.returns-in-Catalog-clause-spent_filled
-returns-in-Catalog-clause-spent_filled g c tells filled =
-    subst (λ (t : WhichTree). (g.P.SectorView.space c.args.space.now).spare ≤ (g.P.SectorView.space c.grow_catalog_kept.new.space).spare + growth_room_with 1 t c.args.more c.args.volume.now) (sym c.in-Catalog.is)
-    (subst (λ n. (g.P.SectorView.space c.args.space.now).spare ≤ (g.P.SectorView.space c.grow_catalog_kept.new.space).spare + n) (load_kept_with c.args.volume.now c.keep.new.self c.keep.ensures 1 which.Catalog c.args.more) (c.grow_catalog_kept.ensures.spent_filled tells (records_kept c.args.volume.now c.keep.new.self c.keep.ensures which.Catalog (g.P.SectorView.space c.args.space.now).content (subst (λ (t : WhichTree). HasFilledRecords t c.args.volume.now (g.P.SectorView.space c.args.space.now).content) c.in-Catalog.is filled))))
-
-pub returns-in-Attributes-clause-spent_any : goal.returns-in-Attributes-clause-spent_any
-returns-in-Attributes-clause-spent_any g c tells =
-    subst (λ (t : WhichTree). (g.P.SectorView.space c.args.space.now).spare ≤ (g.P.SectorView.space c.grow_attributes_kept.new.space).spare + growth_room_with 2 t c.args.more c.args.volume.now) (sym c.in-Attributes.is)
-    (subst (λ n. (g.P.SectorView.space c.args.space.now).spare ≤ (g.P.SectorView.space c.grow_attributes_kept.new.space).spare + n) (load_kept_with c.args.volume.now c.keep.new.self c.keep.ensures 2 which.Attributes c.args.more) (c.grow_attributes_kept.ensures.spent_any tells))
-
-pub returns-in-Attributes-clause-spent_filled : goal.returns-in-Attributes-clause-spent_filled
-returns-in-Attributes-clause-spent_filled g c tells filled =
-    subst (λ (t : WhichTree). (g.P.SectorView.space c.args.space.now).spare ≤ (g.P.SectorView.space c.grow_attributes_kept.new.space).spare + growth_room_with 1 t c.args.more c.args.volume.now) (sym c.in-Attributes.is)
-    (subst (λ n. (g.P.SectorView.space c.args.space.now).spare ≤ (g.P.SectorView.space c.grow_attributes_kept.new.space).spare + n) (load_kept_with c.args.volume.now c.keep.new.self c.keep.ensures 1 which.Attributes c.args.more) (c.grow_attributes_kept.ensures.spent_filled tells (records_kept c.args.volume.now c.keep.new.self c.keep.ensures which.Attributes (g.P.SectorView.space c.args.space.now).content (subst (λ (t : WhichTree). HasFilledRecords t c.args.volume.now (g.P.SectorView.space c.args.space.now).content) c.in-Attributes.is filled))))
+pub returns-in-Attributes-clause-spent_spread : goal.returns-in-Attributes-clause-spent_spread
+returns-in-Attributes-clause-spent_spread g c tells =
+    subst (λ (t : WhichTree). (g.P.SectorView.space c.args.space.now).spare ≤ (g.P.SectorView.space c.grow_attributes_kept.new.space).spare + growth_room_spread t c.args.more c.args.volume.now) (sym c.in-Attributes.is)
+    (subst (λ n. (g.P.SectorView.space c.args.space.now).spare ≤ (g.P.SectorView.space c.grow_attributes_kept.new.space).spare + n) (load_kept_spread c.args.volume.now c.keep.new.self c.keep.ensures which.Attributes c.args.more) (c.grow_attributes_kept.ensures.spent_spread tells))
 
 pub returns-in-Extents-clause-loads : goal.returns-in-Extents-clause-loads
 returns-in-Extents-clause-loads g c tells wants = ⊎_elim
     (λ short. omega (arith, returns-in-Extents-clause-spent g c short.0, short.1))
-    (λ filled. omega (arith, returns-in-Extents-clause-spent_filled g c tells filled.0, filled.1))
+    (λ spread. omega (arith, returns-in-Extents-clause-spent_spread g c tells, spread))
     (wanted_loads c.args.volume.now (g.P.SectorView.space c.args.space.now) c.requires.stands tells (c.requires.settled tells) c.a_load_says_enough.ensures c.trees_grow_by_enough.ensures c.args.tree c.args.more wants)
 
 pub returns-in-Catalog-clause-loads : goal.returns-in-Catalog-clause-loads
 returns-in-Catalog-clause-loads g c tells wants = ⊎_elim
     (λ short. omega (arith, returns-in-Catalog-clause-spent g c short.0, short.1))
-    (λ filled. omega (arith, returns-in-Catalog-clause-spent_filled g c tells filled.0, filled.1))
+    (λ spread. omega (arith, returns-in-Catalog-clause-spent_spread g c tells, spread))
     (wanted_loads c.args.volume.now (g.P.SectorView.space c.args.space.now) c.requires.stands tells (c.requires.settled tells) c.a_load_says_enough.ensures c.trees_grow_by_enough.ensures c.args.tree c.args.more wants)
 
 pub returns-in-Attributes-clause-loads : goal.returns-in-Attributes-clause-loads
 returns-in-Attributes-clause-loads g c tells wants = ⊎_elim
     (λ short. omega (arith, returns-in-Attributes-clause-spent g c short.0, short.1))
-    (λ filled. omega (arith, returns-in-Attributes-clause-spent_filled g c tells filled.0, filled.1))
+    (λ spread. omega (arith, returns-in-Attributes-clause-spent_spread g c tells, spread))
     (wanted_loads c.args.volume.now (g.P.SectorView.space c.args.space.now) c.requires.stands tells (c.requires.settled tells) c.a_load_says_enough.ensures c.trees_grow_by_enough.ensures c.args.tree c.args.more wants)

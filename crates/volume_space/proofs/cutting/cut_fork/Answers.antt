@@ -1,19 +1,17 @@
 use Rattle.std.proofs.Common.{◌≡◌, ◌≤◌, ℕ, List, [], arith, map, sym, ◌∙◌, ap, subst}
-use Rattle.std.specs.Prelude.{OnOk, Contains, IsTrue}
+use Rattle.std.specs.Prelude.{Contains, IsTrue}
 use Rattle.hx_bytes.specs.declared.extents.Extent.{Extent}
 use Rattle.btree_node.specs.Keys.{IsExtentKey, extent_cmp, is_eight_extents}
 use Rattle.btree_node.specs.Levels.{Pair}
 use Rattle.btree_node.specs.TreeFile.{extents_form}
 use Rattle.btree_file.specs.State.{state_of}
 use Rattle.btree_file.proofs.StandingLaws.{pairs_held}
-use Rattle.cat_records.specs.declared.record.CatRecord.{CatRecord}
 use Rattle.cat_records.specs.declared.record.CatRecord.TheVariants.{File}
 use Rattle.catalog.specs.Pairs.{value_at}
 use Rattle.hfs_volume.specs.Changes.{with_fork}
-use Rattle.hfs_volume.specs.Content.{VolumeState, overflow_in_volume, volume_of}
+use Rattle.hfs_volume.specs.Content.{VolumeState}
 use Rattle.hfs_volume.specs.Entries.{AreSpelled}
 use Rattle.hfs_volume.specs.Records.{overflow_of}
-use Rattle.overflow.specs.Reading.{overflow_in_store}
 use Rattle.volume_base.specs.Changing.{ReplacesRecord, catalog_node}
 use Rattle.volume_space.specs.Cutting.{CutsFile, PutsGiven, kind_of}
 use Rattle.volume_base.specs.Cutting.{cut_fork_of, fork_at}
@@ -29,8 +27,8 @@ use Rattle.volume_space.proofs.CutWhole.{cut_whole}
 use Rattle.volume_base.proofs.FoundEntry.{ok_both, settled_spelled}
 use Rattle.volume_space.proofs.KeptUsed.{used_blocks, used_both}
 use Rattle.volume_base.proofs.Seeing.{cause_since}
-use Rattle.volume_space.proofs.SpreadFile.{blocks_stored, eight_in, few_stay, has_extents, has_file, kind_is, stays_in_use}
-use Rattle.volume_space.proofs.StoreRoom.{store_room_by, store_spent}
+use Rattle.volume_space.proofs.SpreadFile.{blocks_stored, eight_in, few_stay, has_extents, has_file, kind_is, stays_in_use, store_room}
+use Rattle.volume_space.proofs.StoreRoom.{store_spent}
 use Rattle.volume_space.proofs.cutting.cut_fork.Goals as goal
 
 -- ---- the overflow records
@@ -52,14 +50,14 @@ pub store_extents-requires-clause-room : goal.store_extents-requires-clause-room
 store_extents-requires-clause-room g c names tells =
     let before : IsTrue (g.P.SectorView.space c.args.space.now).tells = sym (c.put_back.ensures.touches []).same.tells ∙ tells in
     let holds = (c.in_ok-put_back.ensures.stands.stands tells).trees.extents in
-    store_room_by c.args.volume.now (g.P.SectorView.space c.args.space.now).content (c.requires.settled before) c.args.kind c.args.file.now
+    store_room c.args.volume.now (g.P.SectorView.space c.args.space.now).content (c.requires.settled before) c.args.kind c.args.file.now
     (has_file c.args.volume.now (g.P.SectorView.space c.args.space.now).content (c.requires.settled before) c.args.entry.now c.args.file.now (c.requires.there before) c.requires.is) (eight_in c.args.kind c.args.file.now c.requires.fits) c.args.list.now (c.requires.list before)
-    c.args.emptied c.args._keep c.args.cut.now c.requires.cut.last (state_of names c.put_back.new.volume.extents.file (g.P.SectorView.space c.put_back.new.space)) c.number_of.result c.number_of.ensures.same
+    c.args._keep c.args.cut.now c.requires.cut.last (state_of names c.put_back.new.volume.extents.file (g.P.SectorView.space c.put_back.new.space)) c.number_of.result c.number_of.ensures.same
     (ap (map overflow_of) (pairs_held extents_form IsExtentKey is_eight_extents extent_cmp names c.put_back.new.volume.extents.file (g.P.SectorView.space c.put_back.new.space) holds)
     ∙ ap (λ (l : VolumeState). map overflow_of l.overflow_pairs) (c.in_ok-put_back.ensures.puts before).lists
     ∙ ap (λ (x : Volume). map overflow_of (lists_of x (g.P.SectorView.space c.args.space.now).content).overflow_pairs) c.in_ok-put_back.ensures.gives
     ∙ sym (ap (λ (l : VolumeState). map overflow_of l.overflow_pairs) (c.requires.settled before).lists))
-    c.requires.number (c.requires.emptied before) (c.fits_spread.ensures c.if-not-fits_spread.false names)
+    c.requires.number (c.fits_spread.ensures c.if-not-fits_spread.false names)
 
 -- ---- the file's record
 
@@ -162,8 +160,8 @@ returns-in_err-store_extents-clause-spent g c tells =
     let between = (c.put_back.ensures.touches []).same.tells ∙ tells in
     let file_is = has_file c.args.volume.now (g.P.SectorView.space c.args.space.now).content (c.requires.settled tells) c.args.entry.now c.args.file.now (c.requires.there tells) c.requires.is in
     let stored = store_spent c.args.volume.now (g.P.SectorView.space c.args.space.now).content (c.requires.settled tells) c.args.kind c.args.file.now file_is (eight_in c.args.kind c.args.file.now c.requires.fits) c.args.list.now (c.requires.list tells)
-    c.args.emptied c.args._keep c.args.cut.now c.requires.cut.last c.put_back.new.volume (g.P.SectorView.space c.put_back.new.space) (c.in_ok-put_back.ensures.stands.stands between).trees.extents c.in_ok-put_back.ensures.gives (c.in_ok-put_back.ensures.puts tells)
-    c.number_of.result c.number_of.ensures.same c.requires.number (c.requires.emptied tells) (g.P.SectorView.space c.store_extents.new.space).spare (c.store_extents.ensures.light between) in
+    c.args._keep c.args.cut.now c.requires.cut.last c.put_back.new.volume (g.P.SectorView.space c.put_back.new.space) (c.in_ok-put_back.ensures.stands.stands between).trees.extents c.in_ok-put_back.ensures.gives (c.in_ok-put_back.ensures.puts tells)
+    c.number_of.result c.number_of.ensures.same c.requires.number (g.P.SectorView.space c.store_extents.new.space).spare (c.store_extents.ensures.light between) in
     omega (arith, c.put_back.ensures.spent, stored)
 
 pub returns-then-not-fits_update-clause-spent : goal.returns-then-not-fits_update-clause-spent
@@ -171,8 +169,8 @@ returns-then-not-fits_update-clause-spent g c tells =
     let between = (c.put_back.ensures.touches []).same.tells ∙ tells in
     let file_is = has_file c.args.volume.now (g.P.SectorView.space c.args.space.now).content (c.requires.settled tells) c.args.entry.now c.args.file.now (c.requires.there tells) c.requires.is in
     let stored = store_spent c.args.volume.now (g.P.SectorView.space c.args.space.now).content (c.requires.settled tells) c.args.kind c.args.file.now file_is (eight_in c.args.kind c.args.file.now c.requires.fits) c.args.list.now (c.requires.list tells)
-    c.args.emptied c.args._keep c.args.cut.now c.requires.cut.last c.put_back.new.volume (g.P.SectorView.space c.put_back.new.space) (c.in_ok-put_back.ensures.stands.stands between).trees.extents c.in_ok-put_back.ensures.gives (c.in_ok-put_back.ensures.puts tells)
-    c.number_of.result c.number_of.ensures.same c.requires.number (c.requires.emptied tells) (g.P.SectorView.space c.store_extents.new.space).spare (c.store_extents.ensures.light between) in
+    c.args._keep c.args.cut.now c.requires.cut.last c.put_back.new.volume (g.P.SectorView.space c.put_back.new.space) (c.in_ok-put_back.ensures.stands.stands between).trees.extents c.in_ok-put_back.ensures.gives (c.in_ok-put_back.ensures.puts tells)
+    c.number_of.result c.number_of.ensures.same c.requires.number (g.P.SectorView.space c.store_extents.new.space).spare (c.store_extents.ensures.light between) in
     omega (arith, c.put_back.ensures.spent, stored)
 
 pub returns-clause-spent : goal.returns-clause-spent
@@ -180,7 +178,7 @@ returns-clause-spent g c tells =
     let between = (c.put_back.ensures.touches []).same.tells ∙ tells in
     let file_is = has_file c.args.volume.now (g.P.SectorView.space c.args.space.now).content (c.requires.settled tells) c.args.entry.now c.args.file.now (c.requires.there tells) c.requires.is in
     let stored = store_spent c.args.volume.now (g.P.SectorView.space c.args.space.now).content (c.requires.settled tells) c.args.kind c.args.file.now file_is (eight_in c.args.kind c.args.file.now c.requires.fits) c.args.list.now (c.requires.list tells)
-    c.args.emptied c.args._keep c.args.cut.now c.requires.cut.last c.put_back.new.volume (g.P.SectorView.space c.put_back.new.space) (c.in_ok-put_back.ensures.stands.stands between).trees.extents c.in_ok-put_back.ensures.gives (c.in_ok-put_back.ensures.puts tells)
-    c.number_of.result c.number_of.ensures.same c.requires.number (c.requires.emptied tells) (g.P.SectorView.space c.store_extents.new.space).spare (c.store_extents.ensures.light between) in
+    c.args._keep c.args.cut.now c.requires.cut.last c.put_back.new.volume (g.P.SectorView.space c.put_back.new.space) (c.in_ok-put_back.ensures.stands.stands between).trees.extents c.in_ok-put_back.ensures.gives (c.in_ok-put_back.ensures.puts tells)
+    c.number_of.result c.number_of.ensures.same c.requires.number (g.P.SectorView.space c.store_extents.new.space).spare (c.store_extents.ensures.light between) in
     let node : catalog_node c.store_extents.new.volume ≡ catalog_node c.args.volume.now = ap (λ (x : Volume). catalog_node x) c.store_extents.ensures.rest ∙ ap (λ (x : Volume). catalog_node x) c.in_ok-put_back.ensures.gives in
     omega (arith, c.put_back.ensures.spent, stored, c.put_shorter.ensures.spent ((c.store_extents.ensures.touches []).same.tells ∙ between), node)

@@ -3,8 +3,8 @@ use Rattle.std.specs.List.{Contains}
 use Rattle.volume_base.specs.Room.{capacity_of}
 use Rattle.volume_base.specs.Touching.{Touches}
 use Rattle.volume_base.proofs.Commanding.{touches_both, touches_looks}
-use Rattle.volume_space.proofs.StepSpent.{ahead_spent, ahead_within}
-use Rattle.volume_space.proofs.CutShort.{path_behind}
+use Rattle.volume_space.proofs.StepSpent.{ahead_within, cut_behind}
+use Rattle.volume_space.proofs.CutShort.{short_behind}
 use Rattle.volume_space.proofs.KeptUsed.{used_both, used_read}
 use Rattle.volume_space.proofs.PastSizes.{ahead_behind}
 use Rattle.volume_base.proofs.Still.{own_still}
@@ -38,27 +38,27 @@ returns-in_err-told-clause-used g c = used_read c.args.volume.now c.facts.new.se
 
 pub returns-in-Ok-clause-short : goal.returns-in-Ok-clause-short
 returns-in-Ok-clause-short g c tells =
-    path_behind c.cut_told.result c.args.path.now (capacity_of c.facts.new.self) (capacity_of c.args.volume.now) (g.P.SectorView.space c.facts.new.space).spare (g.P.SectorView.space c.args.space.now).spare (g.P.SectorView.space c.facts.new.space).content (g.P.SectorView.space c.args.space.now).content
+    short_behind c.cut_told.result (capacity_of c.facts.new.self) (capacity_of c.args.volume.now) (g.P.SectorView.space c.facts.new.space).spare (g.P.SectorView.space c.args.space.now).spare (g.P.SectorView.space c.facts.new.space).content (g.P.SectorView.space c.args.space.now).content
     (c.facts.ensures.reads.looks.content tells) c.facts.ensures.reads.keeps.capacity c.facts.ensures.reads.looks.spare (c.cut_told.ensures.short (c.facts.ensures.reads.looks.same.tells ∙ tells))
 
 -- ---- what it puts
 
 pub returns-in-Ok-clause-spent : goal.returns-in-Ok-clause-spent
 returns-in-Ok-clause-spent g c tells =
-    ahead_spent c.args.path.now (g.P.SectorView.space c.args.space.now).content (g.P.SectorView.space c.facts.new.space).content (c.facts.ensures.reads.looks.content tells) (capacity_of c.args.volume.now) (capacity_of c.facts.new.self) c.facts.ensures.reads.keeps.capacity (g.P.SectorView.space c.args.space.now).spare (g.P.SectorView.space c.facts.new.space).spare c.facts.ensures.reads.looks.spare
+    cut_behind (g.P.SectorView.space c.args.space.now).content (g.P.SectorView.space c.facts.new.space).content (c.facts.ensures.reads.looks.content tells) (capacity_of c.args.volume.now) (capacity_of c.facts.new.self) c.facts.ensures.reads.keeps.capacity (g.P.SectorView.space c.args.space.now).spare (g.P.SectorView.space c.facts.new.space).spare c.facts.ensures.reads.looks.spare
     (g.P.SectorView.space c.cut_told.new.space).spare (c.cut_told.ensures.spent (c.facts.ensures.reads.looks.same.tells ∙ tells))
 
 pub returns-in-Err-clause-spent : goal.returns-in-Err-clause-spent
-returns-in-Err-clause-spent g c tells node is = omega (arith, c.facts.ensures.reads.looks.spare)
+returns-in-Err-clause-spent g c tells = omega (arith, c.facts.ensures.reads.looks.spare)
 
 pub returns-in_err-told-clause-spent : goal.returns-in_err-told-clause-spent
-returns-in_err-told-clause-spent g c tells node is = omega (arith, c.facts.ensures.reads.looks.spare)
+returns-in_err-told-clause-spent g c tells = omega (arith, c.facts.ensures.reads.looks.spare)
 
 pub returns-in-Ok-clause-loads : goal.returns-in-Ok-clause-loads
-returns-in-Ok-clause-loads g c tells = ahead_within (capacity_of c.args.volume.now) c.args.path.now (g.P.SectorView.space c.args.space.now).content (g.P.SectorView.space c.args.space.now).spare (g.P.SectorView.space c.cut_told.new.space).spare (returns-in-Ok-clause-spent g c tells)
+returns-in-Ok-clause-loads g c tells = ahead_within (capacity_of c.args.volume.now) (volume_of (g.P.SectorView.space c.args.space.now).content) (g.P.SectorView.space c.args.space.now).spare (g.P.SectorView.space c.cut_told.new.space).spare (returns-in-Ok-clause-spent g c tells)
 
 pub returns-in-Err-clause-loads : goal.returns-in-Err-clause-loads
-returns-in-Err-clause-loads g c tells = ahead_within (capacity_of c.args.volume.now) c.args.path.now (g.P.SectorView.space c.args.space.now).content (g.P.SectorView.space c.args.space.now).spare (g.P.SectorView.space c.facts.new.space).spare (returns-in-Err-clause-spent g c tells)
+returns-in-Err-clause-loads g c tells = ahead_within (capacity_of c.args.volume.now) (volume_of (g.P.SectorView.space c.args.space.now).content) (g.P.SectorView.space c.args.space.now).spare (g.P.SectorView.space c.facts.new.space).spare (returns-in-Err-clause-spent g c tells)
 
 pub returns-in_err-told-clause-loads : goal.returns-in_err-told-clause-loads
-returns-in_err-told-clause-loads g c tells = ahead_within (capacity_of c.args.volume.now) c.args.path.now (g.P.SectorView.space c.args.space.now).content (g.P.SectorView.space c.args.space.now).spare (g.P.SectorView.space c.facts.new.space).spare (returns-in_err-told-clause-spent g c tells)
+returns-in_err-told-clause-loads g c tells = ahead_within (capacity_of c.args.volume.now) (volume_of (g.P.SectorView.space c.args.space.now).content) (g.P.SectorView.space c.args.space.now).spare (g.P.SectorView.space c.facts.new.space).spare (returns-in_err-told-clause-spent g c tells)

@@ -1,4 +1,4 @@
-use Rattle.std.proofs.Common.{◌≡◌, ℕ, refl, sym, ◌∙◌, subst, arith}
+use Rattle.std.proofs.Common.{◌≡◌, ℕ, refl, ◌∙◌, subst, arith}
 use Rattle.std.specs.Prelude.{IfNone, IfSome, Option}
 use Rattle.hfs_language.specs.declared.refusal.Refusal.{Refusal}
 use Rattle.alloc_bitmap.specs.Map.{free_of}
@@ -11,7 +11,7 @@ use Rattle.volume_base.specs.Room.{capacity_of}
 use Rattle.volume_space.specs.declared.tidying.Tidying.{Tidying}
 use Rattle.volume_base.proofs.Commanding.{touches_none}
 use Rattle.volume_space.proofs.StepSpent.{past_spent}
-use Rattle.volume_space.proofs.CutShort.{rest_ahead, short_ahead}
+use Rattle.volume_space.proofs.CutShort.{no_rest, short_ahead}
 use Rattle.volume_space.proofs.KeptUsed.{used_none}
 use Rattle.volume_space.proofs.NextCut.{shrunk_next}
 use Rattle.volume_space.proofs.PastSizes.{past_next, sized_id}
@@ -59,9 +59,9 @@ returns-in-CommitFirst-clause-short g c tells =
 pub returns-in-Rest-clause-short : goal.returns-in-Rest-clause-short
 returns-in-Rest-clause-short g c tells =
     let tidied = subst (λ (k : Option ℕ × Tidying). TidiesAs k.1 (capacity_of c.args.volume.now) k.0 (free_of c.args.volume.now.map) (g.P.SectorView.space c.args.space.now).spare (g.P.SectorView.space c.args.space.now).content (g.P.SectorView.space c.tidy_cut.new.space).content) (λ i. (c.requires.shrunk i, c.in-Rest.is i)) (c.in_ok-tidy_cut.ensures.tidied tells) in
-    rest_ahead (capacity_of c.args.volume.now) (g.P.SectorView.space c.args.space.now).spare c.args.id (volume_of (g.P.SectorView.space c.args.space.now).content) (past_next c.args.volume.now (g.P.SectorView.space c.args.space.now).content (c.requires.settled tells) c.args.entry.now (c.requires.there tells) c.args.id c.args.size c.args.entry.now.rec refl c.requires.file c.args.surplus c.requires.some)
+    absurd (no_rest (capacity_of c.args.volume.now) (g.P.SectorView.space c.args.space.now).spare c.args.id (volume_of (g.P.SectorView.space c.args.space.now).content) (past_next c.args.volume.now (g.P.SectorView.space c.args.space.now).content (c.requires.settled tells) c.args.entry.now (c.requires.there tells) c.args.id c.args.size c.args.entry.now.rec refl c.requires.file c.args.surplus c.requires.some)
     (subst (λ (o : Option Refusal). IfNone o ((why : Refusal) → cut_cost (room_with (capacity_of c.args.volume.now) (free_blocks (volume_of (g.P.SectorView.space c.args.space.now).content)) (volume_of (g.P.SectorView.space c.args.space.now).content)) ≡ cost.Refused why → ⊥)) c.in_default.is
-    (c.refused_cut.ensures.none (g.P.SectorView.space c.args.space.now).content (c.requires.settled tells))) tidied.1
+    (c.refused_cut.ensures.none (g.P.SectorView.space c.args.space.now).content (c.requires.settled tells))) tidied.1)
 
 -- ---- what it puts
 

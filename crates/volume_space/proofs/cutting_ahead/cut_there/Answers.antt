@@ -84,14 +84,14 @@ returns-in_err-entry-clause-service g c = c.entry.ensures.stands.service
 
 pub returns-in-Some-clause-short : goal.returns-in-Some-clause-short
 returns-in-Some-clause-short g c tells =
-    short_behind c.cut_entry.result c.args.id (capacity_of c.entry.new.self) (capacity_of c.args.volume.now) (g.P.SectorView.space c.entry.new.space).spare (g.P.SectorView.space c.args.space.now).spare (g.P.SectorView.space c.entry.new.space).content (g.P.SectorView.space c.args.space.now).content
+    short_behind c.cut_entry.result (capacity_of c.entry.new.self) (capacity_of c.args.volume.now) (g.P.SectorView.space c.entry.new.space).spare (g.P.SectorView.space c.args.space.now).spare (g.P.SectorView.space c.entry.new.space).content (g.P.SectorView.space c.args.space.now).content
     (c.entry.ensures.reads.looks.content tells) c.entry.ensures.reads.keeps.capacity c.entry.ensures.reads.looks.spare (c.cut_entry.ensures.short (c.entry.ensures.reads.looks.same.tells ∙ tells))
 
 -- ---- what it puts
 
 pub returns-in-Some-clause-spent : goal.returns-in-Some-clause-spent
 returns-in-Some-clause-spent g c tells =
-    cut_behind c.args.id (g.P.SectorView.space c.args.space.now).content (g.P.SectorView.space c.entry.new.space).content (c.entry.ensures.reads.looks.content tells) (capacity_of c.args.volume.now) (capacity_of c.entry.new.self) c.entry.ensures.reads.keeps.capacity (g.P.SectorView.space c.args.space.now).spare (g.P.SectorView.space c.entry.new.space).spare c.entry.ensures.reads.looks.spare
+    cut_behind (g.P.SectorView.space c.args.space.now).content (g.P.SectorView.space c.entry.new.space).content (c.entry.ensures.reads.looks.content tells) (capacity_of c.args.volume.now) (capacity_of c.entry.new.self) c.entry.ensures.reads.keeps.capacity (g.P.SectorView.space c.args.space.now).spare (g.P.SectorView.space c.entry.new.space).spare c.entry.ensures.reads.looks.spare
     (g.P.SectorView.space c.cut_entry.new.space).spare (c.cut_entry.ensures.spent (c.entry.ensures.reads.looks.same.tells ∙ tells))
 
 pub returns-in-None-clause-spent : goal.returns-in-None-clause-spent

@@ -1,4 +1,4 @@
-use Rattle.std.proofs.Common.{refl, sym, ◌∙◌, ap, arith, subst}
+use Rattle.std.proofs.Common.{refl, sym, ◌∙◌, ap, arith}
 use Rattle.std.specs.Prelude.{◌&&◌, nat_lt, length}
 use Rattle.hfs_language.specs.declared.reply.Facts.{Facts}
 use Rattle.hfs_volume.specs.Content.{volume_of}
@@ -6,10 +6,6 @@ use Rattle.hfs_volume.specs.TreeOf.{tree_of}
 use Rattle.hfs_volume.specs.Weight.{has_surplus}
 use Rattle.volume_base.specs.Room.{capacity_of}
 use Rattle.volume_base.proofs.Commanding.{touches_none}
-use Rattle.hfs_model.specs.Step.{to_file}
-use Rattle.hfs_model.specs.declared.plain.PlainNode.{PlainNode}
-use Rattle.volume_space.specs.CuttingAhead.{PutsCut}
-use Rattle.volume_space.proofs.CutShort.{one_node, short_any, short_named}
 use Rattle.volume_space.proofs.KeptUsed.{used_none}
 use Rattle.volume_space.proofs.PastSizes.{cuts_longer, cuts_path, cuts_sized}
 use Rattle.volume_base.proofs.ToldFile.{about, told_node}
@@ -40,30 +36,10 @@ returns-then-not-is_longer-clause-used g c = used_none c.args.volume.now
 pub returns-then-not-is_longer-clause-service : goal.returns-then-not-is_longer-clause-service
 returns-then-not-is_longer-clause-service g c = c.requires.stands.service
 
-pub returns-clause-short : goal.returns-clause-short
-returns-clause-short g c tells =
-    let a = (g.P.SectorView.space c.args.space.now).content in
-    let it = told_node (tree_of a) c.args._path.now c.args.told.now (c.requires.told tells) in
-    let file = about (tree_of a) c.args._path.now c.args.told.now it (sym (ap (λ (f : Facts). f.folder) it.facts) ∙ c.if-told.false) in
-    short_any c.cut_file.result (capacity_of c.args.volume.now) (g.P.SectorView.space c.args.space.now).spare c.args._path.now a (λ node is.
-    short_named c.cut_file.result c.args.told.now.id node.id (capacity_of c.args.volume.now) (g.P.SectorView.space c.args.space.now).spare (volume_of a)
-    (sym file.id ∙ ap (λ (n : PlainNode). n.id) (one_node it.node node (to_file (tree_of a) c.args._path.now) file.file is)) (c.cut_file.ensures.short tells))
-
-pub returns-then-not-is_longer-clause-short : goal.returns-then-not-is_longer-clause-short
-returns-then-not-is_longer-clause-short g c tells node is = tt
-
 -- ---- what it puts
 
 pub returns-then-told-clause-spent : goal.returns-then-told-clause-spent
-returns-then-told-clause-spent g c tells node is = omega arith
+returns-then-told-clause-spent g c tells = omega arith
 
 pub returns-then-not-is_longer-clause-spent : goal.returns-then-not-is_longer-clause-spent
-returns-then-not-is_longer-clause-spent g c tells node is = omega arith
-
-pub returns-clause-spent : goal.returns-clause-spent
-returns-clause-spent g c tells node is =
-    let a = (g.P.SectorView.space c.args.space.now).content in
-    let it = told_node (tree_of a) c.args._path.now c.args.told.now (c.requires.told tells) in
-    let file = about (tree_of a) c.args._path.now c.args.told.now it (sym (ap (λ (f : Facts). f.folder) it.facts) ∙ c.if-told.false) in
-    subst (λ n. PutsCut (capacity_of c.args.volume.now) n (volume_of (g.P.SectorView.space c.args.space.now).content) (g.P.SectorView.space c.args.space.now).spare (g.P.SectorView.space c.cut_file.new.space).spare)
-    (sym file.id ∙ ap (λ (n : PlainNode). n.id) (one_node it.node node (to_file (tree_of a) c.args._path.now) file.file is)) (c.cut_file.ensures.spent tells)
+returns-then-not-is_longer-clause-spent g c tells = omega arith

@@ -25,4 +25,4 @@ returns-clause-sure g c is =
     }
 
 pub returns-clause-records : goal.returns-clause-records
-returns-clause-records g c is = subst (λ n. HasRoomForRun (IsTrue c.args.filled) c.args.volume.now n) (λ i. c.spare-spare.ensures i - c.count_growth_sectors-sectors.ensures i) (c.can_store_run.ensures.room is)
+returns-clause-records g c is = subst (λ n. HasRoomForRun c.args.volume.now n) (λ i. c.spare-spare.ensures i - c.count_growth_sectors-sectors.ensures i) (c.can_store_run.ensures.room is)

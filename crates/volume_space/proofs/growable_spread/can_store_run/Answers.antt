@@ -14,7 +14,4 @@ pub cost-requires-clause-extents : goal.cost-requires-clause-extents
 cost-requires-clause-extents g c = subst (λ (r : Room). IsNodeSize 512 (tree_at r 0)) (sym c.room-room.ensures) (extents_size c.args.volume.now (g.P.SectorView.space c.args._space.now) blocks.Takable)
 
 pub returns-clause-room : goal.returns-clause-room
-returns-clause-room g c is = record {
-  one = sym (c.is_met.ensures ∙ (λ i. is_met_extents ((c.cost.ensures ∙ (λ j. cost_of (c.needs_of_extents.ensures.same j) (c.room-room.ensures j))) i) c.args.spare)) ∙ is;
-  light = c.fit_changes.ensures.room c.if-not-fit_changes.false;
-}
+returns-clause-room g c is = sym (c.is_met.ensures ∙ (λ i. is_met_extents ((c.cost.ensures ∙ (λ j. cost_of (c.needs_of_extents.ensures.same j) (c.room-room.ensures j))) i) c.args.spare)) ∙ is

@@ -1,4 +1,4 @@
-use Rattle.std.proofs.Common.{◌≡◌, inl, inr, ⊎_elim, ℕ, ◌+◌, ◌-◌, ◌/◌, ◌++◌, List, [], ◌∷◌, length, min, not, refl, sym, ◌∙◌, ap, subst, arith}
+use Rattle.std.proofs.Common.{◌≡◌, inl, ℕ, ◌+◌, ◌-◌, ◌/◌, ◌++◌, List, [], ◌∷◌, length, min, not, refl, sym, ◌∙◌, ap, subst, arith}
 use Rattle.std.specs.Prelude.{Contains, IsTrue, Result, Err, OnOk}
 use Rattle.std.proofs.lemmas.List.Elements.{Contains-append_right}
 use Rattle.std.proofs.lemmas.List.Sums.{count_by-le-length}
@@ -24,8 +24,7 @@ use Rattle.hfs_volume.specs.Content.{overflow_in_volume}
 use Rattle.volume_base.specs.Lists.{lists_of}
 use Rattle.volume_space.specs.Growing.{TakesRun, growth_load}
 use Rattle.alloc_bitmap.specs.Map.{BlockMap}
-use Rattle.volume_space.proofs.Filled.{filled_later}
-use Rattle.volume_space.proofs.SpreadCalls.{edit_room_later, holds_then, light_room_later, touches_as}
+use Rattle.volume_space.proofs.SpreadCalls.{edit_room_later, holds_then, touches_as}
 use Rattle.volume_space.proofs.SpreadNumbers.{per_block_some, run_some}
 use Rattle.volume_space.proofs.SpreadCatalogWhole.{files_whole, grows_whole, head_whole, journal_whole, settled_whole, tree_whole, unchanged_whole}
 use Rattle.volume_space.proofs.growing_spread.grow_catalog_spread.Goals as goal
@@ -71,15 +70,7 @@ pub store_catalog_run-requires-clause-head : goal.store_catalog_run-requires-cla
 store_catalog_run-requires-clause-head g c told = ap (λ (u : Volume). u.header.catalog_fork.extents) (c.in_ok-lengthen_catalog_spread.ensures.lengthens (sym (c.lengthen_catalog_spread.ensures.touches []).same.tells ∙ told)).rest
 
 pub store_catalog_run-requires-clause-one : goal.store_catalog_run-requires-clause-one
-store_catalog_run-requires-clause-one g c names told = edit_room_later c.commands_have_room.ensures c.a_load_says_enough.ensures c.a_load_is_of_parts.ensures c.args.volume.now c.lengthen_catalog_spread.new.volume ((g.P.SectorView.space c.args.space.now).spare - growth_load c.args.volume.now c.args.volume.now.catalog.file c.args.more) (g.P.SectorView.space c.lengthen_catalog_spread.new.space) c.requires.records.one (omega (arith, c.requires.can.room, c.lengthen_catalog_spread.ensures.spent)) c.lengthen_catalog_spread.ensures.extents names told
-
-pub store_catalog_run-requires-clause-light : goal.store_catalog_run-requires-clause-light
-store_catalog_run-requires-clause-light g c = ⊎_elim
-    (λ filled. inl (λ told.
-    let tells = sym (c.lengthen_catalog_spread.ensures.touches []).same.tells ∙ told in
-    filled_later catalog_id (lists_of c.args.volume.now (g.P.SectorView.space c.args.space.now).content) (lists_of c.lengthen_catalog_spread.new.volume (g.P.SectorView.space c.lengthen_catalog_spread.new.space).content) c.args.volume.now.catalog.file.fork c.in_ok-before.before (c.in_ok-before.ensures ∙ c.fork.ensures) (c.in_ok-lengthen_catalog_spread.ensures.overflow tells) (filled tells)))
-    (λ fits. inr (λ names. light_room_later c.args.volume.now c.lengthen_catalog_spread.new.volume ((g.P.SectorView.space c.args.space.now).spare - growth_load c.args.volume.now c.args.volume.now.catalog.file c.args.more) (g.P.SectorView.space c.lengthen_catalog_spread.new.space) fits (omega (arith, c.requires.can.room, c.lengthen_catalog_spread.ensures.spent)) c.lengthen_catalog_spread.ensures.extents names))
-    c.requires.records.light
+store_catalog_run-requires-clause-one g c names told = edit_room_later c.commands_have_room.ensures c.a_load_says_enough.ensures c.a_load_is_of_parts.ensures c.args.volume.now c.lengthen_catalog_spread.new.volume ((g.P.SectorView.space c.args.space.now).spare - growth_load c.args.volume.now c.args.volume.now.catalog.file c.args.more) (g.P.SectorView.space c.lengthen_catalog_spread.new.space) c.requires.records (omega (arith, c.requires.can.room, c.lengthen_catalog_spread.ensures.spent)) c.lengthen_catalog_spread.ensures.extents names told
 
 pub put_map-requires-clause-stands : goal.put_map-requires-clause-stands
 put_map-requires-clause-stands g c = c.in_ok-store_catalog_run.ensures.stands
@@ -288,26 +279,14 @@ returns-in_err-lengthen_catalog_spread-clause-cause g c = let p = err_from_is_er
 pub returns-in_err-store_catalog_run-clause-cause : goal.returns-in_err-store_catalog_run-clause-cause
 returns-in_err-store_catalog_run-clause-cause g c = let p = err_from_is_err_and c.from_residual-in_err-store_catalog_run.result c.from_residual-in_err-store_catalog_run.ensures.1 in cause_on c.in_err-store_catalog_run.field-0.0 p.0 (g.P.SectorView.space c.args.space.now).faults (g.P.SectorView.space c.lengthen_catalog_spread.new.space).faults (g.P.SectorView.space c.store_catalog_run.new.space).faults c.from_residual-in_err-store_catalog_run.result p.1 p.2 c.lengthen_catalog_spread.ensures.cause.later c.in_err-store_catalog_run.ensures.cause
 
-pub returns-clause-spent_any : goal.returns-clause-spent_any
-returns-clause-spent_any g c tells = omega (arith, c.lengthen_catalog_spread.ensures.spent, c.store_catalog_run.ensures.spent_any ((c.lengthen_catalog_spread.ensures.touches []).same.tells ∙ tells), ap (λ (t : Tree). edits_load t.file.shape 2) c.lengthen_catalog_spread.ensures.extents, c.put_map.ensures.spent, c.put_header.ensures.spent, count_by-le-length (λ (s : ℕ). not ((g.P.SectorView.space c.store_catalog_run.new.space).put s)) (changed_sectors c.store_catalog_run.new.volume), same_map c.lengthen_catalog_spread.new.volume c.store_catalog_run.new.volume c.store_catalog_run.ensures.rest, c.in_ok-lengthen_catalog_spread.ensures.map)
+pub returns-clause-spent : goal.returns-clause-spent
+returns-clause-spent g c tells = omega (arith, c.lengthen_catalog_spread.ensures.spent, c.store_catalog_run.ensures.spent ((c.lengthen_catalog_spread.ensures.touches []).same.tells ∙ tells), ap (λ (t : Tree). edits_load t.file.shape 1) c.lengthen_catalog_spread.ensures.extents, c.put_map.ensures.spent, c.put_header.ensures.spent, count_by-le-length (λ (s : ℕ). not ((g.P.SectorView.space c.store_catalog_run.new.space).put s)) (changed_sectors c.store_catalog_run.new.volume), same_map c.lengthen_catalog_spread.new.volume c.store_catalog_run.new.volume c.store_catalog_run.ensures.rest, c.in_ok-lengthen_catalog_spread.ensures.map)
 
-pub returns-then-spare-sectors-clause-spent_any : goal.returns-then-spare-sectors-clause-spent_any
-returns-then-spare-sectors-clause-spent_any g c tells = omega (arith, c.lengthen_catalog_spread.ensures.spent, c.store_catalog_run.ensures.spent_any ((c.lengthen_catalog_spread.ensures.touches []).same.tells ∙ tells), ap (λ (t : Tree). edits_load t.file.shape 2) c.lengthen_catalog_spread.ensures.extents)
+pub returns-then-spare-sectors-clause-spent : goal.returns-then-spare-sectors-clause-spent
+returns-then-spare-sectors-clause-spent g c tells = omega (arith, c.lengthen_catalog_spread.ensures.spent, c.store_catalog_run.ensures.spent ((c.lengthen_catalog_spread.ensures.touches []).same.tells ∙ tells), ap (λ (t : Tree). edits_load t.file.shape 1) c.lengthen_catalog_spread.ensures.extents)
 
-pub returns-in_err-store_catalog_run-clause-spent_any : goal.returns-in_err-store_catalog_run-clause-spent_any
-returns-in_err-store_catalog_run-clause-spent_any g c tells = omega (arith, c.lengthen_catalog_spread.ensures.spent, c.store_catalog_run.ensures.spent_any ((c.lengthen_catalog_spread.ensures.touches []).same.tells ∙ tells), ap (λ (t : Tree). edits_load t.file.shape 2) c.lengthen_catalog_spread.ensures.extents)
+pub returns-in_err-store_catalog_run-clause-spent : goal.returns-in_err-store_catalog_run-clause-spent
+returns-in_err-store_catalog_run-clause-spent g c tells = omega (arith, c.lengthen_catalog_spread.ensures.spent, c.store_catalog_run.ensures.spent ((c.lengthen_catalog_spread.ensures.touches []).same.tells ∙ tells), ap (λ (t : Tree). edits_load t.file.shape 1) c.lengthen_catalog_spread.ensures.extents)
 
-pub returns-in_err-lengthen_catalog_spread-clause-spent_any : goal.returns-in_err-lengthen_catalog_spread-clause-spent_any
-returns-in_err-lengthen_catalog_spread-clause-spent_any g c tells = omega (arith, c.lengthen_catalog_spread.ensures.spent)
-
-pub returns-clause-spent_filled : goal.returns-clause-spent_filled
-returns-clause-spent_filled g c tells filled = omega (arith, c.lengthen_catalog_spread.ensures.spent, c.store_catalog_run.ensures.spent_filled ((c.lengthen_catalog_spread.ensures.touches []).same.tells ∙ tells) (filled_later catalog_id (lists_of c.args.volume.now (g.P.SectorView.space c.args.space.now).content) (lists_of c.lengthen_catalog_spread.new.volume (g.P.SectorView.space c.lengthen_catalog_spread.new.space).content) c.args.volume.now.catalog.file.fork c.in_ok-before.before (c.in_ok-before.ensures ∙ c.fork.ensures) (c.in_ok-lengthen_catalog_spread.ensures.overflow tells) filled), ap (λ (t : Tree). edits_load t.file.shape 1) c.lengthen_catalog_spread.ensures.extents, c.put_map.ensures.spent, c.put_header.ensures.spent, count_by-le-length (λ (s : ℕ). not ((g.P.SectorView.space c.store_catalog_run.new.space).put s)) (changed_sectors c.store_catalog_run.new.volume), same_map c.lengthen_catalog_spread.new.volume c.store_catalog_run.new.volume c.store_catalog_run.ensures.rest, c.in_ok-lengthen_catalog_spread.ensures.map)
-
-pub returns-then-spare-sectors-clause-spent_filled : goal.returns-then-spare-sectors-clause-spent_filled
-returns-then-spare-sectors-clause-spent_filled g c tells filled = omega (arith, c.lengthen_catalog_spread.ensures.spent, c.store_catalog_run.ensures.spent_filled ((c.lengthen_catalog_spread.ensures.touches []).same.tells ∙ tells) (filled_later catalog_id (lists_of c.args.volume.now (g.P.SectorView.space c.args.space.now).content) (lists_of c.lengthen_catalog_spread.new.volume (g.P.SectorView.space c.lengthen_catalog_spread.new.space).content) c.args.volume.now.catalog.file.fork c.in_ok-before.before (c.in_ok-before.ensures ∙ c.fork.ensures) (c.in_ok-lengthen_catalog_spread.ensures.overflow tells) filled), ap (λ (t : Tree). edits_load t.file.shape 1) c.lengthen_catalog_spread.ensures.extents)
-
-pub returns-in_err-store_catalog_run-clause-spent_filled : goal.returns-in_err-store_catalog_run-clause-spent_filled
-returns-in_err-store_catalog_run-clause-spent_filled g c tells filled = omega (arith, c.lengthen_catalog_spread.ensures.spent, c.store_catalog_run.ensures.spent_filled ((c.lengthen_catalog_spread.ensures.touches []).same.tells ∙ tells) (filled_later catalog_id (lists_of c.args.volume.now (g.P.SectorView.space c.args.space.now).content) (lists_of c.lengthen_catalog_spread.new.volume (g.P.SectorView.space c.lengthen_catalog_spread.new.space).content) c.args.volume.now.catalog.file.fork c.in_ok-before.before (c.in_ok-before.ensures ∙ c.fork.ensures) (c.in_ok-lengthen_catalog_spread.ensures.overflow tells) filled), ap (λ (t : Tree). edits_load t.file.shape 1) c.lengthen_catalog_spread.ensures.extents)
-
-pub returns-in_err-lengthen_catalog_spread-clause-spent_filled : goal.returns-in_err-lengthen_catalog_spread-clause-spent_filled
-returns-in_err-lengthen_catalog_spread-clause-spent_filled g c tells filled = omega (arith, c.lengthen_catalog_spread.ensures.spent)
+pub returns-in_err-lengthen_catalog_spread-clause-spent : goal.returns-in_err-lengthen_catalog_spread-clause-spent
+returns-in_err-lengthen_catalog_spread-clause-spent g c tells = omega (arith, c.lengthen_catalog_spread.ensures.spent)

@@ -25,7 +25,7 @@ use Rattle.volume_base.proofs.CatalogEdited.{catalog_open}
 use Rattle.volume_base.proofs.Commanding.{touches_none}
 use Rattle.volume_space.proofs.GrownCalls.{grown_apart, run_opens, touches_reading}
 use Rattle.volume_space.proofs.SpreadNumbers.{few_nodes, grow_room, per_block_some, run_inside, whole_nodes}
-use Rattle.volume_space.proofs.SpreadCatalogLengthened.{but_then, gained_then, has_then, overflow_then, lengthens_then, map_then, nodes_spent, own_failed, own_then, service_then, touches_then}
+use Rattle.volume_space.proofs.SpreadCatalogLengthened.{but_then, gained_then, has_then, lengthens_then, map_then, nodes_spent, own_failed, own_then, service_then, touches_then}
 use Rattle.volume_space.proofs.GrownRun.{same_held, same_length, used_still}
 use Rattle.volume_space.proofs.growing_spread.lengthen_catalog_spread.Goals as goal
 
@@ -139,16 +139,6 @@ returns-clause-records g c tells =
     let head = headed v c.in_ok-run.run' c.fork.result.now c.as_slice.result.now c.grow.new.self.fork c.with_catalog-volume.result c.with_catalog-volume.ensures.same c.as_slice.ensures c.fork.ensures in
     subst (λ h. HasExtents (overflow_in_volume (lists_of (made v c.take_run.new.map c.grow.new.self h) b.content)) catalog_id data_kind v.catalog.file.fork) (sym head)
     (has_then c.args.more v a b c.requires.stands c.requires.settled c.requires.can c.requires.closed c.in_ok-run.run' c.take_run.new.map takes c.grow.new.self c.in_ok-grow.ensures.grown c.grow.ensures.frame tells)
-
-pub returns-clause-overflow : goal.returns-clause-overflow
-returns-clause-overflow g c tells =
-    let v = c.args.volume.now in
-    let a : Space = g.P.SectorView.space c.args.space.now in
-    let b : Space = g.P.SectorView.space c.grow.new.space in
-    let takes = taken v c.args.more c.count_blocks-blocks.result c.in_ok-run.run' c.take_run.new.map c.count_blocks-blocks.ensures c.in_ok-run.ensures.takes in
-    let head = headed v c.in_ok-run.run' c.fork.result.now c.as_slice.result.now c.grow.new.self.fork c.with_catalog-volume.result c.with_catalog-volume.ensures.same c.as_slice.ensures c.fork.ensures in
-    subst (λ h. overflow_in_volume (lists_of (made v c.take_run.new.map c.grow.new.self h) b.content) ≡ overflow_in_volume (lists_of v a.content)) (sym head)
-    (overflow_then c.args.more v a b c.requires.stands c.requires.settled c.requires.can c.requires.closed c.in_ok-run.run' c.take_run.new.map takes c.grow.new.self c.in_ok-grow.ensures.grown c.grow.ensures.frame tells)
 
 pub returns-clause-extents : goal.returns-clause-extents
 returns-clause-extents g c = refl
@@ -320,14 +310,8 @@ returns-in_err-grow-clause-lengthens g c tells = let p = err_from_is_err_and c.f
 pub returns-in_err-run-clause-records : goal.returns-in_err-run-clause-records
 returns-in_err-run-clause-records g c tells = let p = err_from_is_err_and c.from_residual.result c.from_residual.ensures.1 in off_ok _ c.from_residual.result p.0 p.1
 
-pub returns-in_err-run-clause-overflow : goal.returns-in_err-run-clause-overflow
-returns-in_err-run-clause-overflow g c tells = let p = err_from_is_err_and c.from_residual.result c.from_residual.ensures.1 in off_ok _ c.from_residual.result p.0 p.1
-
 pub returns-in_err-grow-clause-records : goal.returns-in_err-grow-clause-records
 returns-in_err-grow-clause-records g c tells = let p = err_from_is_err_and c.from_residual-in_err-grow.result c.from_residual-in_err-grow.ensures.1 in off_ok _ c.from_residual-in_err-grow.result p.0 p.1
-
-pub returns-in_err-grow-clause-overflow : goal.returns-in_err-grow-clause-overflow
-returns-in_err-grow-clause-overflow g c tells = let p = err_from_is_err_and c.from_residual-in_err-grow.result c.from_residual-in_err-grow.ensures.1 in off_ok _ c.from_residual-in_err-grow.result p.0 p.1
 
 pub returns-in_err-run-clause-map : goal.returns-in_err-run-clause-map
 returns-in_err-run-clause-map g c = let p = err_from_is_err_and c.from_residual.result c.from_residual.ensures.1 in off_ok _ c.from_residual.result p.0 p.1

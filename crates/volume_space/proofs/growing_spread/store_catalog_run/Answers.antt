@@ -1,4 +1,4 @@
-use Rattle.std.proofs.Common.{◌≡◌, List, map, inl, inr, ⊎_elim, refl, sym, ◌∙◌, subst, arith}
+use Rattle.std.proofs.Common.{◌≡◌, List, map, inl, refl, sym, ◌∙◌, subst, arith}
 use Rattle.std.specs.Prelude.{IsTrue, Result, Err, OnOk}
 use Rattle.hx_bytes.specs.declared.extents.Extent.{Extent}
 use Rattle.hx_bytes.specs.declared.faults.Trouble.{Trouble}
@@ -16,9 +16,8 @@ use Rattle.overflow.specs.Room.{HasStoreRoom}
 use Rattle.volume_base.specs.Spreading.{StoresFork}
 use Rattle.volume_space.proofs.ExtentsEdited.{own_edited, serves_edited, touches_extents}
 use Rattle.volume_space.proofs.SpreadEdited.{open_but, stands_stored, stores_used, used_in_run}
-use Rattle.volume_space.proofs.Filled.{filled_in_store}
 use Rattle.volume_space.proofs.SpreadRoom.{room_for_run}
-use Rattle.volume_space.proofs.SpreadSpent.{one_stored, two_stored}
+use Rattle.volume_space.proofs.SpreadSpent.{one_stored}
 use Rattle.volume_space.proofs.growing_spread.store_catalog_run.Goals as goal
 
 -- what is said of an answer holds of none
@@ -56,8 +55,7 @@ store_records-requires-clause-room g c names tells =
     let has : HasExtents (overflow_in_store (state_of names c.args.volume.now.extents.file (g.P.SectorView.space c.args.space.now))) catalog_id data_kind c.args.before.now = subst (λ (l : List Pair). HasExtents (map overflow_of l) catalog_id data_kind c.args.before.now)
     (sym (pairs_held extents_form IsExtentKey is_eight_extents extent_cmp names c.args.volume.now.extents.file (g.P.SectorView.space c.args.space.now) held)) (c.requires.records tells) in
     subst (λ (l : List Extent). HasStoreRoom (state_of names c.args.volume.now.extents.file (g.P.SectorView.space c.args.space.now)) catalog_id data_kind l) (sym (c.fork-list.ensures ∙ goes.is))
-    (room_for_run (state_of names c.args.volume.now.extents.file (g.P.SectorView.space c.args.space.now)) catalog_id data_kind (λ same. absurd (omega (arith, same))) c.args.before.now has goes.run (λ none. absurd (omega (arith, goes.some, none))) tells (c.requires.one names tells)
-    (⊎_elim (λ filled. inl (filled_in_store c.args.volume.now names (g.P.SectorView.space c.args.space.now) catalog_id c.args.before.now held (filled tells))) (λ light. inr (light names)) c.requires.light))
+    (room_for_run (state_of names c.args.volume.now.extents.file (g.P.SectorView.space c.args.space.now)) catalog_id data_kind (λ same. absurd (omega (arith, same))) c.args.before.now has goes.run (λ none. absurd (omega (arith, goes.some, none))) tells (c.requires.one names tells))
 
 pub returns-clause-stands : goal.returns-clause-stands
 returns-clause-stands g c =
@@ -94,14 +92,8 @@ returns-in_err-store_records-clause-service g c = serves_edited c.args.volume.no
 pub returns-in_err-store_records-clause-own : goal.returns-in_err-store_records-clause-own
 returns-in_err-store_records-clause-own g c = own_edited c.args.volume.now (g.P.SectorView.space c.args.space.now) (g.P.SectorView.space c.store_records.new.space) (record { file = c.store_records.new.tree; desk = c.store_records.new.desk }) c.store_records.ensures.frame
 
-pub returns-clause-spent_any : goal.returns-clause-spent_any
-returns-clause-spent_any g c tells = c.store_records.ensures.spent tells 2 (two_stored c.args.volume.now (g.P.SectorView.space c.args.space.now) catalog_id (λ same. absurd (omega (arith, same))) c.args.before.now c.args.volume.now.catalog.file.fork (c.requires.but tells).trees.extents (c.requires.records tells) (c.requires.longer tells) c.fork-list.result.now c.fork-list.ensures)
+pub returns-clause-spent : goal.returns-clause-spent
+returns-clause-spent g c tells = c.store_records.ensures.spent tells 1 (one_stored c.args.volume.now (g.P.SectorView.space c.args.space.now) catalog_id (λ same. absurd (omega (arith, same))) c.args.before.now c.args.volume.now.catalog.file.fork (c.requires.but tells).trees.extents (c.requires.records tells) (c.requires.longer tells) c.fork-list.result.now c.fork-list.ensures)
 
-pub returns-clause-spent_filled : goal.returns-clause-spent_filled
-returns-clause-spent_filled g c tells filled = c.store_records.ensures.spent tells 1 (one_stored c.args.volume.now (g.P.SectorView.space c.args.space.now) catalog_id (λ same. absurd (omega (arith, same))) c.args.before.now c.args.volume.now.catalog.file.fork (c.requires.but tells).trees.extents (c.requires.records tells) (c.requires.longer tells) c.fork-list.result.now c.fork-list.ensures filled)
-
-pub returns-in_err-store_records-clause-spent_any : goal.returns-in_err-store_records-clause-spent_any
-returns-in_err-store_records-clause-spent_any g c tells = c.store_records.ensures.spent tells 2 (two_stored c.args.volume.now (g.P.SectorView.space c.args.space.now) catalog_id (λ same. absurd (omega (arith, same))) c.args.before.now c.args.volume.now.catalog.file.fork (c.requires.but tells).trees.extents (c.requires.records tells) (c.requires.longer tells) c.fork-list.result.now c.fork-list.ensures)
-
-pub returns-in_err-store_records-clause-spent_filled : goal.returns-in_err-store_records-clause-spent_filled
-returns-in_err-store_records-clause-spent_filled g c tells filled = c.store_records.ensures.spent tells 1 (one_stored c.args.volume.now (g.P.SectorView.space c.args.space.now) catalog_id (λ same. absurd (omega (arith, same))) c.args.before.now c.args.volume.now.catalog.file.fork (c.requires.but tells).trees.extents (c.requires.records tells) (c.requires.longer tells) c.fork-list.result.now c.fork-list.ensures filled)
+pub returns-in_err-store_records-clause-spent : goal.returns-in_err-store_records-clause-spent
+returns-in_err-store_records-clause-spent g c tells = c.store_records.ensures.spent tells 1 (one_stored c.args.volume.now (g.P.SectorView.space c.args.space.now) catalog_id (λ same. absurd (omega (arith, same))) c.args.before.now c.args.volume.now.catalog.file.fork (c.requires.but tells).trees.extents (c.requires.records tells) (c.requires.longer tells) c.fork-list.result.now c.fork-list.ensures)

@@ -1,13 +1,7 @@
-use Rattle.std.proofs.Common.{◌≡◌, ◌≤◌, ℕ, false, true, length, List, arith, sym, ◌∙◌, ap, subst, refl}
-use Rattle.std.specs.Prelude.{Option, IfSome, Some, None, IsTrue}
-use Rattle.std.specs.List.{Contains}
-use Rattle.sector_disk.specs.Lists.{Content}
-use Rattle.cat_records.specs.Fits.{FitsRecord}
-use Rattle.catalog.specs.Pairs.{value_at}
-use Rattle.hfs_volume.specs.Content.{VolumeState, records_of, volume_of}
-use Rattle.hfs_volume.specs.Links.{orphans_of}
-use Rattle.hfs_volume.specs.Records.{is_thread}
-use Rattle.hfs_volume.specs.Reclaim.{DropAttribute, has_surplus_left, least, next_reclaim}
+use Rattle.std.proofs.Common.{◌≡◌, ◌≤◌, ℕ, ◌∙◌, ap, refl}
+use Rattle.std.specs.Prelude.{Option, IsTrue}
+use Rattle.hfs_volume.specs.Content.{volume_of}
+use Rattle.hfs_volume.specs.Reclaim.{has_surplus_left}
 use Rattle.volume_base.specs.Keeping.{shrunk_of}
 use Rattle.volume_base.specs.Room.{capacity_of}
 use Rattle.volume_space.proofs.StepSpent.{next_within}

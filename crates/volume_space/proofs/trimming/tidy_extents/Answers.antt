@@ -1,19 +1,9 @@
-use Rattle.std.proofs.Common.{◌≡◌, ◌≤◌, ℕ, false, true, length, List, inl, inr, arith, sym, ◌∙◌, ap, subst, refl}
-use Rattle.std.specs.Prelude.{Option, IfSome, Some, None, IsTrue, Result, Ok, Err, ◌&&◌}
-use Rattle.std.specs.List.{Contains}
+use Rattle.std.proofs.Common.{◌≡◌, ◌≤◌, inl, arith, sym, ◌∙◌, ap, subst, refl}
+use Rattle.std.specs.Prelude.{IsTrue, Result, Err, ◌&&◌}
 use Rattle.std.proofs.lemmas.Result.{err_from_is_err_and}
 use Rattle.hx_bytes.specs.declared.faults.Trouble.{Trouble}
 use Rattle.btree_edit.specs.Causes.{HasTroubleCause}
 use Rattle.volume_space.specs.declared.tidying.Tidying.{Tidying}
-use Rattle.std.proofs.lemmas.Bool.{true≢false, eq-eqb, eqb-true}
-use Rattle.sector_disk.specs.Lists.{Content}
-use Rattle.cat_records.specs.Fits.{FitsRecord}
-use Rattle.cat_records.specs.declared.record.CatRecord.{CatRecord}
-use Rattle.catalog.specs.Pairs.{value_at}
-use Rattle.hfs_volume.specs.Content.{VolumeState, records_of, volume_of}
-use Rattle.hfs_volume.specs.Links.{orphans_of}
-use Rattle.hfs_volume.specs.Records.{id_in, is_thread}
-use Rattle.hfs_volume.specs.Reclaim.{DropAttribute, has_surplus_left, least, next_reclaim}
 use Rattle.volume_base.proofs.Commanding.{touches_none}
 use Rattle.volume_space.proofs.KeptUsed.{used_none}
 use Rattle.hx_bytes.specs.declared.extents.ForkRecord.{ForkRecord}

@@ -1,19 +1,12 @@
-use Rattle.std.proofs.Common.{◌≡◌, ◌≤◌, ℕ, false, true, length, List, inl, inr, arith, sym, ◌∙◌, ap, subst, refl}
-use Rattle.std.specs.Prelude.{Option, IfSome, Some, None, IsTrue, Result, Ok, Err, ◌&&◌}
+use Rattle.std.proofs.Common.{◌≡◌, ◌≤◌, ℕ, false, true, List, inl, arith, sym, ◌∙◌, ap, subst, refl}
+use Rattle.std.specs.Prelude.{Option, IsTrue, ◌&&◌}
 use Rattle.std.specs.List.{Contains}
-use Rattle.std.proofs.lemmas.Result.{err_from_is_err_and}
-use Rattle.hx_bytes.specs.declared.faults.Trouble.{Trouble}
-use Rattle.btree_edit.specs.Causes.{HasTroubleCause}
-use Rattle.std.proofs.lemmas.Bool.{true≢false, eq-eqb, eqb-true}
+use Rattle.std.proofs.lemmas.Bool.{true≢false, eq-eqb}
 use Rattle.sector_disk.specs.Lists.{Content}
 use Rattle.alloc_bitmap.specs.Map.{BlockMap, free_of}
-use Rattle.cat_records.specs.Fits.{FitsRecord}
-use Rattle.cat_records.specs.declared.record.CatRecord.{CatRecord}
 use Rattle.catalog.specs.Pairs.{value_at}
-use Rattle.hfs_volume.specs.Content.{VolumeState, records_of, volume_of}
-use Rattle.hfs_volume.specs.Links.{orphans_of}
-use Rattle.hfs_volume.specs.Records.{id_in, is_thread}
-use Rattle.hfs_volume.specs.Reclaim.{DropAttribute, has_surplus_left, least, next_reclaim}
+use Rattle.hfs_volume.specs.Content.{VolumeState}
+use Rattle.hfs_volume.specs.Records.{id_in}
 use Rattle.volume_space.specs.Cutting.{IsNextCut, kind_of}
 use Rattle.volume_base.specs.Keeping.{shrunk_of}
 use Rattle.volume_base.specs.Room.{capacity_of}
@@ -25,9 +18,7 @@ use Rattle.volume_space.proofs.KeptUsed.{used_both, used_none, used_read}
 use Rattle.volume_base.proofs.Seeing.{cause_since}
 use Rattle.volume_space.proofs.SpreadFile.{has_file}
 use Rattle.volume_base.proofs.Still.{lists_still, own_still}
-use Rattle.hx_bytes.specs.declared.extents.ForkRecord.{ForkRecord}
 use Rattle.volume_space.specs.Cutting.{IsForkOf}
-use Rattle.volume_runs.specs.Rest.{has_empty_record}
 use Rattle.volume_space.proofs.trimming.tidy_fork.Goals as goal
 
 pub returns-then-is_link-clause-touches : goal.returns-then-is_link-clause-touches
@@ -66,11 +57,8 @@ returns-then-not-is_user_id-clause-service g c = c.requires.stands.service
 pub returns-then-not-is_user_id-clause-cause : goal.returns-then-not-is_user_id-clause-cause
 returns-then-not-is_user_id-clause-cause g c = record { later = omega arith; failed = tt }
 
-pub whole_fork-requires-clause-number : goal.whole_fork-requires-clause-number
-whole_fork-requires-clause-number g c = c.is_user_id.ensures c.if-not-is_user_id.false
-
-pub whole_fork-requires-clause-there : goal.whole_fork-requires-clause-there
-whole_fork-requires-clause-there g c tells = has_file c.args.volume.now (g.P.SectorView.space c.args.space.now).content (c.requires.settled tells) c.args.entry.now c.args.file.now (c.requires.there tells) c.requires.is
+pub fork_extents-requires-clause-there : goal.fork_extents-requires-clause-there
+fork_extents-requires-clause-there g c tells = has_file c.args.volume.now (g.P.SectorView.space c.args.space.now).content (c.requires.settled tells) c.args.entry.now c.args.file.now (c.requires.there tells) c.requires.is
 
 pub tidy_extents-requires-clause-no_link : goal.tidy_extents-requires-clause-no_link
 tidy_extents-requires-clause-no_link g c = sym c.is_link.ensures ∙ c.if-is_link.false
@@ -83,56 +71,51 @@ tidy_extents-requires-clause-number g c = c.is_user_id.ensures c.if-not-is_user_
 
 pub tidy_extents-requires-clause-there : goal.tidy_extents-requires-clause-there
 tidy_extents-requires-clause-there g c tells =
-    let before = sym c.whole_fork.ensures.reads.looks.same.tells ∙ tells in
-    ap (λ (l : VolumeState). value_at l.catalog_pairs c.args.entry.now.parent c.args.entry.now.name) (lists_still c.args.volume.now c.whole_fork.new.volume (g.P.SectorView.space c.args.space.now) (g.P.SectorView.space c.whole_fork.new.space) c.whole_fork.ensures.reads before) ∙ c.requires.there before
+    let before = sym c.fork_extents.ensures.reads.looks.same.tells ∙ tells in
+    ap (λ (l : VolumeState). value_at l.catalog_pairs c.args.entry.now.parent c.args.entry.now.name) (lists_still c.args.volume.now c.fork_extents.new.volume (g.P.SectorView.space c.args.space.now) (g.P.SectorView.space c.fork_extents.new.space) c.fork_extents.ensures.reads before) ∙ c.requires.there before
 
 pub tidy_extents-requires-clause-list : goal.tidy_extents-requires-clause-list
 tidy_extents-requires-clause-list g c tells =
-    let before = sym c.whole_fork.ensures.reads.looks.same.tells ∙ tells in
-    subst (λ (l : Content). IsForkOf c.in_ok-whole.whole.list (kind_of c.args.surplus.kind) c.args.file.now l) (sym (c.whole_fork.ensures.reads.looks.content before)) (c.in_ok-whole.ensures.found before)
-
-pub tidy_extents-requires-clause-emptied : goal.tidy_extents-requires-clause-emptied
-tidy_extents-requires-clause-emptied g c tells =
-    let before = sym c.whole_fork.ensures.reads.looks.same.tells ∙ tells in
-    c.in_ok-whole.ensures.emptied before ∙ ap (λ (l : Content). has_empty_record (volume_of l) c.args.file.now.fields.id (kind_of c.args.surplus.kind)) (sym (c.whole_fork.ensures.reads.looks.content before))
+    let before = sym c.fork_extents.ensures.reads.looks.same.tells ∙ tells in
+    subst (λ (l : Content). IsForkOf c.in_ok-list.list (kind_of c.args.surplus.kind) c.args.file.now l) (sym (c.fork_extents.ensures.reads.looks.content before)) (c.in_ok-list.ensures.found before)
 
 pub tidy_extents-requires-clause-next : goal.tidy_extents-requires-clause-next
 tidy_extents-requires-clause-next g c tells =
-    let before = sym c.whole_fork.ensures.reads.looks.same.tells ∙ tells in
+    let before = sym c.fork_extents.ensures.reads.looks.same.tells ∙ tells in
     subst (λ (k : Option ℕ × Content). IsNextCut k.0 k.1 (id_in c.args.entry.now.rec) (kind_of c.args.surplus.kind) c.args.surplus.keep)
-    {x = (shrunk_of c.args.volume.now, (g.P.SectorView.space c.args.space.now).content)} {y = (shrunk_of c.whole_fork.new.volume, (g.P.SectorView.space c.whole_fork.new.space).content)} (λ i. (sym c.whole_fork.ensures.reads.keeps.shrunk i, sym (c.whole_fork.ensures.reads.looks.content before) i)) (c.requires.next before)
+    {x = (shrunk_of c.args.volume.now, (g.P.SectorView.space c.args.space.now).content)} {y = (shrunk_of c.fork_extents.new.volume, (g.P.SectorView.space c.fork_extents.new.space).content)} (λ i. (sym c.fork_extents.ensures.reads.keeps.shrunk i, sym (c.fork_extents.ensures.reads.looks.content before) i)) (c.requires.next before)
 
 pub returns-clause-tidied : goal.returns-clause-tidied
 returns-clause-tidied g c tells =
-    tidied_behind (g.P.SectorView.space c.args.space.now).content (g.P.SectorView.space c.whole_fork.new.space).content (g.P.SectorView.space c.tidy_extents.new.space).content (c.whole_fork.ensures.reads.looks.content tells) (capacity_of c.args.volume.now) (capacity_of c.whole_fork.new.volume) c.whole_fork.ensures.reads.keeps.capacity (shrunk_of c.args.volume.now) (shrunk_of c.whole_fork.new.volume) c.whole_fork.ensures.reads.keeps.shrunk (free_of c.args.volume.now.map) (free_of c.whole_fork.new.volume.map) (ap (λ (m : BlockMap). free_of m) c.whole_fork.ensures.reads.keeps.map) (g.P.SectorView.space c.args.space.now).spare (g.P.SectorView.space c.whole_fork.new.space).spare c.whole_fork.ensures.reads.looks.spare c.tidy_extents.result
-    (c.tidy_extents.ensures.tidied (c.whole_fork.ensures.reads.looks.same.tells ∙ tells))
+    tidied_behind (g.P.SectorView.space c.args.space.now).content (g.P.SectorView.space c.fork_extents.new.space).content (g.P.SectorView.space c.tidy_extents.new.space).content (c.fork_extents.ensures.reads.looks.content tells) (capacity_of c.args.volume.now) (capacity_of c.fork_extents.new.volume) c.fork_extents.ensures.reads.keeps.capacity (shrunk_of c.args.volume.now) (shrunk_of c.fork_extents.new.volume) c.fork_extents.ensures.reads.keeps.shrunk (free_of c.args.volume.now.map) (free_of c.fork_extents.new.volume.map) (ap (λ (m : BlockMap). free_of m) c.fork_extents.ensures.reads.keeps.map) (g.P.SectorView.space c.args.space.now).spare (g.P.SectorView.space c.fork_extents.new.space).spare c.fork_extents.ensures.reads.looks.spare c.tidy_extents.result
+    (c.tidy_extents.ensures.tidied (c.fork_extents.ensures.reads.looks.same.tells ∙ tells))
 
 pub returns-clause-touches : goal.returns-clause-touches
 returns-clause-touches g c committed =
-    touches_both committed _ (g.P.SectorView.space c.args.space.now) (g.P.SectorView.space c.whole_fork.new.space) (g.P.SectorView.space c.tidy_extents.new.space) (touches_looks committed _ (g.P.SectorView.space c.args.space.now) (g.P.SectorView.space c.whole_fork.new.space) c.whole_fork.ensures.reads.looks)
-    (subst (λ (l : List ℕ). Touches committed (λ s. Contains l s) (g.P.SectorView.space c.whole_fork.new.space) (g.P.SectorView.space c.tidy_extents.new.space)) (own_still c.args.volume.now c.whole_fork.new.volume (g.P.SectorView.space c.args.space.now) (g.P.SectorView.space c.whole_fork.new.space) c.whole_fork.ensures.reads) (c.tidy_extents.ensures.touches committed))
+    touches_both committed _ (g.P.SectorView.space c.args.space.now) (g.P.SectorView.space c.fork_extents.new.space) (g.P.SectorView.space c.tidy_extents.new.space) (touches_looks committed _ (g.P.SectorView.space c.args.space.now) (g.P.SectorView.space c.fork_extents.new.space) c.fork_extents.ensures.reads.looks)
+    (subst (λ (l : List ℕ). Touches committed (λ s. Contains l s) (g.P.SectorView.space c.fork_extents.new.space) (g.P.SectorView.space c.tidy_extents.new.space)) (own_still c.args.volume.now c.fork_extents.new.volume (g.P.SectorView.space c.args.space.now) (g.P.SectorView.space c.fork_extents.new.space) c.fork_extents.ensures.reads) (c.tidy_extents.ensures.touches committed))
 
 pub returns-clause-used : goal.returns-clause-used
 returns-clause-used g c =
-    used_both c.args.volume.now c.whole_fork.new.volume c.tidy_extents.new.volume (used_read c.args.volume.now c.whole_fork.new.volume (g.P.SectorView.space c.args.space.now) (g.P.SectorView.space c.whole_fork.new.space) c.whole_fork.ensures.reads) c.tidy_extents.ensures.used
+    used_both c.args.volume.now c.fork_extents.new.volume c.tidy_extents.new.volume (used_read c.args.volume.now c.fork_extents.new.volume (g.P.SectorView.space c.args.space.now) (g.P.SectorView.space c.fork_extents.new.space) c.fork_extents.ensures.reads) c.tidy_extents.ensures.used
 
 pub returns-clause-below : goal.returns-clause-below
-returns-clause-below g c = g.met.P.SectorView.follows_trans c.args.space.now c.whole_fork.new.space c.tidy_extents.new.space c.whole_fork.ensures.below c.tidy_extents.ensures.below
+returns-clause-below g c = g.met.P.SectorView.follows_trans c.args.space.now c.fork_extents.new.space c.tidy_extents.new.space c.fork_extents.ensures.below c.tidy_extents.ensures.below
 
 pub returns-clause-cause : goal.returns-clause-cause
-returns-clause-cause g c = cause_since (g.P.SectorView.space c.args.space.now).faults (g.P.SectorView.space c.whole_fork.new.space).faults (g.P.SectorView.space c.tidy_extents.new.space).faults c.tidy_extents.result c.whole_fork.ensures.reads.looks.faults c.tidy_extents.ensures.cause
+returns-clause-cause g c = cause_since (g.P.SectorView.space c.args.space.now).faults (g.P.SectorView.space c.fork_extents.new.space).faults (g.P.SectorView.space c.tidy_extents.new.space).faults c.tidy_extents.result c.fork_extents.ensures.reads.looks.faults c.tidy_extents.ensures.cause
 
-pub returns-in_err-whole-clause-touches : goal.returns-in_err-whole-clause-touches
-returns-in_err-whole-clause-touches g c committed = touches_looks committed _ (g.P.SectorView.space c.args.space.now) (g.P.SectorView.space c.whole_fork.new.space) c.whole_fork.ensures.reads.looks
+pub returns-in_err-list-clause-touches : goal.returns-in_err-list-clause-touches
+returns-in_err-list-clause-touches g c committed = touches_looks committed _ (g.P.SectorView.space c.args.space.now) (g.P.SectorView.space c.fork_extents.new.space) c.fork_extents.ensures.reads.looks
 
-pub returns-in_err-whole-clause-used : goal.returns-in_err-whole-clause-used
-returns-in_err-whole-clause-used g c = used_read c.args.volume.now c.whole_fork.new.volume (g.P.SectorView.space c.args.space.now) (g.P.SectorView.space c.whole_fork.new.space) c.whole_fork.ensures.reads
+pub returns-in_err-list-clause-used : goal.returns-in_err-list-clause-used
+returns-in_err-list-clause-used g c = used_read c.args.volume.now c.fork_extents.new.volume (g.P.SectorView.space c.args.space.now) (g.P.SectorView.space c.fork_extents.new.space) c.fork_extents.ensures.reads
 
-pub returns-in_err-whole-clause-service : goal.returns-in_err-whole-clause-service
-returns-in_err-whole-clause-service g c = c.whole_fork.ensures.stands.service
+pub returns-in_err-list-clause-service : goal.returns-in_err-list-clause-service
+returns-in_err-list-clause-service g c = c.fork_extents.ensures.stands.service
 
 pub returns-clause-settled : goal.returns-clause-settled
-returns-clause-settled g c tells = c.tidy_extents.ensures.settled (c.whole_fork.ensures.reads.looks.same.tells ∙ tells)
+returns-clause-settled g c tells = c.tidy_extents.ensures.settled (c.fork_extents.ensures.reads.looks.same.tells ∙ tells)
 
 -- ---- what it puts
 
@@ -145,10 +128,10 @@ returns-then-is_own-clause-spent g c tells = inl (omega arith)
 pub returns-then-not-is_user_id-clause-spent : goal.returns-then-not-is_user_id-clause-spent
 returns-then-not-is_user_id-clause-spent g c tells = inl (omega arith)
 
-pub returns-in_err-whole-clause-spent : goal.returns-in_err-whole-clause-spent
-returns-in_err-whole-clause-spent g c tells = inl (omega (arith, c.whole_fork.ensures.reads.looks.spare))
+pub returns-in_err-list-clause-spent : goal.returns-in_err-list-clause-spent
+returns-in_err-list-clause-spent g c tells = inl (omega (arith, c.fork_extents.ensures.reads.looks.spare))
 
 pub returns-clause-spent : goal.returns-clause-spent
 returns-clause-spent g c tells =
-    next_behind (g.P.SectorView.space c.args.space.now).content (g.P.SectorView.space c.whole_fork.new.space).content (c.whole_fork.ensures.reads.looks.content tells) (capacity_of c.args.volume.now) (capacity_of c.whole_fork.new.volume) c.whole_fork.ensures.reads.keeps.capacity (shrunk_of c.args.volume.now) (shrunk_of c.whole_fork.new.volume) c.whole_fork.ensures.reads.keeps.shrunk (g.P.SectorView.space c.args.space.now).spare (g.P.SectorView.space c.whole_fork.new.space).spare c.whole_fork.ensures.reads.looks.spare (g.P.SectorView.space c.tidy_extents.new.space).spare
-    (c.tidy_extents.ensures.spent (c.whole_fork.ensures.reads.looks.same.tells ∙ tells))
+    next_behind (g.P.SectorView.space c.args.space.now).content (g.P.SectorView.space c.fork_extents.new.space).content (c.fork_extents.ensures.reads.looks.content tells) (capacity_of c.args.volume.now) (capacity_of c.fork_extents.new.volume) c.fork_extents.ensures.reads.keeps.capacity (shrunk_of c.args.volume.now) (shrunk_of c.fork_extents.new.volume) c.fork_extents.ensures.reads.keeps.shrunk (g.P.SectorView.space c.args.space.now).spare (g.P.SectorView.space c.fork_extents.new.space).spare c.fork_extents.ensures.reads.looks.spare (g.P.SectorView.space c.tidy_extents.new.space).spare
+    (c.tidy_extents.ensures.spent (c.fork_extents.ensures.reads.looks.same.tells ∙ tells))

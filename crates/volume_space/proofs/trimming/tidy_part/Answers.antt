@@ -3,13 +3,12 @@ use Rattle.std.specs.Prelude.{Option}
 use Rattle.std.specs.List.{Contains}
 use Rattle.alloc_bitmap.specs.Map.{free_of}
 use Rattle.catalog.specs.Pairs.{value_at}
-use Rattle.hfs_volume.specs.Content.{VolumeState, volume_of}
+use Rattle.hfs_volume.specs.Content.{VolumeState}
 use Rattle.hfs_volume.specs.Records.{id_in}
 use Rattle.volume_space.specs.Cutting.{IsNextCut, kind_of}
 use Rattle.volume_base.specs.Keeping.{shrunk_of}
 use Rattle.volume_base.specs.Room.{capacity_of}
 use Rattle.volume_base.specs.Touching.{Touches}
-use Rattle.volume_runs.specs.Rest.{has_empty_record}
 use Rattle.volume_base.proofs.Commanding.{touches_none}
 use Rattle.volume_space.proofs.StepSpent.{cut_spent}
 use Rattle.volume_space.proofs.HeldUp.{rests_cut}
@@ -57,7 +56,7 @@ pub cut_fork-requires-clause-unchanged : goal.cut_fork-requires-clause-unchanged
 cut_fork-requires-clause-unchanged g c = unchanged_kept c.args.volume.now c.keep.new.self c.keep.ensures (g.P.SectorView.space c.args.space.now) c.requires.stands.service
 
 pub cut_fork-requires-clause-room : goal.cut_fork-requires-clause-room
-cut_fork-requires-clause-room g c = omega (arith, load_kept c.args.volume.now c.keep.new.self c.keep.ensures c.args.emptied, c.fits_cut.ensures.fits c.if-not-fits_cut.false)
+cut_fork-requires-clause-room g c = omega (arith, load_kept c.args.volume.now c.keep.new.self c.keep.ensures, c.fits_cut.ensures.fits c.if-not-fits_cut.false)
 
 pub returns-clause-tidied : goal.returns-clause-tidied
 returns-clause-tidied g c tells =
@@ -83,14 +82,14 @@ pub returns-then-not-affords_cut-clause-tidied : goal.returns-then-not-affords_c
 returns-then-not-affords_cut-clause-tidied g c tells = (
   refl,
   rests_cut (capacity_of c.args.volume.now) (shrunk_of c.args.volume.now) (g.P.SectorView.space c.args.space.now).content (id_in c.args.entry.now.rec) (kind_of c.args.surplus.kind) c.args.surplus.keep (c.requires.next tells)
-      (λ step cut same. c.affords_cut.ensures.held_up (g.P.SectorView.space c.args.space.now).content (c.requires.settled tells) c.if-not-affords_cut.true step cut (c.requires.emptied tells ∙ ap (λ n. has_empty_record (volume_of (g.P.SectorView.space c.args.space.now).content) n (kind_of c.args.surplus.kind)) (sym (ap id_in c.requires.is)) ∙ same)),
+      (λ step cut. c.affords_cut.ensures.held_up (g.P.SectorView.space c.args.space.now).content (c.requires.settled tells) c.if-not-affords_cut.true step cut),
 )
 
 pub returns-then-not-fits_cut-clause-tidied : goal.returns-then-not-fits_cut-clause-tidied
 returns-then-not-fits_cut-clause-tidied g c tells = (
   refl,
   short_next (capacity_of c.args.volume.now) (shrunk_of c.args.volume.now) (free_of c.args.volume.now.map) (g.P.SectorView.space c.args.space.now).spare (g.P.SectorView.space c.args.space.now).content (id_in c.args.entry.now.rec) (kind_of c.args.surplus.kind) c.args.surplus.keep (c.requires.next tells)
-      (λ step cut same. short_cut c.args.emptied c.args.volume.now (g.P.SectorView.space c.args.space.now).content (c.requires.settled tells) (g.P.SectorView.space c.args.space.now).spare (c.fits_cut.ensures.short c.if-not-fits_cut.true) step cut (c.requires.emptied tells ∙ ap (λ n. has_empty_record (volume_of (g.P.SectorView.space c.args.space.now).content) n (kind_of c.args.surplus.kind)) (sym (ap id_in c.requires.is)) ∙ same)),
+      (λ step cut. short_cut c.args.volume.now (g.P.SectorView.space c.args.space.now).content (c.requires.settled tells) (g.P.SectorView.space c.args.space.now).spare (c.fits_cut.ensures.short c.if-not-fits_cut.true) step cut),
 )
 
 -- ---- what it puts
@@ -103,12 +102,10 @@ returns-then-not-fits_cut-clause-spent g c tells = inl (omega arith)
 
 pub returns-clause-spent : goal.returns-clause-spent
 returns-clause-spent g c tells =
-    cut_spent c.args.emptied c.args.volume.now (g.P.SectorView.space c.args.space.now).content (c.requires.settled tells) (g.P.SectorView.space c.args.space.now).spare (g.P.SectorView.space c.cut_fork.new.space).spare
-    (omega (arith, c.cut_fork.ensures.spent tells, load_kept c.args.volume.now c.keep.new.self c.keep.ensures c.args.emptied)) (shrunk_of c.args.volume.now) (id_in c.args.entry.now.rec) (kind_of c.args.surplus.kind) c.args.surplus.keep (c.requires.next tells)
-    (c.requires.emptied tells ∙ ap (λ n. has_empty_record (volume_of (g.P.SectorView.space c.args.space.now).content) n (kind_of c.args.surplus.kind)) (sym (ap id_in c.requires.is)))
+    cut_spent c.args.volume.now (g.P.SectorView.space c.args.space.now).content (c.requires.settled tells) (g.P.SectorView.space c.args.space.now).spare (g.P.SectorView.space c.cut_fork.new.space).spare
+    (omega (arith, c.cut_fork.ensures.spent tells, load_kept c.args.volume.now c.keep.new.self c.keep.ensures)) (shrunk_of c.args.volume.now) (id_in c.args.entry.now.rec) (kind_of c.args.surplus.kind) c.args.surplus.keep (c.requires.next tells)
 
 pub returns-in_err-cut_fork-clause-spent : goal.returns-in_err-cut_fork-clause-spent
 returns-in_err-cut_fork-clause-spent g c tells =
-    cut_spent c.args.emptied c.args.volume.now (g.P.SectorView.space c.args.space.now).content (c.requires.settled tells) (g.P.SectorView.space c.args.space.now).spare (g.P.SectorView.space c.cut_fork.new.space).spare
-    (omega (arith, c.cut_fork.ensures.spent tells, load_kept c.args.volume.now c.keep.new.self c.keep.ensures c.args.emptied)) (shrunk_of c.args.volume.now) (id_in c.args.entry.now.rec) (kind_of c.args.surplus.kind) c.args.surplus.keep (c.requires.next tells)
-    (c.requires.emptied tells ∙ ap (λ n. has_empty_record (volume_of (g.P.SectorView.space c.args.space.now).content) n (kind_of c.args.surplus.kind)) (sym (ap id_in c.requires.is)))
+    cut_spent c.args.volume.now (g.P.SectorView.space c.args.space.now).content (c.requires.settled tells) (g.P.SectorView.space c.args.space.now).spare (g.P.SectorView.space c.cut_fork.new.space).spare
+    (omega (arith, c.cut_fork.ensures.spent tells, load_kept c.args.volume.now c.keep.new.self c.keep.ensures)) (shrunk_of c.args.volume.now) (id_in c.args.entry.now.rec) (kind_of c.args.surplus.kind) c.args.surplus.keep (c.requires.next tells)

@@ -12,7 +12,7 @@ use Rattle.hfs_volume.specs.Weight.{data_of, weight_with}
 use Rattle.alloc_bitmap.specs.Map.{free_of}
 use Rattle.volume_base.specs.Refusing.{facts_or}
 use Rattle.volume_base.specs.Touching.{Touches}
-use Rattle.volume_space.specs.Writing.{HasData, IsFilled, is_data_met, is_put_now}
+use Rattle.volume_space.specs.Writing.{HasData, is_data_met, is_put_now}
 use Rattle.volume_base.proofs.Commanding.{touches_both, touches_looks}
 use Rattle.volume_space.proofs.KeptUsed.{used_read}
 use Rattle.volume_space.proofs.PutAlike.{alike_read, laid_alike, now_alike}
@@ -71,11 +71,11 @@ returns-in-Ok-clause-met g c tells =
     (c.lengthen_told.ensures.met (c.facts.ensures.reads.looks.same.tells ∙ tells))
 
 pub returns-in-Ok-clause-loads : goal.returns-in-Ok-clause-loads
-returns-in-Ok-clause-loads g c tells filled n grow is =
+returns-in-Ok-clause-loads g c tells n grow is =
     omega (
       arith,
       c.facts.ensures.reads.looks.spare,
-      c.lengthen_told.ensures.loads (c.facts.ensures.reads.looks.same.tells ∙ tells) (subst (λ (k : Content). IsFilled (command.Trunc c.args.path.now c.args.size) k) (sym (c.facts.ensures.reads.looks.content tells)) filled) n grow
+      c.lengthen_told.ensures.loads (c.facts.ensures.reads.looks.same.tells ∙ tells) n grow
           ((λ i. weight_with (c.facts.ensures.reads.keeps.capacity i) (free_of (c.facts.ensures.reads.keeps.map i)) (volume_of (c.facts.ensures.reads.looks.content tells i)) (tree_of (c.facts.ensures.reads.looks.content tells i)) (command.Trunc c.args.path.now c.args.size)) ∙ is),
     )
 
@@ -121,7 +121,7 @@ pub returns-in-Err-clause-service : goal.returns-in-Err-clause-service
 returns-in-Err-clause-service g c = c.facts.ensures.stands.service
 
 pub returns-in-Err-clause-loads : goal.returns-in-Err-clause-loads
-returns-in-Err-clause-loads g c tells filled n grow is = omega (arith, c.facts.ensures.reads.looks.spare)
+returns-in-Err-clause-loads g c tells n grow is = omega (arith, c.facts.ensures.reads.looks.spare)
 
 pub returns-in-Err-clause-shrunk : goal.returns-in-Err-clause-shrunk
 returns-in-Err-clause-shrunk g c = c.facts.ensures.reads.keeps.shrunk
@@ -139,7 +139,7 @@ pub returns-in_err-told-clause-service : goal.returns-in_err-told-clause-service
 returns-in_err-told-clause-service g c = c.facts.ensures.stands.service
 
 pub returns-in_err-told-clause-loads : goal.returns-in_err-told-clause-loads
-returns-in_err-told-clause-loads g c tells filled n grow is = omega (arith, c.facts.ensures.reads.looks.spare)
+returns-in_err-told-clause-loads g c tells n grow is = omega (arith, c.facts.ensures.reads.looks.spare)
 
 pub returns-in_err-told-clause-shrunk : goal.returns-in_err-told-clause-shrunk
 returns-in_err-told-clause-shrunk g c = c.facts.ensures.reads.keeps.shrunk

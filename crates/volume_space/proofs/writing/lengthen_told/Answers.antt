@@ -10,6 +10,7 @@ use Rattle.hfs_volume.specs.Weight.{Data}
 use Rattle.volume_space.specs.Writing.{PutsAt, is_data_met, is_put_now}
 use Rattle.volume_base.proofs.Commanding.{touches_none}
 use Rattle.volume_space.proofs.PutDone.{data_done, trunc_done}
+use Rattle.volume_space.proofs.PutFile.{records_are}
 use Rattle.volume_space.proofs.PutLoads.{some_data, trunc_loaded}
 use Rattle.volume_space.proofs.PutTold.{done_not_refused, file_there, put_by_trunc, trunc_at, trunc_data, trunc_id, trunc_small}
 use Rattle.volume_base.proofs.ToldFile.{short_data, told_node, trunc_line, trunc_told, trunc_tree}
@@ -88,7 +89,7 @@ returns-clause-met g c tells =
     ap (λ (o : Option Data). is_data_met c.args.volume.now (g.P.SectorView.space c.args.space.now).spare (volume_of (g.P.SectorView.space c.args.space.now).content) o) (trunc_data (tree_of (g.P.SectorView.space c.args.space.now).content) c.args._path.now c.args.told.now it.node about.0 c.args.size (c.is_no_longer.ensures.long c.if-is_no_longer.false)) ∙ c.in_ok-put.ensures.met tells it.node there.0 about.0.id there.1 (put_by_trunc (tree_of (g.P.SectorView.space c.args.space.now).content) c.args._path.now c.args.told.now it.node about.0 c.args.size (c.is_no_longer.ensures.long c.if-is_no_longer.false)) (trunc_id (tree_of (g.P.SectorView.space c.args.space.now).content) c.args._path.now c.args.told.now it.node about.0 c.args.size (c.is_no_longer.ensures.long c.if-is_no_longer.false)) (trunc_at (tree_of (g.P.SectorView.space c.args.space.now).content) c.args._path.now c.args.told.now it.node about.0 c.args.size (c.is_no_longer.ensures.long c.if-is_no_longer.false)) c.if-put.false
 
 pub returns-then-put-clause-loads : goal.returns-then-put-clause-loads
-returns-then-put-clause-loads g c tells filled n grow is =
+returns-then-put-clause-loads g c tells n grow is =
     let v = c.args.volume.now in
     let a = g.P.SectorView.space c.args.space.now in
     let tree = tree_of a.content in
@@ -102,7 +103,7 @@ returns-then-put-clause-loads g c tells filled n grow is =
     (λ some_put. omega (
       arith,
       some_put.1,
-      trunc_loaded v a.content (c.requires.settled tells) v.capacity tree c.args._path.now put some_put.0 (filled put has) (some_data v put (length it.node.bytes) (c.args.size - 1) 1 at (omega (arith, c.requires.stands.service.least)) (omega arith)) n grow c.args.size has is,
+      trunc_loaded v a.content (c.requires.settled tells) v.capacity tree c.args._path.now put some_put.0 (records_are v a c.requires.stands tells (c.requires.settled tells) it.node there.0 there.1 put (c.args.size - 1) 1 (trunc_id tree c.args._path.now c.args.told.now it.node about.0 c.args.size (c.is_no_longer.ensures.long c.if-is_no_longer.false) ∙ sym about.0.id) at) (some_data v put (length it.node.bytes) (c.args.size - 1) 1 at (omega (arith, c.requires.stands.service.least)) (omega arith)) n grow c.args.size has is,
     ))
     (c.put_data.ensures.spent tells it.node there.0 about.0.id there.1 put (trunc_id tree c.args._path.now c.args.told.now it.node about.0 c.args.size (c.is_no_longer.ensures.long c.if-is_no_longer.false)) at)
 
@@ -110,7 +111,7 @@ pub returns-then-put-clause-service : goal.returns-then-put-clause-service
 returns-then-put-clause-service g c = c.put_data.ensures.service
 
 pub returns-clause-loads : goal.returns-clause-loads
-returns-clause-loads g c tells filled n grow is =
+returns-clause-loads g c tells n grow is =
     let v = c.args.volume.now in
     let a = g.P.SectorView.space c.args.space.now in
     let tree = tree_of a.content in
@@ -124,7 +125,7 @@ returns-clause-loads g c tells filled n grow is =
     (λ some_put. omega (
       arith,
       some_put.1,
-      trunc_loaded v a.content (c.requires.settled tells) v.capacity tree c.args._path.now put some_put.0 (filled put has) (some_data v put (length it.node.bytes) (c.args.size - 1) 1 at (omega (arith, c.requires.stands.service.least)) (omega arith)) n grow c.args.size has is,
+      trunc_loaded v a.content (c.requires.settled tells) v.capacity tree c.args._path.now put some_put.0 (records_are v a c.requires.stands tells (c.requires.settled tells) it.node there.0 there.1 put (c.args.size - 1) 1 (trunc_id tree c.args._path.now c.args.told.now it.node about.0 c.args.size (c.is_no_longer.ensures.long c.if-is_no_longer.false) ∙ sym about.0.id) at) (some_data v put (length it.node.bytes) (c.args.size - 1) 1 at (omega (arith, c.requires.stands.service.least)) (omega arith)) n grow c.args.size has is,
     ))
     (c.put_data.ensures.spent tells it.node there.0 about.0.id there.1 put (trunc_id tree c.args._path.now c.args.told.now it.node about.0 c.args.size (c.is_no_longer.ensures.long c.if-is_no_longer.false)) at)
 
@@ -132,7 +133,7 @@ pub returns-clause-service : goal.returns-clause-service
 returns-clause-service g c = c.put_data.ensures.service
 
 pub returns-in_err-put-clause-loads : goal.returns-in_err-put-clause-loads
-returns-in_err-put-clause-loads g c tells filled n grow is =
+returns-in_err-put-clause-loads g c tells n grow is =
     let v = c.args.volume.now in
     let a = g.P.SectorView.space c.args.space.now in
     let tree = tree_of a.content in
@@ -146,7 +147,7 @@ returns-in_err-put-clause-loads g c tells filled n grow is =
     (λ some_put. omega (
       arith,
       some_put.1,
-      trunc_loaded v a.content (c.requires.settled tells) v.capacity tree c.args._path.now put some_put.0 (filled put has) (some_data v put (length it.node.bytes) (c.args.size - 1) 1 at (omega (arith, c.requires.stands.service.least)) (omega arith)) n grow c.args.size has is,
+      trunc_loaded v a.content (c.requires.settled tells) v.capacity tree c.args._path.now put some_put.0 (records_are v a c.requires.stands tells (c.requires.settled tells) it.node there.0 there.1 put (c.args.size - 1) 1 (trunc_id tree c.args._path.now c.args.told.now it.node about.0 c.args.size (c.is_no_longer.ensures.long c.if-is_no_longer.false) ∙ sym about.0.id) at) (some_data v put (length it.node.bytes) (c.args.size - 1) 1 at (omega (arith, c.requires.stands.service.least)) (omega arith)) n grow c.args.size has is,
     ))
     (c.put_data.ensures.spent tells it.node there.0 about.0.id there.1 put (trunc_id tree c.args._path.now c.args.told.now it.node about.0 c.args.size (c.is_no_longer.ensures.long c.if-is_no_longer.false)) at)
 
@@ -175,7 +176,7 @@ pub returns-then-is_no_longer-clause-touches : goal.returns-then-is_no_longer-cl
 returns-then-is_no_longer-clause-touches g c committed holds alike = touches_none committed _ (g.P.SectorView.space c.args.space.now)
 
 pub returns-then-is_no_longer-clause-loads : goal.returns-then-is_no_longer-clause-loads
-returns-then-is_no_longer-clause-loads g c tells filled n grow is = omega arith
+returns-then-is_no_longer-clause-loads g c tells n grow is = omega arith
 
 pub returns-then-is_no_longer-clause-service : goal.returns-then-is_no_longer-clause-service
 returns-then-is_no_longer-clause-service g c = c.requires.stands.service
@@ -193,7 +194,7 @@ pub returns-in-Some-clause-touches : goal.returns-in-Some-clause-touches
 returns-in-Some-clause-touches g c committed holds alike = touches_none committed _ (g.P.SectorView.space c.args.space.now)
 
 pub returns-in-Some-clause-loads : goal.returns-in-Some-clause-loads
-returns-in-Some-clause-loads g c tells filled n grow is = omega arith
+returns-in-Some-clause-loads g c tells n grow is = omega arith
 
 pub returns-in-Some-clause-service : goal.returns-in-Some-clause-service
 returns-in-Some-clause-service g c = c.requires.stands.service

@@ -10,6 +10,7 @@ use Rattle.hfs_volume.specs.Weight.{Data}
 use Rattle.volume_space.specs.Writing.{PutsAt, is_data_met, is_put_now}
 use Rattle.volume_base.proofs.Commanding.{touches_none}
 use Rattle.volume_space.proofs.PutDone.{data_done, write_done}
+use Rattle.volume_space.proofs.PutFile.{records_are}
 use Rattle.volume_space.proofs.PutLoads.{some_data, write_loaded}
 use Rattle.volume_space.proofs.PutTold.{done_not_refused, file_there, put_by_write, write_at, write_data, write_id, write_line, write_refused_told, write_small, write_tree}
 use Rattle.volume_base.proofs.ToldFile.{empty_data, empty_line, told_node, write_told}
@@ -87,7 +88,7 @@ returns-clause-met g c tells =
     ap (λ (o : Option Data). is_data_met c.args.volume.now (g.P.SectorView.space c.args.space.now).spare (volume_of (g.P.SectorView.space c.args.space.now).content) o) (write_data (tree_of (g.P.SectorView.space c.args.space.now).content) c.args._path.now c.args.told.now it.node about.0 c.args.from c.args.value.now (c.is_nothing.ensures.some c.if-is_nothing.false)) ∙ c.in_ok-put.ensures.met tells it.node there.0 about.0.id there.1 (put_by_write (tree_of (g.P.SectorView.space c.args.space.now).content) c.args._path.now c.args.told.now it.node about.0 c.args.from c.args.value.now) (write_id (tree_of (g.P.SectorView.space c.args.space.now).content) c.args._path.now c.args.told.now it.node about.0 c.args.from c.args.value.now) (write_at (tree_of (g.P.SectorView.space c.args.space.now).content) c.args._path.now c.args.told.now it.node about.0 c.args.from c.args.value.now (c.is_nothing.ensures.some c.if-is_nothing.false)) c.if-put.false
 
 pub returns-then-put-clause-loads : goal.returns-then-put-clause-loads
-returns-then-put-clause-loads g c tells filled n grow is =
+returns-then-put-clause-loads g c tells n grow is =
     let v = c.args.volume.now in
     let a = g.P.SectorView.space c.args.space.now in
     let tree = tree_of a.content in
@@ -101,7 +102,7 @@ returns-then-put-clause-loads g c tells filled n grow is =
     (λ some_put. omega (
       arith,
       some_put.1,
-      write_loaded v a.content (c.requires.settled tells) v.capacity tree c.args._path.now put some_put.0 (filled put has) (some_data v put (length it.node.bytes) c.args.from (length c.args.value.now) at (omega (arith, c.requires.stands.service.least)) (c.is_nothing.ensures.some c.if-is_nothing.false)) n grow c.args.from c.args.value.now has is,
+      write_loaded v a.content (c.requires.settled tells) v.capacity tree c.args._path.now put some_put.0 (records_are v a c.requires.stands tells (c.requires.settled tells) it.node there.0 there.1 put c.args.from (length c.args.value.now) (write_id tree c.args._path.now c.args.told.now it.node about.0 c.args.from c.args.value.now ∙ sym about.0.id) at) (some_data v put (length it.node.bytes) c.args.from (length c.args.value.now) at (omega (arith, c.requires.stands.service.least)) (c.is_nothing.ensures.some c.if-is_nothing.false)) n grow c.args.from c.args.value.now has is,
     ))
     (c.put_data.ensures.spent tells it.node there.0 about.0.id there.1 put (write_id tree c.args._path.now c.args.told.now it.node about.0 c.args.from c.args.value.now) at)
 
@@ -109,7 +110,7 @@ pub returns-then-put-clause-service : goal.returns-then-put-clause-service
 returns-then-put-clause-service g c = c.put_data.ensures.service
 
 pub returns-clause-loads : goal.returns-clause-loads
-returns-clause-loads g c tells filled n grow is =
+returns-clause-loads g c tells n grow is =
     let v = c.args.volume.now in
     let a = g.P.SectorView.space c.args.space.now in
     let tree = tree_of a.content in
@@ -123,7 +124,7 @@ returns-clause-loads g c tells filled n grow is =
     (λ some_put. omega (
       arith,
       some_put.1,
-      write_loaded v a.content (c.requires.settled tells) v.capacity tree c.args._path.now put some_put.0 (filled put has) (some_data v put (length it.node.bytes) c.args.from (length c.args.value.now) at (omega (arith, c.requires.stands.service.least)) (c.is_nothing.ensures.some c.if-is_nothing.false)) n grow c.args.from c.args.value.now has is,
+      write_loaded v a.content (c.requires.settled tells) v.capacity tree c.args._path.now put some_put.0 (records_are v a c.requires.stands tells (c.requires.settled tells) it.node there.0 there.1 put c.args.from (length c.args.value.now) (write_id tree c.args._path.now c.args.told.now it.node about.0 c.args.from c.args.value.now ∙ sym about.0.id) at) (some_data v put (length it.node.bytes) c.args.from (length c.args.value.now) at (omega (arith, c.requires.stands.service.least)) (c.is_nothing.ensures.some c.if-is_nothing.false)) n grow c.args.from c.args.value.now has is,
     ))
     (c.put_data.ensures.spent tells it.node there.0 about.0.id there.1 put (write_id tree c.args._path.now c.args.told.now it.node about.0 c.args.from c.args.value.now) at)
 
@@ -131,7 +132,7 @@ pub returns-clause-service : goal.returns-clause-service
 returns-clause-service g c = c.put_data.ensures.service
 
 pub returns-in_err-put-clause-loads : goal.returns-in_err-put-clause-loads
-returns-in_err-put-clause-loads g c tells filled n grow is =
+returns-in_err-put-clause-loads g c tells n grow is =
     let v = c.args.volume.now in
     let a = g.P.SectorView.space c.args.space.now in
     let tree = tree_of a.content in
@@ -145,7 +146,7 @@ returns-in_err-put-clause-loads g c tells filled n grow is =
     (λ some_put. omega (
       arith,
       some_put.1,
-      write_loaded v a.content (c.requires.settled tells) v.capacity tree c.args._path.now put some_put.0 (filled put has) (some_data v put (length it.node.bytes) c.args.from (length c.args.value.now) at (omega (arith, c.requires.stands.service.least)) (c.is_nothing.ensures.some c.if-is_nothing.false)) n grow c.args.from c.args.value.now has is,
+      write_loaded v a.content (c.requires.settled tells) v.capacity tree c.args._path.now put some_put.0 (records_are v a c.requires.stands tells (c.requires.settled tells) it.node there.0 there.1 put c.args.from (length c.args.value.now) (write_id tree c.args._path.now c.args.told.now it.node about.0 c.args.from c.args.value.now ∙ sym about.0.id) at) (some_data v put (length it.node.bytes) c.args.from (length c.args.value.now) at (omega (arith, c.requires.stands.service.least)) (c.is_nothing.ensures.some c.if-is_nothing.false)) n grow c.args.from c.args.value.now has is,
     ))
     (c.put_data.ensures.spent tells it.node there.0 about.0.id there.1 put (write_id tree c.args._path.now c.args.told.now it.node about.0 c.args.from c.args.value.now) at)
 
@@ -174,7 +175,7 @@ pub returns-then-is_nothing-clause-touches : goal.returns-then-is_nothing-clause
 returns-then-is_nothing-clause-touches g c committed holds alike = touches_none committed _ (g.P.SectorView.space c.args.space.now)
 
 pub returns-then-is_nothing-clause-loads : goal.returns-then-is_nothing-clause-loads
-returns-then-is_nothing-clause-loads g c tells filled n grow is = omega arith
+returns-then-is_nothing-clause-loads g c tells n grow is = omega arith
 
 pub returns-then-is_nothing-clause-service : goal.returns-then-is_nothing-clause-service
 returns-then-is_nothing-clause-service g c = c.requires.stands.service
@@ -192,7 +193,7 @@ pub returns-in-Some-clause-touches : goal.returns-in-Some-clause-touches
 returns-in-Some-clause-touches g c committed holds alike = touches_none committed _ (g.P.SectorView.space c.args.space.now)
 
 pub returns-in-Some-clause-loads : goal.returns-in-Some-clause-loads
-returns-in-Some-clause-loads g c tells filled n grow is = omega arith
+returns-in-Some-clause-loads g c tells n grow is = omega arith
 
 pub returns-in-Some-clause-service : goal.returns-in-Some-clause-service
 returns-in-Some-clause-service g c = c.requires.stands.service
