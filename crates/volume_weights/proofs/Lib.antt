@@ -1,4 +1,5 @@
 pub mod CommandWeights
+pub mod CutsAhead
 pub mod DataBlocks
 pub mod DataFork
 pub mod DataNeeds

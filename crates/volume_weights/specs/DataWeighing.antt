@@ -15,6 +15,8 @@ use Rattle.hfs_volume.specs.Weight.{Data, data_of, edits, extents_edits, file_bl
 use Rattle.hfs_volume.specs.declared.cost.Needs.{Needs}
 use Rattle.volume_base.specs.Reading.{HasFile}
 use Rattle.volume_base.specs.declared.data_cost.Put.{Put}
+use Rattle.volume_base.specs.declared.weighing.Weight.{Weight}
+use Rattle.volume_base.specs.declared.weighing.Weight.TheVariants as answer
 
 -- blocks have 512 bytes at least, a file at most 2^48, and data ends by 2^40
 abbrev pub are_usual : ℕ → Put → Bool
@@ -34,6 +36,11 @@ has_more block blocks put = nat_lt put.old_size (max put.old_size put.end) && na
 -- Its step doesn't refuse the command, but it puts data where blocks past a file's size go first.
 abbrev pub WaitsForCut : Content → Command → Type 0
 WaitsForCut content asked = (refuses (tree_of content) (Ok asked) ≡ false) × (needs_cut (volume_of content) (data_of (tree_of content) asked) ≡ true)
+
+-- the command is refused, by its step or for want of a resource
+abbrev pub IsRefused : Weight → Type 0
+IsRefused (answer.Refused why) = Unit {0}
+IsRefused _ = ⊥
 
 -- the file whose record this is
 abbrev pub file_of_record : CatRecord → Option FileRecord

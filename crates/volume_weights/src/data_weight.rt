@@ -61,6 +61,7 @@ fn weigh_size<P: SectorSpace>(
     ensures answer { IsTrue (P.SectorView.space space.old).tells
         → IfOk result (λ said. IfSome said (λ weighs. weighs ≡ weighed (capacity_of volume.old) (free_in blocks.Takable volume.old.map) (volume_of (P.SectorView.space space.old).content) (tree_of (P.SectorView.space space.old).content) (command.Trunc _path.now size))) }
     ensures waits { IsTrue (P.SectorView.space space.old).tells → IfOk result (λ said. is_some said ≡ false → WaitsForCut (P.SectorView.space space.old).content (command.Trunc _path.now size)) }
+    ensures cuts { IsTrue (P.SectorView.space space.old).tells → WaitsForCut (P.SectorView.space space.old).content (command.Trunc _path.now size) → IfOk result (λ said. is_some said ≡ false) }
     ensures reads { ReadsVolume volume.old volume.new (P.SectorView.space space.old) (P.SectorView.space space.new) }
     ensures stands { StandsOver volume.new (P.SectorView.space space.new) }
     ensures settled { IsTrue (P.SectorView.space space.old).tells → IsSettled volume.new (P.SectorView.space space.new).content }
@@ -97,6 +98,7 @@ pub(crate) fn weigh_trunc<P: SectorSpace>(
     ensures answer { IsTrue (P.SectorView.space space.old).tells
         → IfOk result (λ said. IfSome said (λ weighs. weighs ≡ weighed (capacity_of volume.old) (free_in blocks.Takable volume.old.map) (volume_of (P.SectorView.space space.old).content) (tree_of (P.SectorView.space space.old).content) (command.Trunc path.now size))) }
     ensures waits { IsTrue (P.SectorView.space space.old).tells → IfOk result (λ said. is_some said ≡ false → WaitsForCut (P.SectorView.space space.old).content (command.Trunc path.now size)) }
+    ensures cuts { IsTrue (P.SectorView.space space.old).tells → WaitsForCut (P.SectorView.space space.old).content (command.Trunc path.now size) → IfOk result (λ said. is_some said ≡ false) }
     ensures reads { ReadsVolume volume.old volume.new (P.SectorView.space space.old) (P.SectorView.space space.new) }
     ensures stands { StandsOver volume.new (P.SectorView.space space.new) }
     ensures settled { IsTrue (P.SectorView.space space.old).tells → IsSettled volume.new (P.SectorView.space space.new).content }
@@ -127,6 +129,7 @@ fn weigh_value<P: SectorSpace>(
     ensures answer { IsTrue (P.SectorView.space space.old).tells
         → IfOk result (λ said. IfSome said (λ weighs. weighs ≡ weighed (capacity_of volume.old) (free_in blocks.Takable volume.old.map) (volume_of (P.SectorView.space space.old).content) (tree_of (P.SectorView.space space.old).content) (command.Write _path.now from value.now))) }
     ensures waits { IsTrue (P.SectorView.space space.old).tells → IfOk result (λ said. is_some said ≡ false → WaitsForCut (P.SectorView.space space.old).content (command.Write _path.now from value.now)) }
+    ensures cuts { IsTrue (P.SectorView.space space.old).tells → WaitsForCut (P.SectorView.space space.old).content (command.Write _path.now from value.now) → IfOk result (λ said. is_some said ≡ false) }
     ensures reads { ReadsVolume volume.old volume.new (P.SectorView.space space.old) (P.SectorView.space space.new) }
     ensures stands { StandsOver volume.new (P.SectorView.space space.new) }
     ensures settled { IsTrue (P.SectorView.space space.old).tells → IsSettled volume.new (P.SectorView.space space.new).content }
@@ -164,6 +167,7 @@ pub(crate) fn weigh_write<P: SectorSpace>(
     ensures answer { IsTrue (P.SectorView.space space.old).tells
         → IfOk result (λ said. IfSome said (λ weighs. weighs ≡ weighed (capacity_of volume.old) (free_in blocks.Takable volume.old.map) (volume_of (P.SectorView.space space.old).content) (tree_of (P.SectorView.space space.old).content) (command.Write path.now from value.now))) }
     ensures waits { IsTrue (P.SectorView.space space.old).tells → IfOk result (λ said. is_some said ≡ false → WaitsForCut (P.SectorView.space space.old).content (command.Write path.now from value.now)) }
+    ensures cuts { IsTrue (P.SectorView.space space.old).tells → WaitsForCut (P.SectorView.space space.old).content (command.Write path.now from value.now) → IfOk result (λ said. is_some said ≡ false) }
     ensures reads { ReadsVolume volume.old volume.new (P.SectorView.space space.old) (P.SectorView.space space.new) }
     ensures stands { StandsOver volume.new (P.SectorView.space space.new) }
     ensures settled { IsTrue (P.SectorView.space space.old).tells → IsSettled volume.new (P.SectorView.space space.new).content }

@@ -286,6 +286,8 @@ pub fn weigh<P: SectorSpace>(
     // size go first.
     ensures waits { IsTrue (P.SectorView.space space.old).tells → only_reads command.now ≡ false
         → IfOk result (λ said. is_some said ≡ false → WaitsForCut (P.SectorView.space space.old).content command.now) }
+    // Of each such command nothing is told.
+    ensures cuts { IsTrue (P.SectorView.space space.old).tells → WaitsForCut (P.SectorView.space space.old).content command.now → IfOk result (λ said. is_some said ≡ false) }
     ensures reads { ReadsVolume volume.old volume.new (P.SectorView.space space.old) (P.SectorView.space space.new) }
     ensures stands { StandsOver volume.new (P.SectorView.space space.new) }
     ensures settled { IsTrue (P.SectorView.space space.old).tells → IsSettled volume.new (P.SectorView.space space.new).content }

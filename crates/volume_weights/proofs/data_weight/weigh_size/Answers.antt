@@ -18,7 +18,8 @@ use Rattle.volume_base.proofs.DataWeights.{size_weighed}
 use Rattle.volume_base.proofs.Refused.{not_refused, told_refused, trunc_refusal}
 use Rattle.volume_base.proofs.Rising.{settled_is_plain}
 use Rattle.volume_base.proofs.Seeing.{if_so}
-use Rattle.volume_base.proofs.ToldFile.{told_node, trunc_told, trunc_line}
+use Rattle.volume_base.proofs.ToldFile.{short_data, told_node, trunc_told, trunc_line}
+use Rattle.volume_weights.proofs.CutsAhead.{never_waits, put_told, refused_waits}
 use Rattle.volume_weights.proofs.data_weight.weigh_size.Goals as goal
 
 pub returns-in-Some-clause-answer : goal.returns-in-Some-clause-answer
@@ -63,3 +64,23 @@ returns-then-told-size-clause-waits g c tells =
       trunc_more (volume_of (g.P.SectorView.space c.args.space.now).content) (tree_of (g.P.SectorView.space c.args.space.now).content) c.args._path.now c.args.size (data_as (record { id = c.args.told.now.id; old_size = c.args.told.now.size; from = c.args.told.now.size; end = c.args.size })) (trunc_put (tree_of (g.P.SectorView.space c.args.space.now).content) c.args._path.now c.args.told.now it.node about.0 (record { id = c.args.told.now.id; old_size = c.args.told.now.size; from = c.args.told.now.size; end = c.args.size }) refl refl c.args.size c.if-told-size.true refl refl) (is none),
     ))
     (c.weigh_put.ensures.waits tells)
+
+-- ---- ahead of which a cut goes
+
+pub returns-in-Some-clause-cuts : goal.returns-in-Some-clause-cuts
+returns-in-Some-clause-cuts g c tells waits =
+    absurd (refused_waits (g.P.SectorView.space c.args.space.now).content (command.Trunc c.args._path.now c.args.size) c.in-Some.why (sym c.in-Some.is ∙ c.against_trunc.ensures ∙ trunc_refusal (tree_of (g.P.SectorView.space c.args.space.now).content) (settled_is_plain c.sound_has_plain_tree.ensures c.args.volume.now (g.P.SectorView.space c.args.space.now).content (c.requires.stands.stands tells).trees (c.requires.settled tells)) c.args._path.now c.args.size (Ok c.args.told.now) (c.requires.told tells)) waits)
+
+pub returns-then-told-size-clause-cuts : goal.returns-then-told-size-clause-cuts
+returns-then-told-size-clause-cuts g c tells waits =
+    let it = told_node (tree_of (g.P.SectorView.space c.args.space.now).content) c.args._path.now c.args.told.now (c.requires.told tells) in
+    let about = trunc_told (tree_of (g.P.SectorView.space c.args.space.now).content) c.args._path.now c.args.told.now it c.args.size (sym c.in_default.is ∙ c.against_trunc.ensures) in
+    if_so (λ (said : Option Weight). is_some said ≡ true → needs_cut (volume_of (g.P.SectorView.space c.args.space.now).content) (Some (data_as (record { id = c.args.told.now.id; old_size = c.args.told.now.size; from = c.args.told.now.size; end = c.args.size }))) ≡ false) (λ (said : Option Weight). is_some said ≡ false) c.weigh_put.result
+    (λ said no_cut. put_told (g.P.SectorView.space c.args.space.now).content (command.Trunc c.args._path.now c.args.size) (data_as (record { id = c.args.told.now.id; old_size = c.args.told.now.size; from = c.args.told.now.size; end = c.args.size })) said (trunc_put (tree_of (g.P.SectorView.space c.args.space.now).content) c.args._path.now c.args.told.now it.node about.0 (record { id = c.args.told.now.id; old_size = c.args.told.now.size; from = c.args.told.now.size; end = c.args.size }) refl refl c.args.size c.if-told-size.true refl refl) no_cut waits)
+    (c.weigh_put.ensures.no_cut tells)
+
+pub returns-clause-cuts : goal.returns-clause-cuts
+returns-clause-cuts g c tells waits =
+    let it = told_node (tree_of (g.P.SectorView.space c.args.space.now).content) c.args._path.now c.args.told.now (c.requires.told tells) in
+    let about = trunc_told (tree_of (g.P.SectorView.space c.args.space.now).content) c.args._path.now c.args.told.now it c.args.size (sym c.in_default.is ∙ c.against_trunc.ensures) in
+    absurd (never_waits (g.P.SectorView.space c.args.space.now).content (command.Trunc c.args._path.now c.args.size) (command.Trunc c.args._path.now c.args.size) refl (short_data (tree_of (g.P.SectorView.space c.args.space.now).content) c.args._path.now c.args.told.now it.node about.0 c.args.size c.if-told-size.false) waits)

@@ -18,7 +18,8 @@ use Rattle.volume_base.proofs.DataWeights.{value_weighed}
 use Rattle.volume_base.proofs.Refused.{not_refused, told_refused, write_refusal}
 use Rattle.volume_base.proofs.Rising.{settled_is_plain}
 use Rattle.volume_base.proofs.Seeing.{if_so}
-use Rattle.volume_base.proofs.ToldFile.{told_node, write_told}
+use Rattle.volume_base.proofs.ToldFile.{empty_data, told_node, write_told}
+use Rattle.volume_weights.proofs.CutsAhead.{never_waits, put_told, refused_waits}
 use Rattle.volume_weights.proofs.data_weight.weigh_value.Goals as goal
 
 pub returns-in-Some-clause-answer : goal.returns-in-Some-clause-answer
@@ -63,3 +64,23 @@ returns-then-not-is_empty-clause-waits g c tells =
       write_more (volume_of (g.P.SectorView.space c.args.space.now).content) (tree_of (g.P.SectorView.space c.args.space.now).content) c.args._path.now c.args.from c.args.value.now (data_as (record { id = c.args.told.now.id; old_size = c.args.told.now.size; from = c.args.from; end = c.end_of.result })) (write_put (tree_of (g.P.SectorView.space c.args.space.now).content) c.args._path.now c.args.told.now it.node about.0 (record { id = c.args.told.now.id; old_size = c.args.told.now.size; from = c.args.from; end = c.end_of.result }) refl refl c.args.from c.args.value.now (sym c.is_empty.ensures ∙ c.if-not-is_empty.true) refl c.end_of.ensures) (is none),
     ))
     (c.weigh_put.ensures.waits tells)
+
+-- ---- ahead of which a cut goes
+
+pub returns-in-Some-clause-cuts : goal.returns-in-Some-clause-cuts
+returns-in-Some-clause-cuts g c tells waits =
+    absurd (refused_waits (g.P.SectorView.space c.args.space.now).content (command.Write c.args._path.now c.args.from c.args.value.now) c.in-Some.why (sym c.in-Some.is ∙ c.against_write.ensures ∙ write_refusal (tree_of (g.P.SectorView.space c.args.space.now).content) (settled_is_plain c.sound_has_plain_tree.ensures c.args.volume.now (g.P.SectorView.space c.args.space.now).content (c.requires.stands.stands tells).trees (c.requires.settled tells)) c.args._path.now c.args.from c.args.value.now (Ok c.args.told.now) (c.requires.told tells)) waits)
+
+pub returns-then-not-is_empty-clause-cuts : goal.returns-then-not-is_empty-clause-cuts
+returns-then-not-is_empty-clause-cuts g c tells waits =
+    let it = told_node (tree_of (g.P.SectorView.space c.args.space.now).content) c.args._path.now c.args.told.now (c.requires.told tells) in
+    let about = write_told (tree_of (g.P.SectorView.space c.args.space.now).content) c.args._path.now c.args.told.now it c.args.from c.args.value.now (sym c.in_default.is ∙ c.against_write.ensures) in
+    if_so (λ (said : Option Weight). is_some said ≡ true → needs_cut (volume_of (g.P.SectorView.space c.args.space.now).content) (Some (data_as (record { id = c.args.told.now.id; old_size = c.args.told.now.size; from = c.args.from; end = c.end_of.result }))) ≡ false) (λ (said : Option Weight). is_some said ≡ false) c.weigh_put.result
+    (λ said no_cut. put_told (g.P.SectorView.space c.args.space.now).content (command.Write c.args._path.now c.args.from c.args.value.now) (data_as (record { id = c.args.told.now.id; old_size = c.args.told.now.size; from = c.args.from; end = c.end_of.result })) said (write_put (tree_of (g.P.SectorView.space c.args.space.now).content) c.args._path.now c.args.told.now it.node about.0 (record { id = c.args.told.now.id; old_size = c.args.told.now.size; from = c.args.from; end = c.end_of.result }) refl refl c.args.from c.args.value.now (sym c.is_empty.ensures ∙ c.if-not-is_empty.true) refl c.end_of.ensures) no_cut waits)
+    (c.weigh_put.ensures.no_cut tells)
+
+pub returns-clause-cuts : goal.returns-clause-cuts
+returns-clause-cuts g c tells waits =
+    let it = told_node (tree_of (g.P.SectorView.space c.args.space.now).content) c.args._path.now c.args.told.now (c.requires.told tells) in
+    let about = write_told (tree_of (g.P.SectorView.space c.args.space.now).content) c.args._path.now c.args.told.now it c.args.from c.args.value.now (sym c.in_default.is ∙ c.against_write.ensures) in
+    absurd (never_waits (g.P.SectorView.space c.args.space.now).content (command.Write c.args._path.now c.args.from c.args.value.now) (command.Write c.args._path.now c.args.from c.args.value.now) refl (empty_data (tree_of (g.P.SectorView.space c.args.space.now).content) c.args._path.now c.args.told.now it.node about.0 c.args.from c.args.value.now (eqb-true (length c.args.value.now) 0 (sym c.is_empty.ensures ∙ c.if-not-is_empty.false))) waits)

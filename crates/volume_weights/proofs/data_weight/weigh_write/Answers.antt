@@ -17,6 +17,7 @@ use Rattle.volume_base.specs.Room.{free_in}
 use Rattle.volume_base.specs.declared.room.FreeBlocks.TheVariants as blocks
 use Rattle.volume_base.proofs.Refused.{told_refused, write_refusal}
 use Rattle.volume_base.proofs.Rising.{settled_is_plain}
+use Rattle.volume_weights.proofs.CutsAhead.{refused_waits}
 use Rattle.volume_weights.proofs.data_weight.weigh_write.Goals as goal
 
 pub returns-in-Err-clause-answer : goal.returns-in-Err-clause-answer
@@ -51,3 +52,11 @@ weigh_value-requires-clause-told g c tells =
 
 pub weigh_value-requires-clause-settled : goal.weigh_value-requires-clause-settled
 weigh_value-requires-clause-settled g c tells = c.facts.ensures.settled (sym c.facts.ensures.reads.looks.same.tells ∙ tells)
+
+pub returns-in-Err-clause-cuts : goal.returns-in-Err-clause-cuts
+returns-in-Err-clause-cuts g c tells waits =
+    absurd (refused_waits (g.P.SectorView.space c.args.space.now).content (command.Write c.args.path.now c.args.from c.args.value.now) c.in-Err.why (write_refusal (tree_of (g.P.SectorView.space c.args.space.now).content) (settled_is_plain c.sound_has_plain_tree.ensures c.args.volume.now (g.P.SectorView.space c.args.space.now).content (c.requires.stands.stands tells).trees (c.requires.settled tells)) c.args.path.now c.args.from c.args.value.now (Err c.in-Err.why) (sym c.in-Err.is ∙ c.in_ok-told.ensures.told tells)) waits)
+
+pub returns-in-Ok-clause-cuts : goal.returns-in-Ok-clause-cuts
+returns-in-Ok-clause-cuts g c tells waits =
+    c.weigh_value.ensures.cuts (c.facts.ensures.reads.looks.same.tells ∙ tells) (subst (λ (k : Content). WaitsForCut k (command.Write c.args.path.now c.args.from c.args.value.now)) (sym (c.facts.ensures.reads.looks.content tells)) waits)

@@ -1,4 +1,4 @@
-use Rattle.std.proofs.Common.{◌≡◌, ℕ, false, List, sym, ◌∙◌, ap, subst}
+use Rattle.std.proofs.Common.{◌≡◌, ℕ, false, List, refl, sym, ◌∙◌, ap, subst}
 use Rattle.std.specs.Prelude.{is_some, IfOk, IfSome, Option, Ok}
 use Rattle.hfs_language.specs.declared.command.Command.{Command}
 use Rattle.hfs_language.specs.declared.command.Command.TheVariants as command
@@ -10,6 +10,7 @@ use Rattle.volume_base.specs.Weighing.{weighed}
 use Rattle.volume_base.specs.declared.room.FreeBlocks.TheVariants as blocks
 use Rattle.volume_base.specs.declared.weighing.Weight.{Weight}
 use Rattle.volume_base.proofs.Seeing.{if_so}
+use Rattle.volume_weights.proofs.CutsAhead.{never_waits}
 use Rattle.volume_weights.proofs.weights.weigh.Goals as goal
 
 pub returns-in_ok-weigh_chmod-in-Chmod-clause-answer : goal.returns-in_ok-weigh_chmod-in-Chmod-clause-answer
@@ -43,3 +44,39 @@ returns-in-Trunc-clause-waits g c tells unread =
     if_so (λ (said : Option Weight). is_some said ≡ false → WaitsForCut (g.P.SectorView.space c.args.space.now).content (command.Trunc c.in-Trunc.path c.in-Trunc.size))
     (λ (said : Option Weight). is_some said ≡ false → WaitsForCut (g.P.SectorView.space c.args.space.now).content c.args.command.now) c.weigh_trunc.result
     (λ said it none. subst (λ (k : Command). WaitsForCut (g.P.SectorView.space c.args.space.now).content k) (sym c.in-Trunc.is) (it none)) (c.weigh_trunc.ensures.waits tells)
+
+-- ---- ahead of which a cut goes
+
+pub returns-in-Write-clause-cuts : goal.returns-in-Write-clause-cuts
+returns-in-Write-clause-cuts g c tells waits =
+    c.weigh_write.ensures.cuts tells (subst (λ (k : Command). WaitsForCut (g.P.SectorView.space c.args.space.now).content k) (c.in-Write.is ∙ ap (λ (v : List ℕ). command.Write c.in-Write.path c.in-Write.from v) (sym c.as_slice-in-Write.ensures)) waits)
+
+pub returns-in-Trunc-clause-cuts : goal.returns-in-Trunc-clause-cuts
+returns-in-Trunc-clause-cuts g c tells waits = c.weigh_trunc.ensures.cuts tells (subst (λ (k : Command). WaitsForCut (g.P.SectorView.space c.args.space.now).content k) c.in-Trunc.is waits)
+
+pub returns-in_ok-weigh_chmod-in-Chmod-clause-cuts : goal.returns-in_ok-weigh_chmod-in-Chmod-clause-cuts
+returns-in_ok-weigh_chmod-in-Chmod-clause-cuts g c tells waits = absurd (never_waits (g.P.SectorView.space c.args.space.now).content c.args.command.now (command.Chmod c.in-Chmod.path c.in-Chmod.mode) c.in-Chmod.is refl waits)
+
+pub returns-in_ok-weigh_setattr-in-SetAttr-clause-cuts : goal.returns-in_ok-weigh_setattr-in-SetAttr-clause-cuts
+returns-in_ok-weigh_setattr-in-SetAttr-clause-cuts g c tells waits = absurd (never_waits (g.P.SectorView.space c.args.space.now).content c.args.command.now (command.SetAttr c.in-SetAttr.path c.in-SetAttr.name c.in-SetAttr.value) c.in-SetAttr.is refl waits)
+
+pub returns-in_ok-weigh_delattr-in-DelAttr-clause-cuts : goal.returns-in_ok-weigh_delattr-in-DelAttr-clause-cuts
+returns-in_ok-weigh_delattr-in-DelAttr-clause-cuts g c tells waits = absurd (never_waits (g.P.SectorView.space c.args.space.now).content c.args.command.now (command.DelAttr c.in-DelAttr.path c.in-DelAttr.name) c.in-DelAttr.is refl waits)
+
+pub returns-in_ok-weigh_mkdir-in-Mkdir-clause-cuts : goal.returns-in_ok-weigh_mkdir-in-Mkdir-clause-cuts
+returns-in_ok-weigh_mkdir-in-Mkdir-clause-cuts g c tells waits = absurd (never_waits (g.P.SectorView.space c.args.space.now).content c.args.command.now (command.Mkdir c.in-Mkdir.path) c.in-Mkdir.is refl waits)
+
+pub returns-in_ok-weigh_create-in-Create-clause-cuts : goal.returns-in_ok-weigh_create-in-Create-clause-cuts
+returns-in_ok-weigh_create-in-Create-clause-cuts g c tells waits = absurd (never_waits (g.P.SectorView.space c.args.space.now).content c.args.command.now (command.Create c.in-Create.path) c.in-Create.is refl waits)
+
+pub returns-in_ok-weigh_rmdir-in-Rmdir-clause-cuts : goal.returns-in_ok-weigh_rmdir-in-Rmdir-clause-cuts
+returns-in_ok-weigh_rmdir-in-Rmdir-clause-cuts g c tells waits = absurd (never_waits (g.P.SectorView.space c.args.space.now).content c.args.command.now (command.Rmdir c.in-Rmdir.path) c.in-Rmdir.is refl waits)
+
+pub returns-in_ok-weigh_mv-in-Mv-clause-cuts : goal.returns-in_ok-weigh_mv-in-Mv-clause-cuts
+returns-in_ok-weigh_mv-in-Mv-clause-cuts g c tells waits = absurd (never_waits (g.P.SectorView.space c.args.space.now).content c.args.command.now (command.Mv c.in-Mv.from c.in-Mv.to) c.in-Mv.is refl waits)
+
+pub returns-in_ok-weigh_rm-in-Rm-clause-cuts : goal.returns-in_ok-weigh_rm-in-Rm-clause-cuts
+returns-in_ok-weigh_rm-in-Rm-clause-cuts g c tells waits = absurd (never_waits (g.P.SectorView.space c.args.space.now).content c.args.command.now (command.Rm c.in-Rm.path) c.in-Rm.is refl waits)
+
+pub returns-in_ok-weigh_ln-in-Ln-clause-cuts : goal.returns-in_ok-weigh_ln-in-Ln-clause-cuts
+returns-in_ok-weigh_ln-in-Ln-clause-cuts g c tells waits = absurd (never_waits (g.P.SectorView.space c.args.space.now).content c.args.command.now (command.Ln c.in-Ln.from c.in-Ln.to) c.in-Ln.is refl waits)
