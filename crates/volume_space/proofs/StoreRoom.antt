@@ -1,11 +1,12 @@
 -- What a cut's store of a fork's overflow records puts.
-use Rattle.std.proofs.Common.{◌≡◌, ◌≢◌, ◌≤◌, ℕ, ◌-◌, ◌*◌, List, length, refl, sym, ◌∙◌, subst, map, ap, ◌+◌}
+use Rattle.std.proofs.Common.{◌/◌, min, arith, ◌≡◌, ◌≢◌, ◌≤◌, ℕ, ◌-◌, ◌*◌, List, length, refl, sym, ◌∙◌, subst, map, ap, ◌+◌}
 use Rattle.volume_base.specs.Lists.{lists_of}
 use Rattle.sector_disk.specs.Space.{Space}
 use Rattle.btree_file.proofs.StandingLaws.{pairs_held}
 use Rattle.btree_file.specs.State.{state_of}
 use Rattle.btree_file.specs.Standing.{HoldsTree}
 use Rattle.btree_node.specs.TreeFile.{extents_form}
+use Rattle.btree_edit.specs.Editing.{edit_writes}
 use Rattle.btree_node.specs.Keys.{IsExtentKey, extent_cmp, is_eight_extents}
 use Rattle.volume_space.specs.Spreading.{ChangesFew, light_load}
 use Rattle.hx_bytes.specs.declared.extents.Extent.{Extent}
@@ -29,10 +30,14 @@ module _ (v : Volume) (content : Content) (settled : IsSettled v content) (k : F
       → ((changes : ℕ) → ((names : List ℕ) → ChangesFew changes (state_of names w.extents.file b) file.fields.id kind cut.stays) → b.spare ≤ after + light_load w.extents.file.shape changes)
       → b.spare ≤ after + spread_load v
   store_spent keep cut last w b holds gives puts kind is user after light =
-      subst (λ (x : Volume). b.spare ≤ after + light_load x.extents.file.shape 1) gives
+      subst (λ n. b.spare ≤ after + n) once
+      (subst (λ (x : Volume). b.spare ≤ after + light_load x.extents.file.shape 1) gives
       (light 1 (λ names. store_few v content settled k file has eight list is_list keep cut last (state_of names w.extents.file b) kind is
       (ap (map overflow_of) (pairs_held extents_form IsExtentKey is_eight_extents extent_cmp names w.extents.file b holds)
       ∙ ap (λ (l : VolumeState). map overflow_of l.overflow_pairs) puts.lists
       ∙ ap (λ (x : Volume). map overflow_of (lists_of x content).overflow_pairs) gives
       ∙ sym (ap (λ (l : VolumeState). map overflow_of l.overflow_pairs) settled.lists))
-      user))
+      user)))
+    where
+      once : light_load v.extents.file.shape 1 ≡ spread_load v
+      once = ap (λ k. v.extents.file.shape.node_size / 512 * min k v.extents.file.shape.total) (let one : 1 * edit_writes v.extents.file.shape.depth ≡ edit_writes v.extents.file.shape.depth = omega arith in one)

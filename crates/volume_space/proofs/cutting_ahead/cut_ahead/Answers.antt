@@ -1,5 +1,6 @@
 use Rattle.std.proofs.Common.{ℕ, List, ◌∙◌, subst, arith}
 use Rattle.std.specs.List.{Contains}
+use Rattle.hfs_volume.specs.Content.{volume_of}
 use Rattle.volume_base.specs.Room.{capacity_of}
 use Rattle.volume_base.specs.Touching.{Touches}
 use Rattle.volume_base.proofs.Commanding.{touches_both, touches_looks}
