@@ -1,5 +1,5 @@
 -- On a transaction to which nothing was put no commit is wanted by a command for which nothing is missing, and ahead of which no cut goes.
-use Rattle.std.proofs.Common.{◌≡◌, ◌⊎◌, inl, inr, ◌<◌, ◌≤◌, ℕ, zero, suc, ◌+◌, ◌==◌, ◌&&◌, Bool, true, false, not, List, [], ◌∷◌, length, get_or, map, replicate, refl, sym, ◌∙◌, ap, subst, arith, ⊎_elim}
+use Rattle.std.proofs.Common.{◌≡◌, ◌⊎◌, inl, inr, ◌<◌, ◌≤◌, ℕ, zero, suc, ◌+◌, ◌==◌, ◌&&◌, Bool, true, false, not, List, [], ◌∷◌, length, get_or, replicate, refl, sym, ◌∙◌, ap, subst, arith, ⊎_elim}
 use Rattle.std.specs.Prelude.{nat_lt, slice_index, IsTrue, Ok, Option, None, Some, if◌then◌else◌}
 use Rattle.std.proofs.lemmas.Bool.{cases_lt, eq-eqb, eqb-true, le-leb, le-ltb, ltb-false, true≢false}
 use Rattle.std.proofs.lemmas.List.{get_or-map, get_or-replicate, get_or_past, length-map, length-replicate, same_lists}
@@ -11,11 +11,10 @@ use Rattle.hfs_language.specs.declared.refusal.Refusal.{Refusal}
 use Rattle.hfs_language.specs.declared.refusal.Refusal.TheVariants as refusal
 use Rattle.hfs_model.specs.Step.{only_reads, refuses}
 use Rattle.hfs_volume.specs.Content.{volume_of}
-use Rattle.hfs_volume.specs.Cost.{attributes_key, catalog_key, cost_of, cost_or, deep_refusal, extents_key, first_refusal, growth, growth_blocks, load_of, load_refusal, overflow_records, plan_of, resource_refusal, tree_at, where_}
-use Rattle.hfs_volume.specs.Forks.{data_kind}
+use Rattle.hfs_volume.specs.Cost.{attributes_key, catalog_key, cost_of, cost_or, deep_refusal, extents_key, first_refusal, growth, growth_blocks, load_of, load_refusal, plan_of, resource_refusal, tree_at, where_}
 use Rattle.hfs_volume.specs.Reclaim.{first_growth}
 use Rattle.hfs_volume.specs.TreeOf.{tree_of}
-use Rattle.hfs_volume.specs.Weight.{Data, data_of, edits_of, file_extents, free_blocks, needs_cut, room_with, weight, weight_with}
+use Rattle.hfs_volume.specs.Weight.{Data, cut_cost, cut_load, data_of, edits_of, free_blocks, needs_cut, room_with, weight, weight_with}
 use Rattle.hfs_volume.specs.declared.cost.Cost.{Cost}
 use Rattle.hfs_volume.specs.declared.cost.Cost.TheVariants as cost
 use Rattle.hfs_volume.specs.declared.cost.Needs.{Needs}
@@ -27,7 +26,6 @@ use Rattle.volume_base.specs.Standing.{IsSettled}
 use Rattle.volume_base.specs.declared.volume.Volume.{Volume}
 use Rattle.volume_base.proofs.RoomKept.{free_content}
 use Rattle.volume_space.specs.Growing.{alone}
-use Rattle.volume_space.specs.Recording.{records_held}
 use Rattle.volume_space.specs.Spreading.{is_met_extents}
 use Rattle.volume_space.specs.Writing.{is_data_met}
 use Rattle.volume_space.specs.declared.ahead.WhichTree.{WhichTree}
@@ -46,11 +44,13 @@ use Rattle.volume_space.specs.Growing.{IsThere, WantsFirst}
 use Rattle.volume_step.proofs.GrowthThere.{growth_there}
 use Rattle.volume_step.proofs.Judged.{first_attributes, first_catalog, first_extents}
 use Rattle.volume_space.proofs.FewerEdits.{none_lacks}
-use Rattle.volume_step.specs.Anew.{FitsAnew, IsAnew, IsReadyAlike}
+use Rattle.volume_step.specs.Anew.{FitsAlike, FitsAnew, IsAnew}
+use Rattle.volume_step.specs.Loads.{IsWithinLoad}
 use Rattle.volume_step.specs.Steps.{FitsNow, IsTaken, PutsNow, verdict_of}
 use Rattle.volume_step.specs.declared.judging.Verdict.TheVariants as verdict
 use Rattle.volume_step.proofs.Judged.{three}
-use Rattle.volume_step.proofs.Ready.{edits_load, filled_still, now_still, of_cost, there_still, wants_now, wants_load}
+use Rattle.volume_step.proofs.Loaded.{cut_load_is, cut_weighs}
+use Rattle.volume_step.proofs.Ready.{edits_load, now_still, of_cost, there_still, wants_now, wants_load}
 use Rattle.volume_step.proofs.ReadyData.{data_weight, puts_still}
 
 -- ---- blocks
@@ -122,44 +122,39 @@ same_grow : (n m : ℕ) (grow other : List ℕ) → cost.Load n grow ≡ cost.Lo
 unfolding grow_of
 same_grow n m grow other is = ap (grow_of grow) is
 
-module _ (v : Volume) (a : Space) (asked : Command) (unread : only_reads asked ≡ false) (load : ℕ) (grow : List ℕ) (costs : weight_with (capacity_of v) (takable_of v) (volume_of a.content) (tree_of a.content) asked ≡ cost.Load load grow)
-    (no_cut : needs_cut (volume_of a.content) (data_of (tree_of a.content) asked) ≡ false)
-  where
-    edits_cost : data_of (tree_of a.content) asked ≡ None → cost_of (needs_of (edits_of (tree_of a.content) asked)) (room_with (capacity_of v) (takable_of v) (volume_of a.content)) ≡ cost.Load load grow
-    edits_cost is = edits_load (capacity_of v) (takable_of v) (volume_of a.content) (tree_of a.content) asked unread is load grow costs
+-- a cut that goes ahead costs a load that a transaction holds, too
+cut_load_within : (room : Room) (n : ℕ) (grow : List ℕ) → cut_cost room ≡ cost.Load n grow → n ≤ room.capacity
+cut_load_within room n grow is =
+    let all : load_refusal (cut_load room) room.capacity ≡ None = none_there (load_refusal (cut_load room) room.capacity) (cut_load room) (0 ∷ 0 ∷ 0 ∷ []) n grow is in
+    let fits = fits_where (nat_lt room.capacity (cut_load room)) (refusal.TooBig (cut_load room) room.capacity) (ap (λ r. first_refusal (r ∷ [])) all) in
+    omega (arith, ltb-false room.capacity (cut_load room) fits, cut_load_is room n grow is)
 
-    data_cost : (put : Data) → data_of (tree_of a.content) asked ≡ Some put → cost_of (needs_data (takable_of v) (volume_of a.content) put) (room_with (capacity_of v) (takable_of v) (volume_of a.content)) ≡ cost.Load load grow
-    data_cost put is = sym (data_weight (capacity_of v) (takable_of v) (volume_of a.content) (tree_of a.content) asked put is (ap (needs_cut (volume_of a.content)) (sym is) ∙ no_cut)) ∙ costs
+module _ (v : Volume) (a : Space) (asked : Command) (unread : only_reads asked ≡ false) (load : ℕ) (grow : List ℕ) (costs : weight_with (capacity_of v) (takable_of v) (volume_of a.content) (tree_of a.content) asked ≡ cost.Load load grow) where
+  edits_cost : data_of (tree_of a.content) asked ≡ None → cost_of (needs_of (edits_of (tree_of a.content) asked)) (room_with (capacity_of v) (takable_of v) (volume_of a.content)) ≡ cost.Load load grow
+  edits_cost is = edits_load (capacity_of v) (takable_of v) (volume_of a.content) (tree_of a.content) asked unread is load grow costs
 
-    -- a transaction holds it
-    load_held : load ≤ capacity_of v
-    unfolding room_with
-    load_held = by (data_of (tree_of a.content) asked) refl
-      where
-        by : (d : Option Data) → data_of (tree_of a.content) asked ≡ d → load ≤ capacity_of v
-        by None is = load_within (needs_of (edits_of (tree_of a.content) asked)) (room_with (capacity_of v) (takable_of v) (volume_of a.content)) load grow (edits_cost is)
-        by (Some put) is = load_within (needs_data (takable_of v) (volume_of a.content) put) (room_with (capacity_of v) (takable_of v) (volume_of a.content)) load grow (data_cost put is)
+  data_cost : (put : Data) → data_of (tree_of a.content) asked ≡ Some put → needs_cut (volume_of a.content) (data_of (tree_of a.content) asked) ≡ false → cost_of (needs_data (takable_of v) (volume_of a.content) put) (room_with (capacity_of v) (takable_of v) (volume_of a.content)) ≡ cost.Load load grow
+  data_cost put is no_cut = sym (data_weight (capacity_of v) (takable_of v) (volume_of a.content) (tree_of a.content) asked put is (ap (needs_cut (volume_of a.content)) (sym is) ∙ no_cut)) ∙ costs
+
+  -- a transaction holds it
+  load_held : load ≤ capacity_of v
+  unfolding room_with
+  load_held = by (needs_cut (volume_of a.content) (data_of (tree_of a.content) asked)) refl (data_of (tree_of a.content) asked) refl
+    where
+      by : (b : Bool) → needs_cut (volume_of a.content) (data_of (tree_of a.content) asked) ≡ b → (d : Option Data) → data_of (tree_of a.content) asked ≡ d → load ≤ capacity_of v
+      by true needs d is = cut_load_within (room_with (capacity_of v) (takable_of v) (volume_of a.content)) load grow (sym (cut_weighs (capacity_of v) (takable_of v) (volume_of a.content) (tree_of a.content) asked unread needs) ∙ costs)
+      by false none None is = load_within (needs_of (edits_of (tree_of a.content) asked)) (room_with (capacity_of v) (takable_of v) (volume_of a.content)) load grow (edits_cost is)
+      by false none (Some put) is = load_within (needs_data (takable_of v) (volume_of a.content) put) (room_with (capacity_of v) (takable_of v) (volume_of a.content)) load grow (data_cost put is none)
 
 -- ---- on a transaction to which nothing was put
 
 module _ (v : Volume) (a : Space) (settled : IsSettled v a.content) (anew : IsAnew v a) (asked : Command) (unread : only_reads asked ≡ false) (fits : FitsAnew asked v a.content) where
-  pub ready_alike : IsReadyAlike asked v a
+  pub ready_alike : FitsAlike asked v a
   ready_alike =
       let takable : takable_of v ≡ free_blocks (volume_of a.content) = free_none v.map anew.held ∙ free_content v a.content settled in
       let costs : weight_with (capacity_of v) (takable_of v) (volume_of a.content) (tree_of a.content) asked ≡ cost.Load fits.load fits.grow =
       ap (λ (f : List Bool). weight_with (capacity_of v) f (volume_of a.content) (tree_of a.content) asked) takable ∙ fits.affords in
-      record {
-        now = record {
-          load = fits.load;
-          grow = fits.grow;
-          affords = fits.affords;
-          costs = costs;
-          no_cut = fits.no_cut;
-          within = omega (arith, load_held v a asked unread fits.load fits.grow costs fits.no_cut, anew.whole);
-        };
-        records = fits.records;
-        filled = fits.filled;
-      }
+      record { load = fits.load; grow = fits.grow; affords = fits.affords; costs = costs; within = omega (arith, load_held v a asked unread fits.load fits.grow costs, anew.whole) }
 
 -- ---- the verdict
 
@@ -220,55 +215,60 @@ data_there v needs room n grow is none_ which.Attributes more some first =
     let flat : slice_index grow 2 ≡ 0 = planned ∙ ap (growth room.block attributes_key (tree_at room 2)) none_ ∙ none_lacks room.block attributes_key (tree_at room 2) in
     absurd (omega (arith, some, ap (λ l. slice_index l 2) first, third_growth grow flat))
 
-module _ (asked : Command) (v w : Volume) (a b : Space) (settled : IsSettled v a.content) (reads : ReadsVolume v w a b) (tells : IsTrue a.tells) (unread : only_reads asked ≡ false) (it : IsReadyAlike asked v a) where
-  abbrev fits_now : data_of (tree_of a.content) asked ≡ None → FitsNow asked v a
-  fits_now is = record { no_data = is; load = it.now.load; grow = it.now.grow; costs = it.now.costs; within = it.now.within }
+module _ (asked : Command) (v w : Volume) (a b : Space) (settled : IsSettled v a.content) (reads : ReadsVolume v w a b) (tells : IsTrue a.tells) (unread : only_reads asked ≡ false) (no_cut : needs_cut (volume_of a.content) (data_of (tree_of a.content) asked) ≡ false) where
+  module _ (load : ℕ) (grow : List ℕ) (costs : weight_with (capacity_of v) (takable_of v) (volume_of a.content) (tree_of a.content) asked ≡ cost.Load load grow) (within : load ≤ a.spare) where
+    abbrev fits_now : data_of (tree_of a.content) asked ≡ None → FitsNow asked v a
+    fits_now is = record { no_data = is; load = load; grow = grow; costs = costs; within = within }
 
-  -- the first growth is wanted still
-  pub wants_so : refuses (tree_of a.content) (Ok asked) ≡ false → (tree : WhichTree) (more : ℕ) → 0 < more → first_growth it.now.grow ≡ alone tree more → (wants : WantsFirst tree more w b) × (wants.load ≡ it.now.load)
-  wants_so fine tree more some first = by (data_of (tree_of a.content) asked) refl
-    where
-      by : (d : Option Data) → data_of (tree_of a.content) asked ≡ d → (wants : WantsFirst tree more w b) × (wants.load ≡ it.now.load)
-      by None is = (
-        wants_now asked v w a b reads tells unread (fits_now is) tree more some first
-            (growth_there v a.content settled asked unread is fine (capacity_of v) (takable_of v) it.now.load it.now.grow it.now.costs tree more some first) (it.records tree more some first),
-        wants_load asked v w a b reads tells unread (fits_now is) tree more some first
-            (growth_there v a.content settled asked unread is fine (capacity_of v) (takable_of v) it.now.load it.now.grow it.now.costs tree more some first) (it.records tree more some first),
-      )
-      by (Some put) is = (
-        record {
-          needs = needs_data (takable_of v) (volume_of a.content) put;
-          capacity = capacity_of w;
-          load = it.now.load;
-          grow = it.now.grow;
-          costs = subst (λ (k : ℕ × Bitmap × Content). cost_of (needs_data (takable_of v) (volume_of a.content) put) (room_with k.0 (takable_in k.1) (volume_of k.2)) ≡ cost.Load it.now.load it.now.grow) {x = (capacity_of v, v.map, a.content)} {y = (capacity_of w, w.map, b.content)}
-              (λ i. (sym reads.keeps.capacity i, sym reads.keeps.map i, sym (reads.looks.content tells) i)) (data_cost v a asked unread it.now.load it.now.grow it.now.costs it.now.no_cut put is);
-          within = omega (arith, it.now.within, reads.looks.spare);
-          some = some;
-          first = first;
-          there = there_still v w reads.keeps.header tree (data_there v (needs_data (takable_of v) (volume_of a.content) put) (room_with (capacity_of v) (takable_of v) (volume_of a.content)) it.now.load it.now.grow (data_cost v a asked unread it.now.load it.now.grow it.now.costs it.now.no_cut put is) refl tree more some first);
-          short = inr (filled_still v w a b reads tells tree (it.records tree more some first), refl);
-        },
-        refl,
-      )
-
-  pub wants_alike : refuses (tree_of a.content) (Ok asked) ≡ false → (tree : WhichTree) (more : ℕ) → 0 < more → first_growth it.now.grow ≡ alone tree more → WantsFirst tree more w b
-  wants_alike fine tree more some first = (wants_so fine tree more some first).0
+    -- the first growth is wanted still
+    pub wants_so : refuses (tree_of a.content) (Ok asked) ≡ false → (tree : WhichTree) (more : ℕ) → 0 < more → first_growth grow ≡ alone tree more → (wants : WantsFirst tree more w b) × (wants.load ≡ load)
+    wants_so fine tree more some first = by (data_of (tree_of a.content) asked) refl
+      where
+        by : (d : Option Data) → data_of (tree_of a.content) asked ≡ d → (wants : WantsFirst tree more w b) × (wants.load ≡ load)
+        by None is = (
+          wants_now asked v w a b reads tells unread (fits_now is) tree more some first (growth_there v a.content settled asked unread is fine (capacity_of v) (takable_of v) load grow costs tree more some first),
+          wants_load asked v w a b reads tells unread (fits_now is) tree more some first (growth_there v a.content settled asked unread is fine (capacity_of v) (takable_of v) load grow costs tree more some first),
+        )
+        by (Some put) is = (
+          record {
+            needs = needs_data (takable_of v) (volume_of a.content) put;
+            capacity = capacity_of w;
+            load = load;
+            grow = grow;
+            costs = subst (λ (k : ℕ × Bitmap × Content). cost_of (needs_data (takable_of v) (volume_of a.content) put) (room_with k.0 (takable_in k.1) (volume_of k.2)) ≡ cost.Load load grow) {x = (capacity_of v, v.map, a.content)} {y = (capacity_of w, w.map, b.content)}
+                (λ i. (sym reads.keeps.capacity i, sym reads.keeps.map i, sym (reads.looks.content tells) i)) (data_cost v a asked unread load grow costs put is no_cut);
+            within = omega (arith, within, reads.looks.spare);
+            some = some;
+            first = first;
+            there = there_still v w reads.keeps.header tree (data_there v (needs_data (takable_of v) (volume_of a.content) put) (room_with (capacity_of v) (takable_of v) (volume_of a.content)) load grow (data_cost v a asked unread load grow costs put is no_cut) refl tree more some first);
+            short = inr refl;
+          },
+          refl,
+        )
 
   -- where no tree grows it fits now, or its data is put now
-  pub fits_alike : it.now.grow ≡ 0 ∷ 0 ∷ 0 ∷ [] → ((now : FitsNow asked w b) × (now.grow ≡ 0 ∷ 0 ∷ 0 ∷ [])) ⊎ PutsNow asked w b
-  fits_alike flat = by (data_of (tree_of a.content) asked) refl
+  pub fits_alike : (it : FitsAlike asked v a) → it.grow ≡ 0 ∷ 0 ∷ 0 ∷ [] → ((now : FitsNow asked w b) × (now.grow ≡ 0 ∷ 0 ∷ 0 ∷ [])) ⊎ PutsNow asked w b
+  fits_alike it flat = by (data_of (tree_of a.content) asked) refl
     where
       met : (put : Data) → data_of (tree_of a.content) asked ≡ Some put → is_data_met v a.spare (volume_of a.content) (Some put) ≡ true
       met put is =
-          (λ i. not ((ap (needs_cut (volume_of a.content)) (sym is) ∙ it.now.no_cut) i)
-          && (eq-eqb (records_held (volume_of a.content) put.id) (overflow_records (length (file_extents (volume_of a.content) put.id data_kind))) (it.filled put is) i
-          && is_met_extents ((data_cost v a asked unread it.now.load it.now.grow it.now.costs it.now.no_cut put is ∙ ap (cost.Load it.now.load) flat) i) a.spare))
-          ∙ le-leb it.now.load a.spare it.now.within
+          (λ i. not ((ap (needs_cut (volume_of a.content)) (sym is) ∙ no_cut) i) && is_met_extents ((data_cost v a asked unread it.load it.grow it.costs put is no_cut ∙ ap (cost.Load it.load) flat) i) a.spare)
+          ∙ le-leb it.load a.spare it.within
 
       by : (d : Option Data) → data_of (tree_of a.content) asked ≡ d → ((now : FitsNow asked w b) × (now.grow ≡ 0 ∷ 0 ∷ 0 ∷ [])) ⊎ PutsNow asked w b
-      by None is = let still = now_still asked v w a b reads tells (fits_now is) in inl (still.0, still.1 ∙ flat)
+      by None is = let still = now_still asked v w a b reads tells (fits_now it.load it.grow it.costs it.within is) in inl (still.0, still.1 ∙ flat)
       by (Some put) is = inr (puts_still asked v w a b reads tells (record {
         met = ap (is_data_met v a.spare (volume_of a.content)) is ∙ met put is;
-        alike = λ n grow weighs. ap (λ l. slice_index l 0) (same_grow n it.now.load grow it.now.grow (sym weighs ∙ it.now.affords) ∙ flat);
+        alike = λ n grow weighs. ap (λ l. slice_index l 0) (same_grow n it.load grow it.grow (sym weighs ∙ it.affords) ∙ flat);
       }))
+
+  -- a growth puts no more than the load for which it goes first
+  pub growth_within : refuses (tree_of a.content) (Ok asked) ≡ false → (tree : WhichTree) (more : ℕ) (c : Space) → ((n : ℕ) (grow : List ℕ) → weight_with (capacity_of v) (takable_of v) (volume_of a.content) (tree_of a.content) asked ≡ cost.Load n grow → (0 < more) × (first_growth grow ≡ alone tree more))
+      → ((wants : WantsFirst tree more w b) → b.spare ≤ c.spare + wants.load) → IsWithinLoad asked v a c
+  growth_within fine tree more c goes spent load grow costs = elim (cases_lt a.spare load) [
+    | inl less ↦ omega (arith, less)
+    | inr within ↦
+        let first = goes load grow costs in
+        let wants = wants_so load grow costs within fine tree more first.0 first.1 in
+        omega (arith, reads.looks.spare, spent wants.0, wants.1)
+  ]

@@ -1,32 +1,34 @@
 -- A cut of blocks past a file's size, as a step of the command that puts data into the file.
-use Rattle.std.proofs.Common.{◌≡◌, ℕ, ◌+◌, ◌==◌, ◌&&◌, Bool, true, false, [], ◌∷◌, length, inl, inr, refl, sym, ◌∙◌, ap, subst, arith}
+use Rattle.std.proofs.Common.{◌≡◌, ◌<◌, ℕ, ◌+◌, ◌==◌, ◌&&◌, Bool, true, false, [], length, inl, inr, refl, sym, ◌∙◌, ap, subst, arith}
 use Rattle.std.specs.Prelude.{nat_lt, Option, None, Some, Result, Ok, Err, if◌then◌else◌}
 use Rattle.std.proofs.lemmas.Bool.{le-ltb, true≢false}
 use Rattle.sector_disk.specs.Lists.{Content}
 use Rattle.hfs_language.specs.declared.command.Command.{Command}
 use Rattle.hfs_language.specs.declared.command.Command.TheVariants as command
 use Rattle.hfs_language.specs.declared.refusal.Refusal.{Refusal}
-use Rattle.hfs_language.specs.declared.refusal.Refusal.TheVariants as refusal
 use Rattle.hfs_model.specs.Step.{only_reads, size_written, to_file}
 use Rattle.hfs_model.specs.declared.plain.PlainNode.{PlainNode}
 use Rattle.hfs_model.specs.declared.plain.PlainTree.{PlainTree}
 use Rattle.hfs_volume.specs.Content.{VolumeState, volume_of}
-use Rattle.hfs_volume.specs.Cost.{cost_of}
 use Rattle.hfs_volume.specs.Laws.{SoundIsBoth}
 use Rattle.hfs_volume.specs.Reclaim.{CutShrunk, CutsSurplus, Does, Reclaim, Reclaims, next_reclaim, reclaim_cost, reclaim_cost_with}
 use Rattle.hfs_volume.specs.Sound.{IsSound}
 use Rattle.hfs_volume.specs.TreeOf.{tree_of}
-use Rattle.hfs_volume.specs.Weight.{Data, cut_cost, data_of, edits_of, free_blocks, grown_data, has_surplus, lacks_tree, needs_cut, needs_for, room_with, weight, weight_with, written_data}
+use Rattle.hfs_volume.specs.Weight.{Data, data_of, free_blocks, grown_data, has_surplus, needs_cut, room_with, written_data}
 use Rattle.hfs_volume.specs.declared.cost.Cost.TheVariants as cost
 use Rattle.hfs_volume.proofs.Flat.{none_or_some, some_same}
-use Rattle.volume_space.specs.CuttingAhead.{CutsAhead, cuts_first}
+use Rattle.volume_runs.specs.Rest.{cut_puts, file_written}
+use Rattle.volume_space.specs.CuttingAhead.{CutsAhead, IsShortCut, cuts_first}
 use Rattle.volume_weights.specs.DataWeighing.{WaitsForCut}
 use Rattle.volume_space.specs.declared.cutting_ahead.CutAhead.{CutAhead}
 use Rattle.volume_space.specs.declared.cutting_ahead.CutAhead.TheVariants as ahead
 use Rattle.volume_space.specs.declared.tidying.Tidying.TheVariants as tidying
 use Rattle.volume_step.specs.Steps.{KeepsJournal, ShrinksAs, StepsTo, data_end, data_path, outcome_of}
 use Rattle.volume_step.specs.declared.outcome.Outcome.{Outcome}
+use Rattle.volume_step.specs.declared.outcome.Outcome.TheVariants as outcome
+use Rattle.hfs_language.specs.declared.reply.Reply.TheVariants as reply
 use Rattle.volume_step.proofs.Done.{refused_steps, same_place}
+use Rattle.volume_step.proofs.Loaded.{cut_weighs}
 use Rattle.volume_step.proofs.Reclaimed.{places_as, reclaimed}
 
 -- ---- the data that a command puts
@@ -101,49 +103,78 @@ no_end tree (command.At n) is = refl
 no_end tree command.Df is = refl
 no_end tree command.Sync is = refl
 
+-- the file that is cut is the one that the command puts data into
+put_id : (put : Data) (volume : VolumeState) (b : Bool) → needs_cut volume (if◌then◌else◌ {A = Option Data} b (Some put) None) ≡ true → file_written (if◌then◌else◌ {A = Option Data} b (Some put) None) ≡ Some put.id
+put_id put volume true needs = refl
+put_id put volume false needs = absurd (true≢false (sym needs))
+
+empty_id : (put : Data) (volume : VolumeState) (b : Bool) → needs_cut volume (if◌then◌else◌ {A = Option Data} b None (Some put)) ≡ true → file_written (if◌then◌else◌ {A = Option Data} b None (Some put)) ≡ Some put.id
+empty_id put volume true needs = absurd (true≢false (sym needs))
+empty_id put volume false needs = refl
+
+file_cut : (volume : VolumeState) (tree : PlainTree) (asked : Command) → needs_cut volume (data_of tree asked) ≡ true → (node : PlainNode) → to_file tree (data_path asked) ≡ Ok node → file_written (data_of tree asked) ≡ Some node.id
+file_cut volume tree (command.Write path from value) needs node file =
+    ap (λ r. file_written (written_data from (length value) r)) file
+    ∙ empty_id (record { id = node.id; old_size = length node.bytes; new_size = size_written (length node.bytes) from (length value); from = from; end = from + length value }) volume (length value == 0)
+    (sym (ap (λ r. needs_cut volume (written_data from (length value) r)) file) ∙ needs)
+file_cut volume tree (command.Trunc path size) needs node file =
+    ap (λ r. file_written (grown_data size r)) file
+    ∙ put_id (record { id = node.id; old_size = length node.bytes; new_size = size; from = length node.bytes; end = size }) volume (nat_lt (length node.bytes) size) (sym (ap (λ r. needs_cut volume (grown_data size r)) file) ∙ needs)
+file_cut volume tree (command.Mkdir p) needs node file = absurd (true≢false (sym needs))
+file_cut volume tree (command.Create p) needs node file = absurd (true≢false (sym needs))
+file_cut volume tree (command.Rm p) needs node file = absurd (true≢false (sym needs))
+file_cut volume tree (command.Rmdir p) needs node file = absurd (true≢false (sym needs))
+file_cut volume tree (command.Mv p q) needs node file = absurd (true≢false (sym needs))
+file_cut volume tree (command.Ln p q) needs node file = absurd (true≢false (sym needs))
+file_cut volume tree (command.Read p n m) needs node file = absurd (true≢false (sym needs))
+file_cut volume tree (command.Ls p) needs node file = absurd (true≢false (sym needs))
+file_cut volume tree (command.Stat p) needs node file = absurd (true≢false (sym needs))
+file_cut volume tree (command.Chmod p m) needs node file = absurd (true≢false (sym needs))
+file_cut volume tree (command.SetAttr p n v) needs node file = absurd (true≢false (sym needs))
+file_cut volume tree (command.GetAttr p n) needs node file = absurd (true≢false (sym needs))
+file_cut volume tree (command.DelAttr p n) needs node file = absurd (true≢false (sym needs))
+file_cut volume tree (command.LsAttr p) needs node file = absurd (true≢false (sym needs))
+file_cut volume tree (command.At n) needs node file = absurd (true≢false (sym needs))
+file_cut volume tree command.Df needs node file = absurd (true≢false (sym needs))
+file_cut volume tree command.Sync needs node file = absurd (true≢false (sym needs))
+
 -- ---- the cut
 
 -- the step of reclaiming that is the next one where the file was shrunk last cuts its blocks past its size
-surplus_cut : (capacity id : ℕ) (before after : Content) → next_reclaim (volume_of before) (Some id) ≡ Some (CutShrunk id) → Reclaims capacity (Some id) before after → CutsSurplus capacity before after
+surplus_cut : (capacity id : ℕ) (before after : Content) → next_reclaim (volume_of before) (Some id) ≡ Some (CutShrunk id) → Reclaims capacity (Some id) before after → (cuts : CutsSurplus capacity before after) × (cuts.id ≡ id)
 unfolding reclaim_cost_with
 surplus_cut capacity id before after next was =
     let step : was.step ≡ CutShrunk id = some_same was.step (CutShrunk id) (sym was.next ∙ next) in
-    let costs : reclaim_cost capacity (volume_of before) (CutShrunk id) ≡ cost.Load was.load was.grow = ap (reclaim_cost capacity (volume_of before)) (sym step) ∙ was.affords in
-    record {
-      id = id;
-      load = was.load;
-      grow = was.grow;
-      affords = costs;
-      cuts = subst (λ (s : Reclaim). Does s (volume_of before) (volume_of after)) step was.does;
-      keeps = was.keeps;
-    }
+    let costs : reclaim_cost capacity (volume_of before) (CutShrunk id) ≡ cost.Load was.load was.grow = ap (reclaim_cost capacity (volume_of before)) (sym step) ∙ was.affords in (
+      record {
+        id = id;
+        load = was.load;
+        grow = was.grow;
+        affords = costs;
+        cuts = subst (λ (s : Reclaim). Does s (volume_of before) (volume_of after)) step was.does;
+        keeps = was.keeps;
+      },
+      refl,
+    )
 
--- a command weighs what the cut costs that goes first
-weighs_cut : (capacity : ℕ) (content : Content) (asked : Command) → only_reads asked ≡ false → needs_cut (volume_of content) (data_of (tree_of content) asked) ≡ true
-    → weight capacity (volume_of content) (tree_of content) asked ≡ cut_cost (room_with capacity (free_blocks (volume_of content)) (volume_of content))
-unfolding weight_with
-weighs_cut capacity content asked unread needs =
-    λ i. if unread i then cost.Load 0 (0 ∷ 0 ∷ 0 ∷ []) else (if needs i then cut_cost (room_with capacity (free_blocks (volume_of content)) (volume_of content))
-    else if lacks_tree (volume_of content) asked then cost.Refused refusal.NoTree
-    else cost_of (needs_for (free_blocks (volume_of content)) (volume_of content) (edits_of (tree_of content) asked) (data_of (tree_of content) asked)) (room_with capacity (free_blocks (volume_of content)) (volume_of content)))
+-- it puts data
+pub never_dry : (asked : Command) (before : Content) → WaitsForCut before asked → data_end asked ≡ None → ⊥
+never_dry asked before waits none = true≢false (sym waits.1 ∙ ap (needs_cut (volume_of before)) (no_end (tree_of before) asked none))
 
 module _ (capacity number : ℕ) (asked : Command) (before after : Content) (waits : WaitsForCut before asked) where
-  -- it puts data
   pub dry_steps : data_end asked ≡ None → (it : Outcome) → StepsTo it capacity number asked before after
-  dry_steps none it = absurd (true≢false (sym waits.1 ∙ ap (needs_cut (volume_of before)) (no_end (tree_of before) asked none)))
+  dry_steps none it = absurd (never_dry asked before waits none)
 
   module _ (halves : (volume : VolumeState) → SoundIsBoth volume) (unread : only_reads asked ≡ false) (sound : IsSound before) (end : ℕ) (is : data_end asked ≡ Some end) where
     pub steps_by : (came : CutAhead) → IsSound after → CutsAhead came capacity (data_path asked) end before after → StepsTo (outcome_of came) capacity number asked before after
     steps_by ahead.NotNeeded sound_after (node, file, (first, same)) =
         absurd (true≢false (sym waits.1 ∙ needs_first (volume_of before) (tree_of before) asked end is node file ∙ first))
-    steps_by ahead.Made sound_after (node, file, (first, past)) = inl (record {
-      no_refusal = waits.0;
-      needs = waits.1;
-      cuts = surplus_cut capacity node.id before after past.next (reclaimed halves capacity (Some node.id) before after sound.volume sound_after past.made);
-    })
+    steps_by ahead.Made sound_after (node, file, (first, past)) =
+        let cut = surplus_cut capacity node.id before after past.next (reclaimed halves capacity (Some node.id) before after sound.volume sound_after past.made) in
+        inl (record { no_refusal = waits.0; needs = waits.1; cuts = cut.0; file = file_cut (volume_of before) (tree_of before) asked waits.1 node file ∙ ap Some (sym cut.1) })
     steps_by ahead.CommitFirst sound_after (node, file, (first, same)) = same
     steps_by (ahead.Refused why) sound_after (node, file, (first, (same, costs))) =
-        refused_steps capacity number asked before after same sound unread why (inr (waits.0, weighs_cut capacity before asked unread waits.1 ∙ costs)) (outcome_of (ahead.Refused why)) refl
+        refused_steps capacity number asked before after same sound unread why (inr (waits.0, cut_weighs capacity (free_blocks (volume_of before)) (volume_of before) (tree_of before) asked unread waits.1 ∙ costs)) (outcome_of (ahead.Refused why)) refl
 
     pub place_by : (came : CutAhead) → IsSound after → CutsAhead came capacity (data_path asked) end before after → KeepsJournal before after
     place_by ahead.NotNeeded sound_after (node, file, (first, same)) = same_place before after same
@@ -160,3 +191,11 @@ module _ (capacity number : ℕ) (asked : Command) (before after : Content) (wai
       by ahead.Made = same
       by ahead.CommitFirst = same
       by (ahead.Refused why) = same
+
+-- a commit comes first only where there is too little room for the cut
+pub short_by : (capacity : ℕ) (asked : Command) (before after : Content) (spare : ℕ) → WaitsForCut before asked → (end : ℕ) → data_end asked ≡ Some end → (came : CutAhead) → CutsAhead came capacity (data_path asked) end before after → IsShortCut came capacity spare (volume_of before) → outcome_of came ≡ outcome.CommitFirst
+    → spare < cut_puts (room_with capacity (free_blocks (volume_of before)) (volume_of before))
+short_by capacity asked before after spare waits end is ahead.NotNeeded (node, file, (first, same)) short commits = absurd (true≢false (sym waits.1 ∙ needs_first (volume_of before) (tree_of before) asked end is node file ∙ first))
+short_by capacity asked before after spare waits end is ahead.Made came short commits = absurd (let no : outcome.Again ≡ outcome.CommitFirst = commits in cc no)
+short_by capacity asked before after spare waits end is ahead.CommitFirst came short commits = short
+short_by capacity asked before after spare waits end is (ahead.Refused why) came short commits = absurd (let no : outcome.Answered (reply.No why) [] ≡ outcome.CommitFirst = commits in cc no)

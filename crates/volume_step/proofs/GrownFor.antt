@@ -3,10 +3,10 @@ use Rattle.std.proofs.Common.{◌≡◌, ℕ, Bool, List, inl, inr, sym, ◌∙�
 use Rattle.std.specs.Prelude.{Option, None}
 use Rattle.jnl_format.specs.Recovery.{Content}
 use Rattle.hfs_volume.specs.Content.{volume_of}
-use Rattle.hfs_volume.specs.Reclaim.{GrowsTrees, first_growth}
+use Rattle.hfs_volume.specs.Reclaim.{GrowsTrees}
 use Rattle.volume_runs.specs.Rest.{GrowsFor}
-use Rattle.volume_space.specs.Awaiting.{AwaitsGrowth, StepAwaits}
-use Rattle.volume_space.specs.Growing.{GoesAhead, GrowsAhead, GrowthFits, alone}
+use Rattle.volume_space.specs.Awaiting.{AwaitsGrowth}
+use Rattle.volume_space.specs.Growing.{GoesAhead, GrowsAhead, GrowthFits}
 use Rattle.volume_space.specs.declared.ahead.Growth.{Growth}
 use Rattle.volume_space.specs.declared.ahead.Growth.TheVariants as growing
 use Rattle.volume_space.specs.declared.awaiting.TreeWanted.{TreeWanted}

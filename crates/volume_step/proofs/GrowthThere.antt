@@ -128,7 +128,7 @@ are_bare v content settled without id node found =
 
 -- ---- the tree that grows first
 
-third_first : (grow : List ℕ) (more : ℕ) → 0 < more → first_growth grow ≡ alone which.Attributes more → more ≡ slice_index grow 2
+pub third_first : (grow : List ℕ) (more : ℕ) → 0 < more → first_growth grow ≡ alone which.Attributes more → more ≡ slice_index grow 2
 third_first grow more some is = by (nat_lt 0 (slice_index grow 0)) (nat_lt 0 (slice_index grow 1)) is
   where
     third : (x y z : ℕ) → x ∷ y ∷ z ∷ [] ≡ 0 ∷ 0 ∷ more ∷ [] → more ≡ z

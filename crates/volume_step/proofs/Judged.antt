@@ -24,7 +24,7 @@ use Rattle.volume_base.specs.declared.weighing.Weight.TheVariants as answer
 use Rattle.volume_space.specs.Growing.{alone}
 use Rattle.volume_space.specs.declared.ahead.WhichTree.{WhichTree}
 use Rattle.volume_space.specs.declared.ahead.WhichTree.TheVariants as which
-use Rattle.volume_step.specs.Steps.{IsJudged, WaitsForGrowth, verdict_of}
+use Rattle.volume_step.specs.Steps.{IsCutFirst, IsJudged, WaitsForGrowth, verdict_of}
 use Rattle.volume_step.specs.declared.judging.Verdict.TheVariants as verdict
 
 -- ---- three numbers
@@ -132,3 +132,16 @@ module _ (capacity : ℕ) (takable : List Bool) (content : Content) (asked : Com
 
   pub judged_weight : (weighs : Weight) → weighs ≡ weighed capacity takable (volume_of content) (tree_of content) asked → IsJudged (verdict_of weighs spare) capacity asked content
   judged_weight weighs is = subst (λ (w : Weight). IsJudged (verdict_of w spare) capacity asked content) (sym is) judged
+
+  -- blocks past the file's size are cut first, where its step doesn't refuse it
+  pub cut_or_refused : (weighs : Weight) → weighs ≡ weighed capacity takable (volume_of content) (tree_of content) asked → (refuses (tree_of content) (Ok asked) ≡ false → ⊥) → IsCutFirst (verdict_of weighs spare)
+  cut_or_refused weighs is never = subst (λ (w : Weight). IsCutFirst (verdict_of w spare)) (sym is) (by (step_line (tree_of content) (Ok asked)).0 refl)
+    where
+      by : (said : Reply) → (step_line (tree_of content) (Ok asked)).0 ≡ said
+          → IsCutFirst (verdict_of (refused_or said (joined (weight capacity (volume_of content) (tree_of content) asked) (weight_with capacity takable (volume_of content) (tree_of content) asked))) spare)
+      by (reply.No why) same = tt
+      by reply.Ok same = absurd (never (ap is_refusal same))
+      by (reply.Listing list) same = absurd (never (ap is_refusal same))
+      by (reply.Facts facts) same = absurd (never (ap is_refusal same))
+      by (reply.Content bytes) same = absurd (never (ap is_refusal same))
+      by (reply.Gauge gauge) same = absurd (never (ap is_refusal same))

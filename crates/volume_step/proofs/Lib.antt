@@ -1,8 +1,8 @@
-pub mod AheadLoads
 pub mod AnewReady
 pub mod CutSteps
 pub mod Done
 pub mod Fewer
+pub mod FirstGrowth
 pub mod Forks
 pub mod GrownFor
 pub mod GrowthSteps
@@ -21,4 +21,5 @@ pub mod ReadyData
 pub mod Reclaimed
 pub mod Served
 pub mod Shortened
+pub mod StepGrowth
 pub mod Widening

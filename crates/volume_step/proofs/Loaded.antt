@@ -1,7 +1,12 @@
 -- What a command puts is within its load.
-use Rattle.std.proofs.Common.{◌≡◌, ◌≤◌, ℕ, ◌+◌, Bool, true, false, List, [], ◌∷◌, refl, sym, ◌∙◌, ap, subst, arith}
-use Rattle.std.specs.Prelude.{IfOk, IsTrue, OnOk, Option, None, Some, Result, Ok, Err, if◌then◌else◌}
-use Rattle.hx_bytes.specs.declared.faults.Trouble.{Trouble}
+use Rattle.std.proofs.Common.{◌≡◌, ◌≤◌, ℕ, ◌+◌, Bool, true, false, List, [], ◌∷◌, refl, sym, ◌∙◌, ap, subst, arith, ◌<◌}
+use Rattle.volume_step.specs.Tidying.{TakesStepLoad}
+use Rattle.volume_space.specs.declared.ahead.WhichTree.TheVariants as which
+use Rattle.volume_space.specs.declared.ahead.WhichTree.{WhichTree}
+use Rattle.volume_space.specs.Growing.{alone}
+use Rattle.hfs_volume.specs.Reclaim.{first_growth}
+use Rattle.sector_disk.specs.Lists.{Content}
+use Rattle.std.specs.Prelude.{IsTrue, Option, None, Some, if◌then◌else◌, slice_index}
 use Rattle.sector_disk.specs.Space.{Space}
 use Rattle.hfs_language.specs.declared.command.Command.{Command}
 use Rattle.hfs_language.specs.declared.command.Command.TheVariants as command
@@ -23,16 +28,12 @@ use Rattle.volume_base.specs.Looking.{ReadsVolume}
 use Rattle.volume_base.specs.Room.{capacity_of}
 use Rattle.volume_base.specs.Standing.{IsSettled}
 use Rattle.volume_base.specs.declared.volume.Volume.{Volume}
-use Rattle.volume_space.specs.CuttingAhead.{CutsAhead}
-use Rattle.volume_space.specs.declared.cutting_ahead.CutAhead.{CutAhead}
-use Rattle.volume_space.specs.declared.cutting_ahead.CutAhead.TheVariants as ahead
+use Rattle.volume_space.specs.CuttingAhead.{TakesCutLoad}
 use Rattle.volume_weights.specs.DataWeighing.{WaitsForCut}
-use Rattle.volume_step.specs.Loads.{IsWithinLoad, TakesItsLoad}
-use Rattle.volume_step.specs.Steps.{Affords, grown, outcome_of}
-use Rattle.volume_step.specs.declared.outcome.Outcome.{Outcome}
-use Rattle.volume_step.specs.declared.outcome.Outcome.TheVariants as outcome
-use Rattle.volume_space.specs.declared.ahead.Growth.{Growth}
-use Rattle.volume_space.specs.declared.ahead.Growth.TheVariants as growing
+use Rattle.volume_runs.specs.Rest.{cut_puts}
+use Rattle.volume_step.specs.Anew.{FitsAlike}
+use Rattle.volume_step.specs.Loads.{IsWithinLoad}
+use Rattle.volume_step.specs.Steps.{Affords, LacksCutRoom, WaitsForGrowth}
 use Rattle.volume_step.proofs.Ready.{catalog_node as catalog_is, edits_load, load_low, of_cost}
 
 -- ---- one load, whichever blocks count as free
@@ -89,12 +90,15 @@ abbrev number_in : ℕ → Cost → ℕ
 number_in other (cost.Load n grow) = n
 number_in other (cost.Refused why) = other
 
-cut_low : (room : Room) (n : ℕ) (grow : List ℕ) → cut_cost room ≡ cost.Load n grow → node_sectors (tree_at room 1) ≤ n
-cut_low room n grow is = by (load_refusal (cut_load room) room.capacity) is
+pub cut_load_is : (room : Room) (n : ℕ) (grow : List ℕ) → cut_cost room ≡ cost.Load n grow → cut_load room ≡ n
+cut_load_is room n grow is = by (load_refusal (cut_load room) room.capacity) is
   where
-    by : (why : Option Refusal) → cost_or why (cut_load room) (0 ∷ 0 ∷ 0 ∷ []) ≡ cost.Load n grow → node_sectors (tree_at room 1) ≤ n
-    by None same = let long : cut_load room ≡ n = ap (number_in n) same in omega (arith, long)
+    by : (why : Option Refusal) → cost_or why (cut_load room) (0 ∷ 0 ∷ 0 ∷ []) ≡ cost.Load n grow → cut_load room ≡ n
+    by None same = ap (number_in n) same
     by (Some why) same = absurd (cc same)
+
+cut_low : (room : Room) (n : ℕ) (grow : List ℕ) → cut_cost room ≡ cost.Load n grow → node_sectors (tree_at room 1) ≤ n
+cut_low room n grow is = omega (arith, cut_load_is room n grow is)
 
 put_low : (free : List Bool) (volume : VolumeState) (room : Room) (n : ℕ) (grow : List ℕ) (put : Option Data) (cut : Bool) → (if cut then cut_cost room else cost_of (needs_for free volume (edits 0 0 0 1) put) room) ≡ cost.Load n grow
     → node_sectors (tree_at room 1) ≤ n
@@ -118,11 +122,7 @@ trunc_within v a b path size settled spent load grow is = omega (
 
 -- ---- a cut that goes first
 
-cut_same : (capacity : ℕ) (one other : List Bool) (volume : VolumeState) → cut_cost (room_with capacity one volume) ≡ cut_cost (room_with capacity other volume)
-unfolding room_with
-cut_same capacity one other volume = refl
-
-cut_weighs : (capacity : ℕ) (free : List Bool) (volume : VolumeState) (tree : PlainTree) (asked : Command) → only_reads asked ≡ false → needs_cut volume (data_of tree asked) ≡ true → weight_with capacity free volume tree asked ≡ cut_cost (room_with capacity free volume)
+pub cut_weighs : (capacity : ℕ) (free : List Bool) (volume : VolumeState) (tree : PlainTree) (asked : Command) → only_reads asked ≡ false → needs_cut volume (data_of tree asked) ≡ true → weight_with capacity free volume tree asked ≡ cut_cost (room_with capacity free volume)
 unfolding weight_with
 cut_weighs capacity free volume tree asked changes cuts =
     λ i. if changes i then cost.Load 0 (0 ∷ 0 ∷ 0 ∷ [])
@@ -130,44 +130,57 @@ cut_weighs capacity free volume tree asked changes cuts =
     else if lacks_tree volume asked then cost.Refused refusal.NoTree
     else cost_of (needs_for free volume (edits_of tree asked) (data_of tree asked)) (room_with capacity free volume)
 
--- where it is refused, what the command costs is no load
-pub cut_within : (came : CutAhead) (asked : Command) (v : Volume) (a b : Space) (path : List (List ℕ)) (end : ℕ) → only_reads asked ≡ false → WaitsForCut a.content asked → CutsAhead came (capacity_of v) path end a.content b.content
-    → TakesItsLoad (outcome_of came) asked v a b
-cut_within ahead.NotNeeded asked v a b path end changes waits cuts = tt
-cut_within ahead.Made asked v a b path end changes waits cuts = tt
-cut_within ahead.CommitFirst asked v a b path end changes waits cuts = tt
-cut_within (ahead.Refused why) asked v a b path end changes waits (node, file, (first, (same, costs))) = λ load grow is.
-    let loaded : cost.Refused why ≡ cost.Load load grow =
-    sym costs ∙ cut_same (capacity_of v) (free_blocks (volume_of a.content)) (takable_of v) (volume_of a.content) ∙ sym (cut_weighs (capacity_of v) (takable_of v) (volume_of a.content) (tree_of a.content) asked changes waits.1) ∙ is in
-    absurd (cc loaded)
+-- it puts no more than the command's load
+pub cut_loads : (asked : Command) (v : Volume) (a b : Space) → only_reads asked ≡ false → WaitsForCut a.content asked → TakesCutLoad (capacity_of v) (volume_of a.content) a.spare b.spare → IsWithinLoad asked v a b
+cut_loads asked v a b changes waits takes load grow is = takes (takable_of v) load grow (sym (cut_weighs (capacity_of v) (takable_of v) (volume_of a.content) (tree_of a.content) asked changes waits.1) ∙ is)
 
--- ---- what was answered
+pub cut_none : (why : Option Refusal) (counted n : ℕ) (grow : List ℕ) → cost_or why counted (0 ∷ 0 ∷ 0 ∷ []) ≡ cost.Load n grow → grow ≡ 0 ∷ 0 ∷ 0 ∷ []
+cut_none None counted n grow is = sym (ap (grown_in grow) is)
+  where
+    grown_in : List ℕ → Cost → List ℕ
+    grown_in other (cost.Load load grow) = grow
+    grown_in other (cost.Refused why) = other
+cut_none (Some why) counted n grow is = absurd (let no : cost.Refused why ≡ cost.Load n grow = is in cc no)
 
-pub takes_one : (it : Outcome) (asked : Command) (v : Volume) (a b : Space) → IsWithinLoad asked v a b → TakesItsLoad it asked v a b
-takes_one (outcome.Answered said changes) asked v a b within = within
-takes_one outcome.CommitFirst asked v a b within = tt
-takes_one outcome.Again asked v a b within = tt
+-- no tree grows for such a load
+pub alone_none : (tree : WhichTree) (more : ℕ) (grow : List ℕ) → grow ≡ 0 ∷ 0 ∷ 0 ∷ [] → 0 < more → first_growth grow ≡ alone tree more → ⊥
+alone_none which.Extents more grow none some first = let it : 0 ≡ more = ap (λ (l : List ℕ). slice_index (first_growth l) 0) (sym none) ∙ ap (λ (l : List ℕ). slice_index l 0) first in absurd (omega (arith, it, some))
+alone_none which.Catalog more grow none some first = let it : 0 ≡ more = ap (λ (l : List ℕ). slice_index (first_growth l) 1) (sym none) ∙ ap (λ (l : List ℕ). slice_index l 1) first in absurd (omega (arith, it, some))
+alone_none which.Attributes more grow none some first = let it : 0 ≡ more = ap (λ (l : List ℕ). slice_index (first_growth l) 2) (sym none) ∙ ap (λ (l : List ℕ). slice_index l 2) first in absurd (omega (arith, it, some))
 
-pub takes_any : (r : Result Outcome Trouble) (asked : Command) (v : Volume) (a b : Space) → IsWithinLoad asked v a b → IfOk r (λ (it : Outcome). TakesItsLoad it asked v a b)
-takes_any (Ok it) asked v a b within = takes_one it asked v a b within
-takes_any (Err why) asked v a b within = tt
+-- what a cut puts at most is a part of its load
+cut_room : (room : Room) (n : ℕ) (grow : List ℕ) → cut_cost room ≡ cost.Load n grow → cut_puts room ≤ n
+cut_room room n grow is = omega (arith, cut_load_is room n grow is)
 
--- a command that was answered, behind reads
-pub takes_answered : (r : Result Outcome Trouble) (asked : Command) (v w : Volume) (a b c : Space) → ReadsVolume v w a b → IsTrue a.tells → OnOk r (IsWithinLoad asked w b c) → IfOk r (λ (it : Outcome). TakesItsLoad it asked v a c)
-takes_answered (Ok it) asked v w a b c reads tells within_load = takes_one it asked v a c (within_behind asked v w a b c reads tells within_load)
-takes_answered (Err why) asked v w a b c reads tells within_load = tt
+-- where such a load may be put there is room for the cut
+pub fits_cut : (asked : Command) (v : Volume) (a : Space) → only_reads asked ≡ false → needs_cut (volume_of a.content) (data_of (tree_of a.content) asked) ≡ true → FitsAlike asked v a → LacksCutRoom v a → ⊥
+fits_cut asked v a changes needs it lacks =
+    let costs = sym (cut_weighs (capacity_of v) (free_blocks (volume_of a.content)) (volume_of a.content) (tree_of a.content) asked changes needs) ∙ it.affords in
+    let room = cut_room (room_with (capacity_of v) (free_blocks (volume_of a.content)) (volume_of a.content)) it.load it.grow costs in
+    omega (arith, lacks, room, it.within)
+
+pub lacks_still : (v w : Volume) (a b : Space) → ReadsVolume v w a b → IsTrue a.tells → LacksCutRoom w b → LacksCutRoom v a
+lacks_still v w a b reads tells lacks =
+    subst (λ (k : ℕ × ℕ × Content). k.0 < cut_puts (room_with k.1 (free_blocks (volume_of k.2)) (volume_of k.2))) {x = (b.spare, capacity_of w, b.content)} {y = (a.spare, capacity_of v, a.content)} (λ i. (reads.looks.spare i, reads.keeps.capacity i, reads.looks.content tells i)) lacks
+
+pub uncut : (b : Bool) → (b ≡ true → ⊥) → b ≡ false
+uncut true never = absurd (never refl)
+uncut false never = refl
+
+-- a command ahead of which a cut goes waits for no growth
+pub cut_no_growth : (tree : WhichTree) (more capacity : ℕ) (asked : Command) (content : Content) → only_reads asked ≡ false → needs_cut (volume_of content) (data_of (tree_of content) asked) ≡ true → WaitsForGrowth tree more capacity asked content → ⊥
+cut_no_growth tree more capacity asked content changes needs waits = alone_none tree more waits.grow none waits.some waits.first
+  where
+    room : Room
+    room = room_with capacity (free_blocks (volume_of content)) (volume_of content)
+
+    none : waits.grow ≡ 0 ∷ 0 ∷ 0 ∷ []
+    none = cut_none (load_refusal (cut_load room) room.capacity) (cut_load room) waits.load waits.grow (sym (cut_weighs capacity (free_blocks (volume_of content)) (volume_of content) (tree_of content) asked changes needs) ∙ waits.weighs)
+
+-- ---- a step of reclaiming
 
 -- behind reads
-takes_still : (it : Outcome) (asked : Command) (v w : Volume) (a b c : Space) → ReadsVolume v w a b → IsTrue a.tells → TakesItsLoad it asked w b c → TakesItsLoad it asked v a c
-takes_still (outcome.Answered said changes) asked v w a b c reads tells takes = within_behind asked v w a b c reads tells takes
-takes_still outcome.CommitFirst asked v w a b c reads tells takes = tt
-takes_still outcome.Again asked v w a b c reads tells takes = tt
-
-pub takes_behind : (r : Result Outcome Trouble) (asked : Command) (v w : Volume) (a b c : Space) → ReadsVolume v w a b → IsTrue a.tells → IfOk r (λ (it : Outcome). TakesItsLoad it asked w b c) → IfOk r (λ (it : Outcome). TakesItsLoad it asked v a c)
-takes_behind (Ok it) asked v w a b c reads tells takes = takes_still it asked v w a b c reads tells takes
-takes_behind (Err why) asked v w a b c reads tells takes = tt
-
--- a growth answers nothing
-pub growth_takes : (went : Growth) (it : Outcome) (asked : Command) (v : Volume) (a b : Space) → it ≡ grown went → TakesItsLoad it asked v a b
-growth_takes growing.Grown it asked v a b is = subst (λ (o : Outcome). TakesItsLoad o asked v a b) (sym is) tt
-growth_takes growing.CommitFirst it asked v a b is = subst (λ (o : Outcome). TakesItsLoad o asked v a b) (sym is) tt
+pub step_behind : (before between : Content) → between ≡ before → (capacity first : ℕ) → first ≡ capacity → (shrunk file : Option ℕ) → file ≡ shrunk → (spare left : ℕ) → left ≡ spare → (after : ℕ)
+    → TakesStepLoad first file between left after → TakesStepLoad capacity shrunk before spare after
+step_behind before between same capacity first one shrunk file two spare left three after was =
+    subst (λ (k : Content × ℕ × Option ℕ × ℕ). TakesStepLoad k.1 k.2 k.0 k.3 after) {x = (between, first, file, left)} {y = (before, capacity, shrunk, spare)} (λ i. (same i, one i, two i, three i)) was

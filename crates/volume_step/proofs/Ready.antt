@@ -24,9 +24,8 @@ use Rattle.hfs_language.specs.declared.reply.Reply.TheVariants as reply
 use Rattle.hfs_model.specs.Step.{is_refusal, most_bytes, most_size, on, only_reads, size_written, step_line, then_, to_file, to_size, unless, written}
 use Rattle.hfs_model.specs.declared.plain.PlainNode.{PlainNode}
 use Rattle.hfs_model.specs.declared.plain.PlainTree.{PlainTree}
-use Rattle.hfs_volume.specs.Content.{VolumeState, has_attributes, overflow_in_volume, volume_of}
+use Rattle.hfs_volume.specs.Content.{VolumeState, has_attributes, volume_of}
 use Rattle.hfs_volume.specs.Cost.{cost_of, cost_or, load_of, node_sectors, plan_of, resource_refusal, tree_at}
-use Rattle.hfs_volume.specs.Forks.{attributes_id, catalog_id}
 use Rattle.hfs_volume.specs.Reclaim.{first_growth}
 use Rattle.hfs_volume.specs.TreeOf.{tree_of}
 use Rattle.hfs_volume.specs.Weight.{Data, cut_cost, data_of, edits_of, free_blocks, lacks_tree, needs_cut, needs_for, room_with, weight, weight_with, written_data}
@@ -35,8 +34,6 @@ use Rattle.hfs_volume.specs.declared.cost.Cost.TheVariants as cost
 use Rattle.hfs_volume.specs.declared.cost.Needs.{Needs}
 use Rattle.hfs_volume.specs.declared.cost.Room.{Room}
 use Rattle.volume_base.specs.Fitting.{is_met, needs_of, takable_in, takable_of}
-use Rattle.volume_base.proofs.Still.{lists_still}
-use Rattle.volume_base.specs.Lists.{lists_of}
 use Rattle.volume_base.specs.Looking.{ReadsVolume}
 use Rattle.volume_base.specs.Room.{capacity_of}
 use Rattle.volume_base.specs.Service.{KeepsFile}
@@ -45,8 +42,7 @@ use Rattle.volume_base.specs.Weighing.{joined, refused_or, weighed}
 use Rattle.volume_base.specs.declared.volume.Volume.{Volume}
 use Rattle.volume_base.specs.declared.weighing.Weight.{Weight}
 use Rattle.volume_base.specs.declared.weighing.Weight.TheVariants as answer
-use Rattle.volume_space.proofs.Filled.{filled_later}
-use Rattle.volume_space.specs.Growing.{FileFits, GrowthFits, HasFilledRecords, IsThere, WantsFirst, alone, blocks_filled, fork_of, growth_load}
+use Rattle.volume_space.specs.Growing.{FileFits, GrowthFits, IsThere, WantsFirst, alone, blocks_filled, fork_of, growth_load}
 use Rattle.volume_space.specs.declared.ahead.Growth.{Growth}
 use Rattle.volume_space.specs.declared.ahead.Growth.TheVariants as growing
 use Rattle.volume_space.specs.declared.ahead.WhichTree.{WhichTree}
@@ -167,7 +163,7 @@ met_now asked v a unread now none_grow =
 -- ---- the verdict
 
 -- the trees grow as much, whichever blocks count as free
-plan_same : (needs : Needs) (capacity : ℕ) (one other : List Bool) (volume : VolumeState) → (plan_of needs (room_with capacity one volume)).grow ≡ (plan_of needs (room_with capacity other volume)).grow
+pub plan_same : (needs : Needs) (capacity : ℕ) (one other : List Bool) (volume : VolumeState) → (plan_of needs (room_with capacity one volume)).grow ≡ (plan_of needs (room_with capacity other volume)).grow
 unfolding room_with
 plan_same needs capacity one other volume = refl
 
@@ -269,21 +265,13 @@ growth_still v w a b reads which.Catalog more (there, fits) = (there, file_still
 growth_still v w a b reads which.Attributes more (there, fits) =
     (subst (λ (h : VolumeHeader). IsTrue (has_attributes h)) (sym reads.keeps.header) there, file_still more a.tells v w a b reads.keeps.map reads.keeps.header reads.looks.spare v.attributes.file w.attributes.file (fork_of which.Attributes) reads.keeps.attributes.file fits)
 
--- there is such a tree still, and each overflow record of its fork has an extent in use still
+-- there is such a tree still
 pub there_still : (v w : Volume) → w.header ≡ v.header → (tree : WhichTree) → IsThere tree v.header → IsThere tree w.header
 there_still v w same tree there = subst (λ (h : VolumeHeader). IsThere tree h) (sym same) there
 
-pub filled_still : (v w : Volume) (a b : Space) → ReadsVolume v w a b → IsTrue a.tells → (tree : WhichTree) → HasFilledRecords tree v a.content → HasFilledRecords tree w b.content
-filled_still v w a b reads tells which.Extents was = tt
-filled_still v w a b reads tells which.Catalog was =
-    filled_later catalog_id (lists_of v a.content) (lists_of w b.content) v.catalog.file.fork w.catalog.file.fork reads.keeps.catalog.file.file.fork (ap overflow_in_volume (lists_still v w a b reads tells)) was
-filled_still v w a b reads tells which.Attributes was =
-    filled_later attributes_id (lists_of v a.content) (lists_of w b.content) v.attributes.file.fork w.attributes.file.fork reads.keeps.attributes.file.file.fork (ap overflow_in_volume (lists_still v w a b reads tells)) was
-
 -- a command that fits now wants the first of its growths
-pub wants_now : (asked : Command) (v w : Volume) (a b : Space) → ReadsVolume v w a b → IsTrue a.tells → only_reads asked ≡ false → (now : FitsNow asked v a) → (tree : WhichTree) (more : ℕ) → 0 < more → first_growth now.grow ≡ alone tree more → IsThere tree v.header → HasFilledRecords tree v a.content
-    → WantsFirst tree more w b
-wants_now asked v w a b reads tells unread now tree more some first there each =
+pub wants_now : (asked : Command) (v w : Volume) (a b : Space) → ReadsVolume v w a b → IsTrue a.tells → only_reads asked ≡ false → (now : FitsNow asked v a) → (tree : WhichTree) (more : ℕ) → 0 < more → first_growth now.grow ≡ alone tree more → IsThere tree v.header → WantsFirst tree more w b
+wants_now asked v w a b reads tells unread now tree more some first there =
     let still = now_still asked v w a b reads tells now in
     record {
       needs = needs_of (edits_of (tree_of b.content) asked);
@@ -295,14 +283,13 @@ wants_now asked v w a b reads tells unread now tree more some first there each =
       some = some;
       first = ap first_growth still.1 ∙ first;
       there = there_still v w reads.keeps.header tree there;
-      short = inr (filled_still v w a b reads tells tree each, refl);
+      short = inr refl;
     }
 
 -- with its load
-pub wants_load : (asked : Command) (v w : Volume) (a b : Space) → (reads : ReadsVolume v w a b) (tells : IsTrue a.tells) (unread : only_reads asked ≡ false) (now : FitsNow asked v a) → (tree : WhichTree) (more : ℕ) (some : 0 < more) (first : first_growth now.grow ≡ alone tree more) (there : IsThere tree v.header) (each : HasFilledRecords tree v a.content)
-    → (wants_now asked v w a b reads tells unread now tree more some first there each).load ≡ now.load
+pub wants_load : (asked : Command) (v w : Volume) (a b : Space) → (reads : ReadsVolume v w a b) (tells : IsTrue a.tells) (unread : only_reads asked ≡ false) (now : FitsNow asked v a) → (tree : WhichTree) (more : ℕ) (some : 0 < more) (first : first_growth now.grow ≡ alone tree more) (there : IsThere tree v.header) → (wants_now asked v w a b reads tells unread now tree more some first there).load ≡ now.load
 unfolding now_still wants_now
-wants_load asked v w a b reads tells unread now tree more some first there each = refl
+wants_load asked v w a b reads tells unread now tree more some first there = refl
 
 -- ---- `write`
 

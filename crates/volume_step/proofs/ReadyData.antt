@@ -1,5 +1,5 @@
 -- A command whose data is met wants no commit.
-use Rattle.std.proofs.Common.{◌≡◌, ◌≢◌, ◌≤◌, ℕ, ◌/◌, Bool, true, false, List, [], ◌∷◌, length, refl, sym, ◌∙◌, ap, subst, arith}
+use Rattle.std.proofs.Common.{◌≡◌, ◌≢◌, ◌≤◌, ℕ, ◌/◌, Bool, true, false, List, [], ◌∷◌, refl, sym, ◌∙◌, ap, subst, arith}
 use Rattle.std.specs.Prelude.{◌==◌, ◌&&◌, nat_le, not, slice_index, IfOk, OnOk, IfNone, IsTrue, Option, None, Some, Result, Ok, Err, if◌then◌else◌}
 use Rattle.std.proofs.lemmas.Bool.{and_parts, eqb-true, le-ltb, leb-true, true≢false}
 use Rattle.hx_bytes.specs.declared.faults.Trouble.{Trouble}
@@ -15,10 +15,9 @@ use Rattle.hfs_language.specs.declared.reply.Reply.TheVariants as reply
 use Rattle.hfs_model.specs.Step.{only_reads, step_line}
 use Rattle.hfs_model.specs.declared.plain.PlainTree.{PlainTree}
 use Rattle.hfs_volume.specs.Content.{VolumeState, volume_of}
-use Rattle.hfs_volume.specs.Cost.{attributes_key, catalog_key, cost_of, overflow_records, tree_at}
-use Rattle.hfs_volume.specs.Forks.{data_kind}
+use Rattle.hfs_volume.specs.Cost.{attributes_key, catalog_key, cost_of, tree_at}
 use Rattle.hfs_volume.specs.TreeOf.{tree_of}
-use Rattle.hfs_volume.specs.Weight.{Data, cut_cost, data_of, edits, edits_of, file_extents, free_blocks, lacks_tree, needs_cut, needs_for, room_with, weight, weight_with}
+use Rattle.hfs_volume.specs.Weight.{Data, cut_cost, data_of, edits, edits_of, free_blocks, lacks_tree, needs_cut, needs_for, room_with, weight, weight_with}
 use Rattle.hfs_volume.specs.declared.cost.Cost.{Cost}
 use Rattle.hfs_volume.specs.declared.cost.Cost.TheVariants as cost
 use Rattle.volume_base.specs.DataWeighing.{needs_data}
@@ -29,7 +28,6 @@ use Rattle.volume_base.specs.Standing.{IsSettled}
 use Rattle.volume_base.specs.Weighing.{joined, refused_or, weighed}
 use Rattle.volume_base.specs.declared.volume.Volume.{Volume}
 use Rattle.volume_base.specs.declared.weighing.Weight.{Weight}
-use Rattle.volume_space.specs.Recording.{records_held}
 use Rattle.volume_space.specs.Spreading.{is_met_extents}
 use Rattle.volume_space.specs.Writing.{is_data_met}
 use Rattle.volume_step.specs.Steps.{IsDirect, PutsNow, verdict_of}
@@ -60,9 +58,8 @@ not_true false is = refl
 pub met_data : (volume : Volume) (spare : ℕ) (lists : VolumeState) (data_put : Option Data) → is_data_met volume spare lists data_put ≡ true → IsMetData volume spare lists data_put
 met_data volume spare lists None is = absurd (true≢false (sym is))
 met_data volume spare lists (Some put) is =
-    let first = and_parts (not (needs_cut lists (Some put))) ((records_held lists put.id == overflow_records (length (file_extents lists put.id data_kind))) && is_met_extents costs spare) is in
-    let second = and_parts (records_held lists put.id == overflow_records (length (file_extents lists put.id data_kind))) (is_met_extents costs spare) first.1 in
-    by costs refl (not_true (needs_cut lists (Some put)) first.0) second.1
+    let first = and_parts (not (needs_cut lists (Some put))) (is_met_extents costs spare) is in
+    by costs refl (not_true (needs_cut lists (Some put)) first.0) first.1
   where
     costs : Cost
     costs = cost_of (needs_data (free_of volume.map) lists put) (room_with volume.capacity (free_of volume.map) lists)
@@ -81,9 +78,7 @@ data_still asked v w a b reads tells met = same ∙ met
     looked : Bitmap → ℕ → ℕ → VolumeState → Option Data → Bool
     looked map capacity spare lists None = false
     looked map capacity spare lists (Some put) =
-        not (needs_cut lists (Some put))
-        && ((records_held lists put.id == overflow_records (length (file_extents lists put.id data_kind)))
-        && is_met_extents (cost_of (needs_data (free_of map) lists put) (room_with capacity (free_of map) lists)) spare)
+        not (needs_cut lists (Some put)) && is_met_extents (cost_of (needs_data (free_of map) lists put) (room_with capacity (free_of map) lists)) spare
 
     is_looked : (u : Volume) (spare : ℕ) (lists : VolumeState) (d : Option Data) → is_data_met u spare lists d ≡ looked u.map u.capacity spare lists d
     is_looked u spare lists None = refl
@@ -135,13 +130,17 @@ data_weight capacity free volume tree asked put is uncut =
     (λ i. if it.1 i then cost.Load 0 (0 ∷ 0 ∷ 0 ∷ []) else (if needs_cut volume (is i) then cut_cost (room_with capacity free volume) else if it.2 volume i then cost.Refused refusal.NoTree else cost_of (needs_for free volume (it.0 i) (is i)) (room_with capacity free volume)))
     ∙ ap (λ b. if b then cut_cost (room_with capacity free volume) else cost_of (needs_data free volume put) (room_with capacity free volume)) uncut
 
--- without growth of the extents overflow file no tree grows
-no_growth : (capacity : ℕ) (free : List Bool) (volume : VolumeState) (put : Data) (n : ℕ) (grow : List ℕ) → cost_of (needs_data free volume put) (room_with capacity free volume) ≡ cost.Load n grow → slice_index grow 0 ≡ 0 → grow ≡ 0 ∷ 0 ∷ 0 ∷ []
-no_growth capacity free volume put n grow is none =
+-- ahead of data no other tree grows than the extents overflow file
+pub data_growth : (capacity : ℕ) (free : List Bool) (volume : VolumeState) (put : Data) (n : ℕ) (grow : List ℕ) → cost_of (needs_data free volume put) (room_with capacity free volume) ≡ cost.Load n grow → grow ≡ slice_index grow 0 ∷ 0 ∷ 0 ∷ []
+data_growth capacity free volume put n grow is =
     let planned = (of_cost (needs_data free volume put) (room_with capacity free volume) n grow is).1 in
     let catalog : slice_index grow 1 ≡ 0 = ap (λ l. slice_index l 1) planned ∙ none_lacks (room_with capacity free volume).block catalog_key (tree_at (room_with capacity free volume) 1) in
     let attributes : slice_index grow 2 ≡ 0 = ap (λ l. slice_index l 2) planned ∙ none_lacks (room_with capacity free volume).block attributes_key (tree_at (room_with capacity free volume) 2) in
-    three_of (needs_data free volume put) (room_with capacity free volume) n grow is ∙ (λ i. none i ∷ catalog i ∷ attributes i ∷ [])
+    three_of (needs_data free volume put) (room_with capacity free volume) n grow is ∙ (λ i. slice_index grow 0 ∷ catalog i ∷ attributes i ∷ [])
+
+-- without growth of it no tree grows
+no_growth : (capacity : ℕ) (free : List Bool) (volume : VolumeState) (put : Data) (n : ℕ) (grow : List ℕ) → cost_of (needs_data free volume put) (room_with capacity free volume) ≡ cost.Load n grow → slice_index grow 0 ≡ 0 → grow ≡ 0 ∷ 0 ∷ 0 ∷ []
+no_growth capacity free volume put n grow is none = data_growth capacity free volume put n grow is ∙ (λ i. none i ∷ 0 ∷ 0 ∷ [])
 
 module _ (v : Volume) (a : Space) (asked : Command) (puts : PutsNow asked v a) where
   it : IsMetData v a.spare (volume_of a.content) (data_of (tree_of a.content) asked)

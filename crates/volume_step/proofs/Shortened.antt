@@ -1,7 +1,7 @@
 -- `trunc` and `write` that put no data: what they answer, and what watchers are told.
 use Rattle.std.proofs.Common.{◌≡◌, ◌≤◌, ℕ, Bool, true, false, List, [], ◌∷◌, length, refl, sym, ◌∙◌, ap, subst, arith}
-use Rattle.std.specs.Prelude.{◌||◌, nat_lt, Option, Some, None, Result, Ok, Err, if◌then◌else◌}
-use Rattle.std.proofs.lemmas.Bool.{le-ltb, true≢false}
+use Rattle.std.specs.Prelude.{◌||◌, nat_lt, Some, None, Result, Ok, Err, if◌then◌else◌}
+use Rattle.std.proofs.lemmas.Bool.{le-ltb}
 use Rattle.jnl_format.specs.Keeping.{IsSame}
 use Rattle.jnl_format.specs.Recovery.{Content}
 use Rattle.volume_header.specs.declared.header.VolumeHeader.{VolumeHeader}
@@ -12,7 +12,7 @@ use Rattle.hfs_language.specs.declared.reply.Change.{Change}
 use Rattle.hfs_language.specs.declared.reply.ChangeKind.TheVariants as change
 use Rattle.hfs_language.specs.declared.reply.Reply.{Reply}
 use Rattle.hfs_language.specs.declared.reply.Reply.TheVariants as reply
-use Rattle.hfs_model.specs.Step.{Step, is_private_path, most_size, on, reached, step, step_line, then_, to_file, to_node, to_size, to_trunc, to_write, unless, written}
+use Rattle.hfs_model.specs.Step.{is_private_path, most_size, on, reached, step, step_line, then_, to_file, to_node, to_size, to_trunc, to_write, unless, written}
 use Rattle.hfs_model.specs.declared.plain.PlainEntry.{PlainEntry}
 use Rattle.hfs_model.specs.declared.plain.PlainNode.{PlainNode}
 use Rattle.hfs_model.specs.declared.plain.PlainTree.{PlainTree}

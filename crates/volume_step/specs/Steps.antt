@@ -7,21 +7,21 @@ use Rattle.volume_header.specs.Refusal.{is_locked}
 use Rattle.hfs_language.specs.Language.{command_of}
 use Rattle.hfs_language.specs.declared.command.Command.{Command}
 use Rattle.hfs_language.specs.declared.command.Command.TheVariants as command
-use Rattle.hfs_language.specs.declared.refusal.Refusal.TheVariants as refusal
 use Rattle.hfs_language.specs.declared.reply.Change.{Change}
 use Rattle.hfs_language.specs.declared.reply.Reply.TheVariants as reply
 use Rattle.hfs_model.specs.Step.{refuses, step_line}
 use Rattle.hfs_volume.specs.Content.{volume_of}
 use Rattle.hfs_volume.specs.Reclaim.{CutsSurplus, GrowsTrees, KeepsTree, SameFiles, first_growth}
+use Rattle.volume_runs.specs.Rest.{cut_puts, file_written}
 use Rattle.volume_runs.specs.Run.{Entry, IsAnswered, IsServed, LacksResource, is_ok, or_before, shrunk_by}
 use Rattle.volume_runs.specs.Told.{changes_by}
 use Rattle.hfs_volume.specs.TreeOf.{tree_of}
-use Rattle.hfs_volume.specs.Weight.{data_of, edits_of, needs_cut, weight, weight_with}
+use Rattle.hfs_volume.specs.Weight.{data_of, edits_of, free_blocks, needs_cut, room_with, weight, weight_with}
 use Rattle.hfs_volume.specs.declared.cost.Cost.TheVariants as cost
 use Rattle.sector_disk.specs.Space.{Space}
 use Rattle.volume_weights.specs.DataWeighing.{WaitsForCut}
 use Rattle.volume_base.specs.Fitting.{AreMet, takable_of}
-use Rattle.volume_space.specs.Growing.{HasFilledRecords, IsOwnOrFree, alone}
+use Rattle.volume_space.specs.Growing.{IsOwnOrFree, alone}
 use Rattle.volume_base.specs.Room.{capacity_of}
 use Rattle.volume_base.specs.Standing.{own_sectors}
 use Rattle.volume_space.specs.Writing.{is_data_met}
@@ -55,11 +55,12 @@ pub record IsSteppedAs (capacity number : ℕ) (changes : List Change) (entry : 
   pub served : IsServedAs capacity number changes entry
   pub decided : IsAnswered capacity entry ⊎ LacksResource capacity entry
 
--- The step doesn't refuse the command, but blocks past the size of the file that it puts data into go first: some of them were cut.
+-- The step doesn't refuse the command, but blocks past the size of the file that it puts data into go first: some of this file's were cut.
 pub record CutsFirst (capacity : ℕ) (asked : Command) (before after : Content) : Type 0 where
   pub no_refusal : refuses (tree_of before) (Ok asked) ≡ false
   pub needs : needs_cut (volume_of before) (data_of (tree_of before) asked) ≡ true
   pub cuts : CutsSurplus capacity before after
+  pub file : file_written (data_of (tree_of before) asked) ≡ Some cuts.id
 
 -- The step doesn't refuse the command, and nothing is missing for it, but trees have to grow ahead of it: the first of them has grown, by just as
 -- many nodes as the cost says.
@@ -152,6 +153,10 @@ outcome_of ahead.Made = outcome.Again
 outcome_of ahead.CommitFirst = outcome.CommitFirst
 outcome_of (ahead.Refused why) = outcome.Answered (reply.No why) []
 
+-- fewer sectors may be put than a cut puts at most
+abbrev pub LacksCutRoom : Volume → Space → Type 0
+LacksCutRoom volume space = space.spare < cut_puts (room_with (capacity_of volume) (free_blocks (volume_of space.content)) (volume_of space.content))
+
 -- ---- a growth that goes first
 
 -- what a growth comes to for its command
@@ -178,11 +183,6 @@ pub record FitsNow (asked : Command) (volume : Volume) (space : Space) : Type 0 
   pub costs : weight_with (capacity_of volume) (takable_of volume) (volume_of space.content) (tree_of space.content) asked ≡ cost.Load load grow
   pub within : load ≤ space.spare
 
--- The command fits now, and each overflow record of a tree that grows ahead of it has an extent in use.
-pub record IsReady (asked : Command) (volume : Volume) (space : Space) : Type 0 where
-  pub now : FitsNow asked volume space
-  pub records : (tree : WhichTree) (more : ℕ) → 0 < more → first_growth now.grow ≡ alone tree more → HasFilledRecords tree volume space.content
-
 -- The command puts data into a file, what it costs of the blocks that may be taken is met, and of all that are free it costs no growth of the extents
 -- overflow file either.
 pub record PutsNow (asked : Command) (volume : Volume) (space : Space) : Type 0 where
@@ -202,3 +202,19 @@ IsTaken verdict.CutFirst grow = ⊥
 IsTaken verdict.CommitFirst grow = ⊥
 IsTaken (verdict.Grows tree more) grow = (0 < more) × (first_growth grow ≡ alone tree more)
 IsTaken verdict.Fits grow = grow ≡ 0 ∷ 0 ∷ 0 ∷ []
+
+-- the same, but that a cut may come first
+abbrev pub IsTakenAlike : Verdict → List ℕ → Type 0
+IsTakenAlike verdict.CutFirst grow = Unit {0}
+IsTakenAlike it grow = IsTaken it grow
+
+-- the verdict on a command ahead of which blocks past its file's size go: they are cut first, or it is refused
+abbrev pub IsCutFirst : Verdict → Type 0
+IsCutFirst (verdict.Refused why) = Unit {0}
+IsCutFirst verdict.CutFirst = Unit {0}
+IsCutFirst _ = ⊥
+
+-- a tree that the verdict lets grow is the first of those that have to grow by so many nodes
+abbrev pub GrowsTheFirst : Verdict → List ℕ → Type 0
+GrowsTheFirst (verdict.Grows tree more) grow = (0 < more) × (first_growth grow ≡ alone tree more)
+GrowsTheFirst _ grow = Unit {0}

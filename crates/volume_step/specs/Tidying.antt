@@ -1,8 +1,9 @@
 -- What a step of housekeeping came to.
-use Rattle.std.specs.Prelude.{◌≡◌, ◌⊎◌, ℕ, Option, None}
+use Rattle.std.specs.Prelude.{◌≡◌, ◌⊎◌, ℕ, Option, None, Some, ◌≤◌, ◌+◌, List}
+use Rattle.hfs_volume.specs.declared.cost.Cost.TheVariants as cost
 use Rattle.jnl_format.specs.Recovery.{Content}
 use Rattle.hfs_volume.specs.Content.{volume_of}
-use Rattle.hfs_volume.specs.Reclaim.{Reclaims}
+use Rattle.hfs_volume.specs.Reclaim.{Reclaims, Reclaim, next_reclaim, reclaim_cost}
 use Rattle.alloc_bitmap.specs.Map.{free_of}
 use Rattle.sector_disk.specs.Space.{Space}
 use Rattle.volume_runs.specs.Rest.{GrowsFor, IsAtRest}
@@ -34,3 +35,8 @@ abbrev pub LacksRoom : Volume → Space → Type 0
 LacksRoom volume space =
     IsNextShort (capacity_of volume) (shrunk_of volume) (free_of volume.map) space.spare (volume_of space.content)
     ⊎ ((wanted : TreeWanted) × AwaitsGrowth (capacity_of volume) (shrunk_of volume) space.content wanted × (GrowthFits wanted.tree wanted.more volume space → ⊥))
+
+-- Where the cost of the next step is a load, no more was put than that load.
+abbrev pub TakesStepLoad : ℕ → Option ℕ → Content → ℕ → ℕ → Type 0
+TakesStepLoad capacity shrunk content before after =
+    (step : Reclaim) (load : ℕ) (grow : List ℕ) → next_reclaim (volume_of content) shrunk ≡ Some step → reclaim_cost capacity (volume_of content) step ≡ cost.Load load grow → before ≤ after + load

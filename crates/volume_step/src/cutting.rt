@@ -5,8 +5,9 @@ ghost use Rattle.sector_disk.specs.Lists.{Content};
 ghost use Rattle.btree_edit.specs.Causes.{HasTroubleCause};
 ghost use Rattle.hfs_language.specs.Written.{FitsCommand};
 ghost use Rattle.hfs_model.specs.Step.{only_reads};
+ghost use Rattle.hfs_volume.specs.Content.{volume_of};
 ghost use Rattle.volume_space.specs.Cutting.{KeepsUsed};
-ghost use Rattle.volume_space.specs.CuttingAhead.{CutsAhead};
+ghost use Rattle.volume_space.specs.CuttingAhead.{CutsAhead, IsShortCut, TakesCutLoad};
 ghost use Rattle.volume_weights.specs.DataWeighing.{WaitsForCut};
 ghost use Rattle.volume_base.specs.Keeping.{shrunk_of};
 ghost use Rattle.volume_base.specs.Room.{capacity_of};
@@ -14,8 +15,9 @@ ghost use Rattle.volume_base.specs.Service.{IsInService};
 ghost use Rattle.volume_space.specs.Standing.{HoldsOn};
 ghost use Rattle.volume_base.specs.Standing.{IsSettled, StandsOver, own_sectors};
 ghost use Rattle.volume_base.specs.Touching.{Touches};
-ghost use Rattle.volume_step.specs.Loads.{TakesItsLoad};
-ghost use Rattle.volume_step.specs.Steps.{KeepsJournal, ShrinksAs, StepsTo, data_end, data_path, outcome_of};
+ghost use Rattle.volume_step.specs.Loads.{IsWithinLoad};
+ghost use Rattle.volume_step.specs.Steps.{KeepsJournal, LacksCutRoom, ShrinksAs, StepsTo, data_end, data_path, outcome_of};
+ghost use Rattle.volume_step.specs.declared.outcome.Outcome.TheVariants as outcome;
 
 use crate::answering::refusal;
 use crate::outcome::Outcome;
@@ -69,6 +71,8 @@ fn cut_for<P: SectorSpace>(
     ensures service { IsInService volume.new (P.SectorView.space space.new) }
     ensures used { KeepsUsed volume.old volume.new }
     ensures touches { (committed : Content) → Touches committed (λ s. Contains (own_sectors volume.old) s) (P.SectorView.space space.old) (P.SectorView.space space.new) }
+    ensures short { IsTrue (P.SectorView.space space.old).tells → IfOk result (λ came. IsShortCut came (capacity_of volume.old) (P.SectorView.space space.old).spare (volume_of (P.SectorView.space space.old).content)) }
+    ensures loads { IsTrue (P.SectorView.space space.old).tells → TakesCutLoad (capacity_of volume.old) (volume_of (P.SectorView.space space.old).content) (P.SectorView.space space.old).spare (P.SectorView.space space.new).spare }
     ensures below { P.SectorView.follows space.old space.new }
     ensures cause { HasTroubleCause (P.SectorView.space space.old).faults (P.SectorView.space space.new).faults result }
 {
@@ -103,7 +107,8 @@ fn cut_up_to<P: SectorSpace>(
     ensures capacity { capacity_of volume.new ≡ capacity_of volume.old }
     ensures shrunk { IsTrue (P.SectorView.space space.old).tells → IfOk result (λ outcome. ShrinksAs outcome command.now (P.SectorView.space space.old).content (shrunk_of volume.old) (shrunk_of volume.new)) }
     ensures touches { (committed : Content) → Touches committed (λ s. Contains (own_sectors volume.old) s) (P.SectorView.space space.old) (P.SectorView.space space.new) }
-    ensures loads { IsTrue (P.SectorView.space space.old).tells → IfOk result (λ it. TakesItsLoad it command.now volume.old (P.SectorView.space space.old) (P.SectorView.space space.new)) }
+    ensures short { IsTrue (P.SectorView.space space.old).tells → IfOk result (λ it. it ≡ outcome.CommitFirst → LacksCutRoom volume.old (P.SectorView.space space.old)) }
+    ensures loads { IsTrue (P.SectorView.space space.old).tells → IsWithinLoad command.now volume.old (P.SectorView.space space.old) (P.SectorView.space space.new) }
     ensures below { P.SectorView.follows space.old space.new }
     ensures cause { HasTroubleCause (P.SectorView.space space.old).faults (P.SectorView.space space.new).faults result }
 {
@@ -146,7 +151,10 @@ pub(crate) fn cut_first<P: SectorSpace>(
     ensures capacity { capacity_of volume.new ≡ capacity_of volume.old }
     ensures shrunk { IsTrue (P.SectorView.space space.old).tells → IfOk result (λ outcome. ShrinksAs outcome command.now (P.SectorView.space space.old).content (shrunk_of volume.old) (shrunk_of volume.new)) }
     ensures touches { (committed : Content) → Touches committed (λ s. Contains (own_sectors volume.old) s) (P.SectorView.space space.old) (P.SectorView.space space.new) }
-    ensures loads { IsTrue (P.SectorView.space space.old).tells → IfOk result (λ it. TakesItsLoad it command.now volume.old (P.SectorView.space space.old) (P.SectorView.space space.new)) }
+    // A commit comes first only where there is too little room for the cut.
+    ensures short { IsTrue (P.SectorView.space space.old).tells → IfOk result (λ it. it ≡ outcome.CommitFirst → LacksCutRoom volume.old (P.SectorView.space space.old)) }
+    // On a fault too, it puts no more sectors than the load of the command.
+    ensures loads { IsTrue (P.SectorView.space space.old).tells → IsWithinLoad command.now volume.old (P.SectorView.space space.old) (P.SectorView.space space.new) }
     ensures below { P.SectorView.follows space.old space.new }
     ensures cause { HasTroubleCause (P.SectorView.space space.old).faults (P.SectorView.space space.new).faults result }
 {

@@ -10,7 +10,6 @@ ghost use Rattle.volume_space.specs.Standing.{HoldsOn};
 ghost use Rattle.volume_base.specs.Standing.{IsSettled, StandsOver};
 ghost use Rattle.volume_base.specs.Touching.{Touches};
 ghost use Rattle.volume_space.specs.Growing.{WantsFirst};
-ghost use Rattle.volume_step.specs.Loads.{TakesItsLoad};
 ghost use Rattle.volume_step.specs.Steps.{KeepsJournal, OwnOf, ShrinksAs, StepsTo, WaitsForGrowth, grown};
 ghost use Rattle.volume_step.specs.declared.outcome.Outcome.TheVariants as outcome;
 
@@ -48,8 +47,6 @@ pub(crate) fn grow_first<P: SectorSpace>(
     ensures capacity { capacity_of volume.new ≡ capacity_of volume.old }
     ensures shrunk { IsTrue (P.SectorView.space space.old).tells → IfOk result (λ outcome. ShrinksAs outcome _command.now (P.SectorView.space space.old).content (shrunk_of volume.old) (shrunk_of volume.new)) }
     ensures touches { (committed : Content) → Touches committed (OwnOf volume.old volume.new) (P.SectorView.space space.old) (P.SectorView.space space.new) }
-    // Nothing is answered.
-    ensures loads { IfOk result (λ it. TakesItsLoad it _command.now volume.old (P.SectorView.space space.old) (P.SectorView.space space.new)) }
     // It puts no more than a load that wants it, and may be put.
     ensures spent { IsTrue (P.SectorView.space space.old).tells → (wants : WantsFirst tree more volume.old (P.SectorView.space space.old)) → (P.SectorView.space space.old).spare ≤ (P.SectorView.space space.new).spare + wants.load }
     ensures below { P.SectorView.follows space.old space.new }

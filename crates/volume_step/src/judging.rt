@@ -1,13 +1,18 @@
 //! A command judged before its step: by its weight, and by the room that there is.
-ghost use Rattle.std.specs.Prelude.{◌≡◌, nat_lt, false, IsTrue, IfOk, if◌then◌else◌};
+ghost use Rattle.std.specs.Prelude.{◌≡◌, ℕ, List, nat_lt, true, false, IsTrue, IfOk, if◌then◌else◌};
 ghost use Rattle.btree_edit.specs.Causes.{HasTroubleCause};
 ghost use Rattle.hfs_language.specs.Written.{FitsCommand};
 ghost use Rattle.hfs_model.specs.Step.{only_reads};
+ghost use Rattle.hfs_volume.specs.Content.{volume_of};
+ghost use Rattle.hfs_volume.specs.TreeOf.{tree_of};
+ghost use Rattle.hfs_volume.specs.Weight.{data_of, needs_cut, weight_with};
+ghost use Rattle.hfs_volume.specs.declared.cost.Cost.TheVariants as cost;
+ghost use Rattle.volume_base.specs.Fitting.{takable_of};
 ghost use Rattle.volume_base.specs.Looking.{ReadsVolume};
 ghost use Rattle.volume_base.specs.Room.{capacity_of};
 ghost use Rattle.volume_base.specs.Standing.{IsSettled, StandsOver};
 ghost use Rattle.volume_step.specs.Anew.{FitsAlike};
-ghost use Rattle.volume_step.specs.Steps.{FitsNow, IsDirect, IsJudged, IsTaken, PutsNow, growth_or, verdict_of};
+ghost use Rattle.volume_step.specs.Steps.{FitsNow, GrowsTheFirst, IsCutFirst, IsDirect, IsJudged, IsTaken, IsTakenAlike, PutsNow, growth_or, verdict_of};
 ghost use Rattle.volume_step.specs.declared.judging.Verdict.TheVariants as verdict;
 
 use hfs_language::{Command, Refusal};
@@ -94,8 +99,12 @@ pub(crate) fn judge<P: SectorSpace>(
     ensures judged { IsTrue (P.SectorView.space space.old).tells → IfOk result (λ verdict. IsJudged verdict (capacity_of volume.old) command.now (P.SectorView.space space.old).content) }
     // Where it fits now, no commit comes first.
     ensures taken { IsTrue (P.SectorView.space space.old).tells → (now : FitsNow command.now volume.old (P.SectorView.space space.old)) → IfOk result (λ verdict. IsTaken verdict now.grow) }
-    // Where it costs the same of all free blocks as of those that may be taken, neither does one.
-    ensures alike { IsTrue (P.SectorView.space space.old).tells → (now : FitsAlike command.now volume.old (P.SectorView.space space.old)) → IfOk result (λ verdict. IsTaken verdict now.grow) }
+    // Where it costs the same of all free blocks as of those that may be taken, neither does one; a cut may.
+    ensures alike { IsTrue (P.SectorView.space space.old).tells → (now : FitsAlike command.now volume.old (P.SectorView.space space.old)) → IfOk result (λ verdict. IsTakenAlike verdict now.grow) }
+    // A tree that grows first is the first of those that its load counts.
+    ensures first { IsTrue (P.SectorView.space space.old).tells → (load : ℕ) (grow : List ℕ) → weight_with (capacity_of volume.old) (takable_of volume.old) (volume_of (P.SectorView.space space.old).content) (tree_of (P.SectorView.space space.old).content) command.now ≡ cost.Load load grow → IfOk result (λ verdict. GrowsTheFirst verdict grow) }
+    // Where blocks past its file's size go ahead of it, they are cut first, or it is refused.
+    ensures cuts { IsTrue (P.SectorView.space space.old).tells → needs_cut (volume_of (P.SectorView.space space.old).content) (data_of (tree_of (P.SectorView.space space.old).content) command.now) ≡ true → IfOk result IsCutFirst }
     // Where its data is put now, nothing goes ahead of it.
     ensures puts { IsTrue (P.SectorView.space space.old).tells → PutsNow command.now volume.old (P.SectorView.space space.old) → IfOk result IsDirect }
     ensures reads { ReadsVolume volume.old volume.new (P.SectorView.space space.old) (P.SectorView.space space.new) }

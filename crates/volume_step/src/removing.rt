@@ -123,7 +123,7 @@ pub(crate) fn remove_file<P: SectorSpace>(
     ensures capacity { capacity_of volume.new ≡ capacity_of volume.old }
     ensures shrunk { shrunk_of volume.new ≡ shrunk_of volume.old }
     ensures touches { (committed : Content) → Touches committed (λ s. Contains (own_sectors volume.old) s) (P.SectorView.space space.old) (P.SectorView.space space.new) }
-    ensures loads { IsTrue (P.SectorView.space space.old).tells → OnOk result (IsWithinLoad (command.Rm path.now) volume.old (P.SectorView.space space.old) (P.SectorView.space space.new)) }
+    ensures loads { IsTrue (P.SectorView.space space.old).tells → IsWithinLoad (command.Rm path.now) volume.old (P.SectorView.space space.old) (P.SectorView.space space.new) }
     ensures below { P.SectorView.follows space.old space.new }
     ensures cause { HasTroubleCause (P.SectorView.space space.old).faults (P.SectorView.space space.new).faults result }
 {

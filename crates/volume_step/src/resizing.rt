@@ -15,7 +15,7 @@ ghost use Rattle.volume_base.specs.Room.{capacity_of};
 ghost use Rattle.volume_base.specs.Service.{IsInService};
 ghost use Rattle.volume_space.specs.Spilling.{IsLaidOutAs};
 ghost use Rattle.volume_space.specs.Standing.{HoldsOn};
-ghost use Rattle.volume_space.specs.Writing.{is_data_met, IsFilled};
+ghost use Rattle.volume_space.specs.Writing.{is_data_met};
 ghost use Rattle.volume_base.specs.Standing.{IsSettled, StandsOver, own_sectors};
 ghost use Rattle.volume_base.specs.Touching.{Touches};
 ghost use Rattle.volume_step.specs.Loads.{IsWithinLoad};
@@ -56,7 +56,7 @@ fn lengthen<P: SectorSpace>(
     ensures shrunk { shrunk_of volume.new ≡ shrunk_of volume.old }
     ensures touches { (committed : Content) → HoldsOn committed volume.old → IsLaidOutAs committed volume.old → Touches committed (λ s. Contains (own_sectors volume.old) s) (P.SectorView.space space.old) (P.SectorView.space space.new) }
     ensures same { SameSpace (P.SectorView.space space.old) (P.SectorView.space space.new) }
-    ensures loads { IsTrue (P.SectorView.space space.old).tells → IsFilled (command.Trunc path.now size) (P.SectorView.space space.old).content → IsWithinLoad (command.Trunc path.now size) volume.old (P.SectorView.space space.old) (P.SectorView.space space.new) }
+    ensures loads { IsTrue (P.SectorView.space space.old).tells → IsWithinLoad (command.Trunc path.now size) volume.old (P.SectorView.space space.old) (P.SectorView.space space.new) }
     ensures below { P.SectorView.follows space.old space.new }
     ensures cause { HasTroubleCause (P.SectorView.space space.old).faults (P.SectorView.space space.new).faults result }
 {
@@ -95,7 +95,7 @@ pub(crate) fn resize<P: SectorSpace>(
     ensures shrunk { IsTrue (P.SectorView.space space.old).tells → IfOk result (λ outcome. ShrinksAs outcome (command.Trunc path.now size) (P.SectorView.space space.old).content (shrunk_of volume.old) (shrunk_of volume.new)) }
     ensures touches { (committed : Content) → HoldsOn committed volume.old → IsLaidOutAs committed volume.old → Touches committed (λ s. Contains (own_sectors volume.old) s) (P.SectorView.space space.old) (P.SectorView.space space.new) }
     ensures same { SameSpace (P.SectorView.space space.old) (P.SectorView.space space.new) }
-    ensures loads { IsTrue (P.SectorView.space space.old).tells → IsFilled (command.Trunc path.now size) (P.SectorView.space space.old).content → IsWithinLoad (command.Trunc path.now size) volume.old (P.SectorView.space space.old) (P.SectorView.space space.new) }
+    ensures loads { IsTrue (P.SectorView.space space.old).tells → IsWithinLoad (command.Trunc path.now size) volume.old (P.SectorView.space space.old) (P.SectorView.space space.new) }
     ensures below { P.SectorView.follows space.old space.new }
     ensures cause { HasTroubleCause (P.SectorView.space space.old).faults (P.SectorView.space space.new).faults result }
 {
@@ -139,7 +139,7 @@ pub(crate) fn write_value<P: SectorSpace>(
     ensures shrunk { shrunk_of volume.new ≡ shrunk_of volume.old }
     ensures touches { (committed : Content) → HoldsOn committed volume.old → IsLaidOutAs committed volume.old → Touches committed (λ s. Contains (own_sectors volume.old) s) (P.SectorView.space space.old) (P.SectorView.space space.new) }
     ensures same { SameSpace (P.SectorView.space space.old) (P.SectorView.space space.new) }
-    ensures loads { IsTrue (P.SectorView.space space.old).tells → IsFilled (command.Write path.now from value.now) (P.SectorView.space space.old).content → IsWithinLoad (command.Write path.now from value.now) volume.old (P.SectorView.space space.old) (P.SectorView.space space.new) }
+    ensures loads { IsTrue (P.SectorView.space space.old).tells → IsWithinLoad (command.Write path.now from value.now) volume.old (P.SectorView.space space.old) (P.SectorView.space space.new) }
     ensures below { P.SectorView.follows space.old space.new }
     ensures cause { HasTroubleCause (P.SectorView.space space.old).faults (P.SectorView.space space.new).faults result }
 {

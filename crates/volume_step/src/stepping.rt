@@ -1,5 +1,7 @@
 //! A command on a volume in service, weighed and done.
-ghost use Rattle.std.specs.Prelude.{◌≡◌, ◌≢◌, ◌≤◌, ◌⊎◌, ◌+◌, ℕ, [], ◌∷◌, true, false, None, IsTrue, IfOk, OnOk};
+ghost use Rattle.std.specs.Prelude.{◌≡◌, ◌≢◌, ◌⊎◌, ℕ, [], ◌∷◌, true, false, None, IsTrue, IfOk, OnOk};
+ghost use Rattle.hfs_volume.specs.TreeOf.{tree_of};
+ghost use Rattle.hfs_volume.specs.Content.{volume_of};
 ghost use Rattle.sector_disk.specs.Lists.{Content};
 ghost use Rattle.sector_disk.specs.Space.{SameSpace};
 ghost use Rattle.btree_edit.specs.Causes.{HasTroubleCause};
@@ -7,7 +9,7 @@ ghost use Rattle.hfs_language.specs.Written.{FitsCommand};
 ghost use Rattle.hfs_model.specs.Step.{only_reads};
 ghost use Rattle.hfs_model.specs.declared.plain.PlainTree.{PlainTree};
 ghost use Rattle.hfs_volume.specs.Aside.{IsJournalSector};
-ghost use Rattle.hfs_volume.specs.Weight.{data_of};
+ghost use Rattle.hfs_volume.specs.Weight.{data_of, needs_cut};
 ghost use Rattle.volume_base.specs.Keeping.{shrunk_of};
 ghost use Rattle.volume_base.specs.Room.{capacity_of};
 ghost use Rattle.volume_base.specs.Service.{IsInService};
@@ -15,10 +17,9 @@ ghost use Rattle.volume_space.specs.Spilling.{IsLaidOutAs};
 ghost use Rattle.volume_space.specs.Standing.{HoldsOn};
 ghost use Rattle.volume_base.specs.Standing.{IsSettled, StandsOver};
 ghost use Rattle.volume_base.specs.Touching.{Touches};
-ghost use Rattle.volume_step.specs.Anew.{FitsAnew, IsAnew, IsReadyAlike};
-ghost use Rattle.volume_step.specs.Loads.{IsWithinLoad, TakesItsLoad, leaves_links};
-ghost use Rattle.volume_space.specs.Writing.{IsFilled};
-ghost use Rattle.volume_step.specs.Steps.{Affords, FitsNow, IsDoneOk, IsMet, IsReady, KeepsJournal, OwnOf, PutsNow, ShrinksAs, StepsTo};
+ghost use Rattle.volume_step.specs.Anew.{FitsAlike, FitsAnew, IsAnew};
+ghost use Rattle.volume_step.specs.Loads.{IsWithinLoad};
+ghost use Rattle.volume_step.specs.Steps.{Affords, FitsNow, IsDoneOk, IsMet, KeepsJournal, LacksCutRoom, OwnOf, PutsNow, ShrinksAs, StepsTo};
 ghost use Rattle.volume_step.specs.declared.outcome.Outcome.TheVariants as outcome;
 
 use crate::answering::{answer, only_reads, refusal};
@@ -63,8 +64,7 @@ fn perform_without_data<P: SectorSpace>(
     ensures capacity { capacity_of volume.new ≡ capacity_of volume.old }
     ensures shrunk { IsTrue (P.SectorView.space space.old).tells → IfOk result (λ outcome. ShrinksAs outcome command.now (P.SectorView.space space.old).content (shrunk_of volume.old) (shrunk_of volume.new)) }
     ensures touches { (committed : Content) → Touches committed (OwnOf volume.old volume.new) (P.SectorView.space space.old) (P.SectorView.space space.new) }
-    ensures loads { IsTrue (P.SectorView.space space.old).tells → leaves_links command.now ≡ true → IsWithinLoad command.now volume.old (P.SectorView.space space.old) (P.SectorView.space space.new) }
-    ensures takes { IsTrue (P.SectorView.space space.old).tells → OnOk result (IsWithinLoad command.now volume.old (P.SectorView.space space.old) (P.SectorView.space space.new)) }
+    ensures loads { IsTrue (P.SectorView.space space.old).tells → IsWithinLoad command.now volume.old (P.SectorView.space space.old) (P.SectorView.space space.new) }
     ensures below { P.SectorView.follows space.old space.new }
     ensures cause { HasTroubleCause (P.SectorView.space space.old).faults (P.SectorView.space space.new).faults result }
 {
@@ -121,8 +121,7 @@ fn perform<P: SectorSpace>(
     ensures shrunk { IsTrue (P.SectorView.space space.old).tells → IfOk result (λ outcome. ShrinksAs outcome command.now (P.SectorView.space space.old).content (shrunk_of volume.old) (shrunk_of volume.new)) }
     ensures touches { (committed : Content) → HoldsOn committed volume.old → IsLaidOutAs committed volume.old → Touches committed (OwnOf volume.old volume.new) (P.SectorView.space space.old) (P.SectorView.space space.new) }
     ensures same { SameSpace (P.SectorView.space space.old) (P.SectorView.space space.new) }
-    ensures loads { IsTrue (P.SectorView.space space.old).tells → leaves_links command.now ≡ true → IsFilled command.now (P.SectorView.space space.old).content → IsWithinLoad command.now volume.old (P.SectorView.space space.old) (P.SectorView.space space.new) }
-    ensures takes { IsTrue (P.SectorView.space space.old).tells → IsFilled command.now (P.SectorView.space space.old).content → OnOk result (IsWithinLoad command.now volume.old (P.SectorView.space space.old) (P.SectorView.space space.new)) }
+    ensures loads { IsTrue (P.SectorView.space space.old).tells → IsWithinLoad command.now volume.old (P.SectorView.space space.old) (P.SectorView.space space.new) }
     ensures below { P.SectorView.follows space.old space.new }
     ensures cause { HasTroubleCause (P.SectorView.space space.old).faults (P.SectorView.space space.new).faults result }
 {
@@ -150,12 +149,12 @@ fn change<P: SectorSpace>(
     requires changes { only_reads command.now ≡ false }
     ensures answered { IsTrue (P.SectorView.space space.old).tells → IfOk result (λ outcome. StepsTo outcome (capacity_of volume.old) number command.now (P.SectorView.space space.old).content (P.SectorView.space space.new).content) }
     // Where it is ready, no commit comes first.
-    ensures ready { IsTrue (P.SectorView.space space.old).tells → IsReady command.now volume.old (P.SectorView.space space.old) → IfOk result (λ it. it ≢ outcome.CommitFirst) }
+    ensures ready { IsTrue (P.SectorView.space space.old).tells → FitsNow command.now volume.old (P.SectorView.space space.old) → IfOk result (λ it. it ≢ outcome.CommitFirst) }
     ensures puts { IsTrue (P.SectorView.space space.old).tells → PutsNow command.now volume.old (P.SectorView.space space.old) → IfOk result (λ it. it ≢ outcome.CommitFirst) }
     // Where it costs the same of all free blocks as of those that may be taken, none does either.
-    ensures alike { IsTrue (P.SectorView.space space.old).tells → IsReadyAlike command.now volume.old (P.SectorView.space space.old) → IfOk result (λ it. it ≢ outcome.CommitFirst) }
-    // What goes ahead of it then puts no more than its load.
-    ensures ahead { IsTrue (P.SectorView.space space.old).tells → (ready : IsReady command.now volume.old (P.SectorView.space space.old)) → IfOk result (λ it. it ≡ outcome.Again → (P.SectorView.space space.old).spare ≤ (P.SectorView.space space.new).spare + ready.now.load) }
+    ensures alike { IsTrue (P.SectorView.space space.old).tells → FitsAlike command.now volume.old (P.SectorView.space space.old) → IfOk result (λ it. it ≢ outcome.CommitFirst) }
+    // Where a cut goes ahead of it, one does only where there is too little room for the cut.
+    ensures short { IsTrue (P.SectorView.space space.old).tells → needs_cut (volume_of (P.SectorView.space space.old).content) (data_of (tree_of (P.SectorView.space space.old).content) command.now) ≡ true → IfOk result (λ it. it ≡ outcome.CommitFirst → LacksCutRoom volume.old (P.SectorView.space space.old)) }
     ensures place { IsTrue (P.SectorView.space space.old).tells → OnOk result (KeepsJournal (P.SectorView.space space.old).content (P.SectorView.space space.new).content) }
     ensures stands { OnOk result (StandsOver volume.new (P.SectorView.space space.new)) }
     ensures settled { IsTrue (P.SectorView.space space.old).tells → OnOk result (IsSettled volume.new (P.SectorView.space space.new).content) }
@@ -165,8 +164,7 @@ fn change<P: SectorSpace>(
     ensures shrunk { IsTrue (P.SectorView.space space.old).tells → IfOk result (λ outcome. ShrinksAs outcome command.now (P.SectorView.space space.old).content (shrunk_of volume.old) (shrunk_of volume.new)) }
     ensures touches { (committed : Content) → HoldsOn committed volume.old → IsLaidOutAs committed volume.old → Touches committed (OwnOf volume.old volume.new) (P.SectorView.space space.old) (P.SectorView.space space.new) }
     ensures same { SameSpace (P.SectorView.space space.old) (P.SectorView.space space.new) }
-    ensures loads { IsTrue (P.SectorView.space space.old).tells → IsFilled command.now (P.SectorView.space space.old).content → IfOk result (λ it. TakesItsLoad it command.now volume.old (P.SectorView.space space.old) (P.SectorView.space space.new)) }
-    ensures within { IsTrue (P.SectorView.space space.old).tells → leaves_links command.now ≡ true → (ready : IsReadyAlike command.now volume.old (P.SectorView.space space.old)) → (P.SectorView.space space.old).spare ≤ (P.SectorView.space space.new).spare + ready.now.load }
+    ensures loads { IsTrue (P.SectorView.space space.old).tells → IsWithinLoad command.now volume.old (P.SectorView.space space.old) (P.SectorView.space space.new) }
     ensures below { P.SectorView.follows space.old space.new }
     ensures cause { HasTroubleCause (P.SectorView.space space.old).faults (P.SectorView.space space.new).faults result }
 {
@@ -200,12 +198,12 @@ pub fn step<P: SectorSpace>(
     // Told, the line's entry is one of a run, with what it changed for watchers.
     ensures answered { IsTrue (P.SectorView.space space.old).tells → IfOk result (λ outcome. StepsTo outcome (capacity_of volume.old) number command.now (P.SectorView.space space.old).content (P.SectorView.space space.new).content) }
     // No commit comes first where the command reads alone; nor where it puts no data into a file, and what it costs of the blocks that may be taken
-    // is a load that the room suffices for (each overflow record of a tree that grows ahead of it has an extent in use); nor where it puts data, and that is met.
-    ensures ready { IsTrue (P.SectorView.space space.old).tells → (only_reads command.now ≡ true) ⊎ (IsReady command.now volume.old (P.SectorView.space space.old) ⊎ PutsNow command.now volume.old (P.SectorView.space space.old)) → IfOk result (λ it. it ≢ outcome.CommitFirst) }
-    // On a transaction to which nothing was put none comes first where nothing is missing for the command, and no cut goes ahead of it.
+    // is a load that the room suffices for; nor where it puts data, and that is met.
+    ensures ready { IsTrue (P.SectorView.space space.old).tells → (only_reads command.now ≡ true) ⊎ (FitsNow command.now volume.old (P.SectorView.space space.old) ⊎ PutsNow command.now volume.old (P.SectorView.space space.old)) → IfOk result (λ it. it ≢ outcome.CommitFirst) }
+    // On a transaction to which nothing was put none comes first where nothing is missing for the command.
     ensures anew { IsTrue (P.SectorView.space space.old).tells → IsAnew volume.old (P.SectorView.space space.old) → FitsAnew command.now volume.old (P.SectorView.space space.old).content → IfOk result (λ it. it ≢ outcome.CommitFirst) }
-    // The growth of a tree that goes ahead of a command that puts no data into a file, and is ready, puts no more than the load of the command.
-    ensures ahead { IsTrue (P.SectorView.space space.old).tells → (ready : IsReady command.now volume.old (P.SectorView.space space.old)) → IfOk result (λ it. it ≡ outcome.Again → (P.SectorView.space space.old).spare ≤ (P.SectorView.space space.new).spare + ready.now.load) }
+    // Where a cut goes ahead of it, one comes first only where there is too little room for the cut.
+    ensures short { IsTrue (P.SectorView.space space.old).tells → needs_cut (volume_of (P.SectorView.space space.old).content) (data_of (tree_of (P.SectorView.space space.old).content) command.now) ≡ true → IfOk result (λ it. it ≡ outcome.CommitFirst → LacksCutRoom volume.old (P.SectorView.space space.old)) }
     // The journal lies where it lay, and the header is one of the same volume.
     ensures place { IsTrue (P.SectorView.space space.old).tells → OnOk result (KeepsJournal (P.SectorView.space space.old).content (P.SectorView.space space.new).content) }
     ensures stands { OnOk result (StandsOver volume.new (P.SectorView.space space.new)) }
@@ -220,13 +218,9 @@ pub fn step<P: SectorSpace>(
     // of a content with the volume's blocks.
     ensures touches { (committed : Content) → HoldsOn committed volume.old → IsLaidOutAs committed volume.old → Touches committed (OwnOf volume.old volume.new) (P.SectorView.space space.old) (P.SectorView.space space.new) }
     ensures same { SameSpace (P.SectorView.space space.old) (P.SectorView.space space.new) }
-    // Answered, where it costs a load of the blocks that may be taken, it takes no more room for puts than that names; of a file that data is put
-    // into each overflow record has an extent in use.
-    ensures loads { IsTrue (P.SectorView.space space.old).tells → IsFilled command.now (P.SectorView.space space.old).content → IfOk result (λ it. TakesItsLoad it command.now volume.old (P.SectorView.space space.old) (P.SectorView.space space.new)) }
-    // Where it costs the same load of all free blocks and of those that may be taken, which the room suffices for, and no cut goes ahead of it, it
-    // takes no more than that whatever it comes to: on a fault too, and where a tree grows ahead of it. Each overflow record of that tree and of the
-    // file has an extent in use. Of `rm` and `ln` it isn't told.
-    ensures within { IsTrue (P.SectorView.space space.old).tells → leaves_links command.now ≡ true → (ready : IsReadyAlike command.now volume.old (P.SectorView.space space.old)) → (P.SectorView.space space.old).spare ≤ (P.SectorView.space space.new).spare + ready.now.load }
+    // Where it costs a load of the blocks that may be taken, it takes no more room for puts than that names, whatever it comes to: on a fault too, and
+    // where a cut or the growth of a tree goes ahead of it.
+    ensures loads { IsTrue (P.SectorView.space space.old).tells → IsWithinLoad command.now volume.old (P.SectorView.space space.old) (P.SectorView.space space.new) }
     ensures below { P.SectorView.follows space.old space.new }
     ensures cause { HasTroubleCause (P.SectorView.space space.old).faults (P.SectorView.space space.new).faults result }
 {

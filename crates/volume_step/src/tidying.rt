@@ -13,12 +13,13 @@ ghost use Rattle.volume_base.specs.Standing.{IsSettled, StandsOver, own_sectors}
 ghost use Rattle.volume_base.specs.Touching.{Touches};
 ghost use Rattle.volume_step.specs.Steps.{KeepsJournal, OwnOf};
 ghost use Rattle.volume_space.specs.declared.tidying.Tidying.TheVariants as tidying;
-ghost use Rattle.volume_step.specs.Tidying.{LacksRoom, ReclaimsAs, tidied_by};
+ghost use Rattle.volume_step.specs.Tidying.{LacksRoom, ReclaimsAs, tidied_by, TakesStepLoad};
 
 use hfs_volume::soundness_has_two_halves;
 use hx_bytes::Trouble;
 use sector_disk::SectorSpace;
 use std::alloc::Global;
+use tree_weights::{a_load_says_enough, trees_grow_by_enough};
 use volume_base::Volume;
 use volume_space::{Growth, Tidying, TreeWanted, grow_tree, next_growth};
 
@@ -40,6 +41,7 @@ fn tidy_now<P: SectorSpace>(
     ensures capacity { capacity_of volume.new ≡ capacity_of volume.old }
     ensures shrunk { shrunk_of volume.new ≡ shrunk_of volume.old }
     ensures touches { (committed : Content) → Touches committed (λ s. Contains (own_sectors volume.old) s) (P.SectorView.space space.old) (P.SectorView.space space.new) }
+    ensures loads { IsTrue (P.SectorView.space space.old).tells → TakesStepLoad (capacity_of volume.old) (shrunk_of volume.old) (P.SectorView.space space.old).content (P.SectorView.space space.old).spare (P.SectorView.space space.new).spare }
     ensures below { P.SectorView.follows space.old space.new }
     ensures cause { HasTroubleCause (P.SectorView.space space.old).faults (P.SectorView.space space.new).faults result }
 {
@@ -78,9 +80,12 @@ fn grow_for<P: SectorSpace>(
     ensures capacity { capacity_of volume.new ≡ capacity_of volume.old }
     ensures shrunk { shrunk_of volume.new ≡ shrunk_of volume.old }
     ensures touches { (committed : Content) → Touches committed (OwnOf volume.old volume.new) (P.SectorView.space space.old) (P.SectorView.space space.new) }
+    ensures loads { IsTrue (P.SectorView.space space.old).tells → TakesStepLoad (capacity_of volume.old) (shrunk_of volume.old) (P.SectorView.space space.old).content (P.SectorView.space space.old).spare (P.SectorView.space space.new).spare }
     ensures below { P.SectorView.follows space.old space.new }
     ensures cause { HasTroubleCause (P.SectorView.space space.old).faults (P.SectorView.space space.new).faults result }
 {
+    a_load_says_enough();
+    trees_grow_by_enough();
     let went = grow_tree(volume, alloc, space, wanted.tree, wanted.more)?;
     Ok(grown(went))
 }
@@ -114,6 +119,8 @@ pub fn tidy<P: SectorSpace>(
     ensures shrunk { shrunk_of volume.new ≡ shrunk_of volume.old }
     // On a fault too, it puts sectors that are its own before or behind the call, or lie in blocks that were free, whatever was committed last.
     ensures touches { (committed : Content) → Touches committed (OwnOf volume.old volume.new) (P.SectorView.space space.old) (P.SectorView.space space.new) }
+    // On a fault too, it puts no more sectors than the load of the step, where it makes it and where a tree grows for it.
+    ensures loads { IsTrue (P.SectorView.space space.old).tells → TakesStepLoad (capacity_of volume.old) (shrunk_of volume.old) (P.SectorView.space space.old).content (P.SectorView.space space.old).spare (P.SectorView.space space.new).spare }
     ensures below { P.SectorView.follows space.old space.new }
     ensures cause { HasTroubleCause (P.SectorView.space space.old).faults (P.SectorView.space space.new).faults result }
 {

@@ -1,8 +1,8 @@
-use Rattle.std.proofs.Common.{refl, sym, ◌∙◌}
+use Rattle.std.proofs.Common.{refl, sym, ◌∙◌, arith}
 use Rattle.volume_base.specs.Room.{capacity_of}
 use Rattle.volume_base.proofs.Commanding.{touches_none}
 use Rattle.volume_step.specs.declared.outcome.Outcome.TheVariants as outcome
-use Rattle.volume_step.proofs.CutSteps.{dry_steps}
+use Rattle.volume_step.proofs.CutSteps.{dry_steps, never_dry}
 use Rattle.volume_step.proofs.Done.{same_place}
 use Rattle.volume_step.proofs.cutting.cut_first.Goals as goal
 
@@ -25,3 +25,9 @@ returns-in-None-clause-touches g c committed = touches_none committed _ (g.P.Sec
 
 pub returns-in-None-clause-service : goal.returns-in-None-clause-service
 returns-in-None-clause-service g c = c.requires.stands.service
+
+pub returns-in-None-clause-loads : goal.returns-in-None-clause-loads
+returns-in-None-clause-loads g c tells load grow is = omega arith
+
+pub returns-in-None-clause-short : goal.returns-in-None-clause-short
+returns-in-None-clause-short g c tells same = absurd (never_dry c.args.command.now (g.P.SectorView.space c.args.space.now).content (c.requires.waits tells) (sym c.data_end.ensures ∙ c.in-None.is))

@@ -26,3 +26,6 @@ returns-in_default-clause-service g c = c.requires.stands.service
 
 pub returns-in_default-clause-cause : goal.returns-in_default-clause-cause
 returns-in_default-clause-cause g c = record { later = omega arith; failed = tt }
+
+pub returns-in_default-clause-loads : goal.returns-in_default-clause-loads
+returns-in_default-clause-loads g c tells free load grow costs = omega arith

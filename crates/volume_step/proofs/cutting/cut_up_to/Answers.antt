@@ -2,11 +2,10 @@ use Rattle.std.proofs.Common.{[], sym, ◌∙◌, subst}
 use Rattle.volume_base.specs.Keeping.{shrunk_of}
 use Rattle.volume_base.specs.Room.{capacity_of}
 use Rattle.volume_space.proofs.Sounding.{sound_here}
-use Rattle.volume_step.specs.Steps.{StepsTo, data_path}
+use Rattle.volume_step.specs.Steps.{StepsTo}
 use Rattle.volume_step.specs.declared.outcome.Outcome.{Outcome}
-use Rattle.volume_step.proofs.CutSteps.{cut_shrinks, place_by, steps_by}
-use Rattle.volume_step.specs.Loads.{TakesItsLoad}
-use Rattle.volume_step.proofs.Loaded.{cut_within}
+use Rattle.volume_step.proofs.CutSteps.{cut_shrinks, place_by, short_by, steps_by}
+use Rattle.volume_step.proofs.Loaded.{cut_loads}
 use Rattle.volume_step.proofs.cutting.cut_up_to.Goals as goal
 
 pub returns-clause-answered : goal.returns-clause-answered
@@ -36,7 +35,13 @@ returns-clause-holds g c committed was = c.cut_for.ensures.used.holds committed 
 pub returns-clause-capacity : goal.returns-clause-capacity
 returns-clause-capacity g c = c.cut_for.ensures.used.capacity
 
+pub returns-clause-short : goal.returns-clause-short
+returns-clause-short g c tells same =
+    short_by (capacity_of c.args.volume.now) c.args.command.now (g.P.SectorView.space c.args.space.now).content (g.P.SectorView.space c.cut_for.new.space).content (g.P.SectorView.space c.args.space.now).spare (c.requires.waits tells) c.args.end c.requires.end
+    c.in_ok-came.came (c.in_ok-came.ensures.came tells) (c.in_ok-came.ensures.short tells) (sym c.outcome_of.ensures ∙ same)
+
 pub returns-clause-loads : goal.returns-clause-loads
-returns-clause-loads g c tells =
-    subst (λ (o : Outcome). TakesItsLoad o c.args.command.now c.args.volume.now (g.P.SectorView.space c.args.space.now) (g.P.SectorView.space c.cut_for.new.space)) (sym c.outcome_of.ensures)
-    (cut_within c.in_ok-came.came c.args.command.now c.args.volume.now (g.P.SectorView.space c.args.space.now) (g.P.SectorView.space c.cut_for.new.space) (data_path c.args.command.now) c.args.end c.requires.changes (c.requires.waits tells) (c.in_ok-came.ensures.came tells))
+returns-clause-loads g c tells = cut_loads c.args.command.now c.args.volume.now (g.P.SectorView.space c.args.space.now) (g.P.SectorView.space c.cut_for.new.space) c.requires.changes (c.requires.waits tells) (c.cut_for.ensures.loads tells)
+
+pub returns-in_err-came-clause-loads : goal.returns-in_err-came-clause-loads
+returns-in_err-came-clause-loads g c tells = cut_loads c.args.command.now c.args.volume.now (g.P.SectorView.space c.args.space.now) (g.P.SectorView.space c.cut_for.new.space) c.requires.changes (c.requires.waits tells) (c.cut_for.ensures.loads tells)

@@ -2,7 +2,6 @@ use Rattle.volume_base.specs.Keeping.{shrunk_of}
 use Rattle.volume_base.specs.Room.{capacity_of}
 use Rattle.volume_step.proofs.GrowthSteps.{growth_place, growth_shrinks, growth_steps, growth_touches}
 use Rattle.volume_step.proofs.Ready.{grown_now}
-use Rattle.volume_step.proofs.Loaded.{growth_takes}
 use Rattle.volume_step.proofs.growing.grow_first.Goals as goal
 
 pub returns-clause-answered : goal.returns-clause-answered
@@ -34,9 +33,6 @@ returns-in_err-went-clause-touches g c committed = growth_touches committed c.ar
 
 pub returns-clause-ready : goal.returns-clause-ready
 returns-clause-ready g c tells fits = grown_now c.in_ok-went.went c.grown.result c.grown.ensures (c.in_ok-went.ensures.counted tells fits)
-
-pub returns-clause-loads : goal.returns-clause-loads
-returns-clause-loads g c = growth_takes c.in_ok-went.went c.grown.result c.args._command.now c.args.volume.now (g.P.SectorView.space c.args.space.now) (g.P.SectorView.space c.grow_tree.new.space) c.grown.ensures
 
 pub returns-clause-spent : goal.returns-clause-spent
 returns-clause-spent g c tells wants = c.grow_tree.ensures.loads tells wants

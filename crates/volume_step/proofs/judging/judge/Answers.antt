@@ -1,13 +1,15 @@
-use Rattle.std.proofs.Common.{sym, ◌∙◌, subst, arith}
+use Rattle.std.proofs.Common.{sym, ◌∙◌, ap, subst, arith}
+use Rattle.std.specs.Prelude.{is_some}
 use Rattle.std.proofs.lemmas.Bool.{true≢false}
 use Rattle.hfs_volume.specs.Content.{volume_of}
 use Rattle.hfs_volume.specs.TreeOf.{tree_of}
 use Rattle.volume_base.specs.Fitting.{takable_of}
 use Rattle.volume_base.specs.Room.{capacity_of}
-use Rattle.volume_step.specs.Steps.{IsDirect, IsJudged, IsTaken}
+use Rattle.volume_step.specs.Steps.{GrowsTheFirst, IsCutFirst, IsDirect, IsJudged, IsTaken}
 use Rattle.volume_step.specs.declared.judging.Verdict.{Verdict}
 use Rattle.volume_step.proofs.AnewReady.{alike_weight}
-use Rattle.volume_step.proofs.Judged.{judged_weight, not_weighed, weight_found}
+use Rattle.volume_step.proofs.FirstGrowth.{first_weight, taken_alike}
+use Rattle.volume_step.proofs.Judged.{cut_or_refused, judged_weight, not_weighed, weight_found}
 use Rattle.volume_step.proofs.Ready.{no_cut, taken_weight}
 use Rattle.volume_step.proofs.ReadyData.{direct_weight, uncut_now}
 use Rattle.volume_step.proofs.judging.judge.Goals as goal
@@ -42,10 +44,27 @@ returns-in-None-clause-puts g c tells puts =
 
 pub returns-in-Some-clause-alike : goal.returns-in-Some-clause-alike
 returns-in-Some-clause-alike g c tells now =
-    subst (λ (v : Verdict). IsTaken v now.grow) (sym c.verdict_of.ensures)
+    taken_alike c.verdict_of.result now.grow
+    (subst (λ (v : Verdict). IsTaken v now.grow) (sym c.verdict_of.ensures)
     (alike_weight (capacity_of c.args.volume.now) (takable_of c.args.volume.now) (g.P.SectorView.space c.args.space.now).content c.args.command.now now.load now.grow now.affords now.costs c.spare.result
-    (omega (arith, now.within, c.spare.ensures, c.weigh.ensures.reads.looks.spare)) c.in-Some.weight (weight_found c.in_ok-weight.field-0 c.in-Some.weight _ c.in-Some.is (c.in_ok-weight.ensures.answer tells)))
+    (omega (arith, now.within, c.spare.ensures, c.weigh.ensures.reads.looks.spare)) c.in-Some.weight (weight_found c.in_ok-weight.field-0 c.in-Some.weight _ c.in-Some.is (c.in_ok-weight.ensures.answer tells))))
 
 pub returns-in-None-clause-alike : goal.returns-in-None-clause-alike
-returns-in-None-clause-alike g c tells now =
-    absurd (true≢false (sym (not_weighed c.in_ok-weight.field-0 c.in-None.is (c.in_ok-weight.ensures.waits tells c.requires.changes)).1 ∙ now.no_cut))
+returns-in-None-clause-alike g c tells now = tt
+
+pub returns-in-Some-clause-first : goal.returns-in-Some-clause-first
+returns-in-Some-clause-first g c tells load grow costs =
+    subst (λ (v : Verdict). GrowsTheFirst v grow) (sym c.verdict_of.ensures)
+    (first_weight (capacity_of c.args.volume.now) (takable_of c.args.volume.now) (g.P.SectorView.space c.args.space.now).content c.args.command.now c.spare.result c.requires.changes load grow costs c.in-Some.weight (weight_found c.in_ok-weight.field-0 c.in-Some.weight _ c.in-Some.is (c.in_ok-weight.ensures.answer tells)))
+
+pub returns-in-None-clause-first : goal.returns-in-None-clause-first
+returns-in-None-clause-first g c tells load grow costs = tt
+
+pub returns-in-Some-clause-cuts : goal.returns-in-Some-clause-cuts
+returns-in-Some-clause-cuts g c tells needs =
+    subst IsCutFirst (sym c.verdict_of.ensures)
+    (cut_or_refused (capacity_of c.args.volume.now) (takable_of c.args.volume.now) (g.P.SectorView.space c.args.space.now).content c.args.command.now c.spare.result c.in-Some.weight (weight_found c.in_ok-weight.field-0 c.in-Some.weight _ c.in-Some.is (c.in_ok-weight.ensures.answer tells))
+    (λ fine. true≢false (sym (ap is_some c.in-Some.is) ∙ c.in_ok-weight.ensures.cuts tells (fine, needs))))
+
+pub returns-in-None-clause-cuts : goal.returns-in-None-clause-cuts
+returns-in-None-clause-cuts g c tells needs = tt

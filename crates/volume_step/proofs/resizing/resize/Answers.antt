@@ -1,7 +1,7 @@
 use Rattle.std.proofs.Common.{◌≡◌, ℕ, true, List, [], refl, sym, ◌∙◌, ap, subst}
 use Rattle.std.proofs.lemmas.Bool.{true≢false}
 use Rattle.std.specs.List.{Contains}
-use Rattle.std.specs.Prelude.{IfNone, IfOk, IfSome, OnOk, is_some, Option, Some, None, Ok}
+use Rattle.std.specs.Prelude.{IfNone, IfOk, IfSome, OnOk, is_some, Option, Some, Ok}
 use Rattle.sector_disk.specs.Lists.{Content}
 use Rattle.sector_disk.proofs.SpaceLaws.{space_both}
 use Rattle.hfs_language.specs.declared.command.Command.TheVariants as command
@@ -20,13 +20,12 @@ use Rattle.volume_space.proofs.Sounding.{sound_here}
 use Rattle.volume_base.proofs.Still.{own_still, settled_still, volume_both}
 use Rattle.volume_step.specs.Steps.{Affords, KeepsJournal, StepsTo}
 use Rattle.volume_step.specs.declared.outcome.Outcome.TheVariants as outcome
-use Rattle.volume_step.proofs.Done.{holds_kept, same_place}
+use Rattle.volume_step.proofs.Done.{holds_kept}
 use Rattle.volume_step.proofs.Shortened.{trunc_place, trunc_steps}
 use Rattle.volume_step.proofs.Putting.{grown_shrinks_none}
 use Rattle.volume_step.proofs.Widening.{keeps_shrunk, laid_still}
 use Rattle.volume_step.proofs.Ready.{longer_none, update_fits}
 use Rattle.volume_step.proofs.ReadyData.{data_still, data_update_fits}
-use Rattle.volume_space.specs.Writing.{IsFilled}
 use Rattle.volume_step.proofs.Loaded.{trunc_within, within_behind, within_reads}
 use Rattle.volume_step.proofs.resizing.resize.Goals as goal
 
@@ -172,18 +171,18 @@ returns-in-None-clause-puts g c tells met =
     c.lengthen.ensures.puts (reads.looks.same.tells ∙ tells) (data_still (command.Trunc c.args.path.now c.args.size) c.args.volume.now c.shorten.new.volume (g.P.SectorView.space c.args.space.now) (g.P.SectorView.space c.shorten.new.space) reads tells met)
 
 pub returns-in-Some-clause-loads : goal.returns-in-Some-clause-loads
-returns-in-Some-clause-loads g c tells filled = within_behind (command.Trunc c.args.path.now c.args.size) c.args.volume.now c.change_at.new.self (g.P.SectorView.space c.args.space.now) (g.P.SectorView.space c.change_at.new.space) (g.P.SectorView.space c.shorten.new.space) c.change_at.ensures.reads tells (trunc_within c.change_at.new.self (g.P.SectorView.space c.change_at.new.space) (g.P.SectorView.space c.shorten.new.space) c.args.path.now c.args.size (c.change_at.ensures.settled tells) (c.shorten.ensures.spent (c.change_at.ensures.reads.looks.same.tells ∙ tells)))
+returns-in-Some-clause-loads g c tells = within_behind (command.Trunc c.args.path.now c.args.size) c.args.volume.now c.change_at.new.self (g.P.SectorView.space c.args.space.now) (g.P.SectorView.space c.change_at.new.space) (g.P.SectorView.space c.shorten.new.space) c.change_at.ensures.reads tells (trunc_within c.change_at.new.self (g.P.SectorView.space c.change_at.new.space) (g.P.SectorView.space c.shorten.new.space) c.args.path.now c.args.size (c.change_at.ensures.settled tells) (c.shorten.ensures.spent (c.change_at.ensures.reads.looks.same.tells ∙ tells)))
 
 pub returns-in_err-reply-clause-loads : goal.returns-in_err-reply-clause-loads
-returns-in_err-reply-clause-loads g c tells filled = within_behind (command.Trunc c.args.path.now c.args.size) c.args.volume.now c.change_at.new.self (g.P.SectorView.space c.args.space.now) (g.P.SectorView.space c.change_at.new.space) (g.P.SectorView.space c.shorten.new.space) c.change_at.ensures.reads tells (trunc_within c.change_at.new.self (g.P.SectorView.space c.change_at.new.space) (g.P.SectorView.space c.shorten.new.space) c.args.path.now c.args.size (c.change_at.ensures.settled tells) (c.shorten.ensures.spent (c.change_at.ensures.reads.looks.same.tells ∙ tells)))
+returns-in_err-reply-clause-loads g c tells = within_behind (command.Trunc c.args.path.now c.args.size) c.args.volume.now c.change_at.new.self (g.P.SectorView.space c.args.space.now) (g.P.SectorView.space c.change_at.new.space) (g.P.SectorView.space c.shorten.new.space) c.change_at.ensures.reads tells (trunc_within c.change_at.new.self (g.P.SectorView.space c.change_at.new.space) (g.P.SectorView.space c.shorten.new.space) c.args.path.now c.args.size (c.change_at.ensures.settled tells) (c.shorten.ensures.spent (c.change_at.ensures.reads.looks.same.tells ∙ tells)))
 
 pub returns-in_err-changes-clause-loads : goal.returns-in_err-changes-clause-loads
-returns-in_err-changes-clause-loads g c tells filled = within_reads (command.Trunc c.args.path.now c.args.size) c.args.volume.now c.change_at.new.self (g.P.SectorView.space c.args.space.now) (g.P.SectorView.space c.change_at.new.space) c.change_at.ensures.reads
+returns-in_err-changes-clause-loads g c tells = within_reads (command.Trunc c.args.path.now c.args.size) c.args.volume.now c.change_at.new.self (g.P.SectorView.space c.args.space.now) (g.P.SectorView.space c.change_at.new.space) c.change_at.ensures.reads
 
 pub returns-then-not-fits_update-clause-loads : goal.returns-then-not-fits_update-clause-loads
-returns-then-not-fits_update-clause-loads g c tells filled = within_reads (command.Trunc c.args.path.now c.args.size) c.args.volume.now c.change_at.new.self (g.P.SectorView.space c.args.space.now) (g.P.SectorView.space c.change_at.new.space) c.change_at.ensures.reads
+returns-then-not-fits_update-clause-loads g c tells = within_reads (command.Trunc c.args.path.now c.args.size) c.args.volume.now c.change_at.new.self (g.P.SectorView.space c.args.space.now) (g.P.SectorView.space c.change_at.new.space) c.change_at.ensures.reads
 
 pub returns-in-None-clause-loads : goal.returns-in-None-clause-loads
-returns-in-None-clause-loads g c tells filled =
+returns-in-None-clause-loads g c tells =
     let reads = volume_both c.args.volume.now c.change_at.new.self c.shorten.new.volume (g.P.SectorView.space c.args.space.now) (g.P.SectorView.space c.change_at.new.space) (g.P.SectorView.space c.shorten.new.space) c.change_at.ensures.reads (subst (λ (o : Option Reply). IfNone o (ReadsVolume c.change_at.new.self c.shorten.new.volume (g.P.SectorView.space c.change_at.new.space) (g.P.SectorView.space c.shorten.new.space))) c.in-None.is c.in_ok-reply.ensures.idle) in
-    within_behind (command.Trunc c.args.path.now c.args.size) c.args.volume.now c.shorten.new.volume (g.P.SectorView.space c.args.space.now) (g.P.SectorView.space c.shorten.new.space) (g.P.SectorView.space c.lengthen.new.space) reads tells (c.lengthen.ensures.loads (reads.looks.same.tells ∙ tells) (subst (λ (k : Content). IsFilled (command.Trunc c.args.path.now c.args.size) k) (sym (reads.looks.content tells)) filled))
+    within_behind (command.Trunc c.args.path.now c.args.size) c.args.volume.now c.shorten.new.volume (g.P.SectorView.space c.args.space.now) (g.P.SectorView.space c.shorten.new.space) (g.P.SectorView.space c.lengthen.new.space) reads tells (c.lengthen.ensures.loads (reads.looks.same.tells ∙ tells))

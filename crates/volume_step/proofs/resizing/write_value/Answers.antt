@@ -1,6 +1,6 @@
-use Rattle.std.proofs.Common.{◌≡◌, ℕ, true, List, [], refl, sym, ◌∙◌, ap, subst, arith}
+use Rattle.std.proofs.Common.{◌≡◌, ℕ, List, [], refl, sym, ◌∙◌, ap, subst, arith}
 use Rattle.std.specs.List.{Contains}
-use Rattle.std.specs.Prelude.{◌==◌, length, IfNone, IfSome, Option, Some, None, Ok}
+use Rattle.std.specs.Prelude.{◌==◌, length, IfNone, IfSome, Option, Some, Ok}
 use Rattle.std.proofs.lemmas.Bool.{eqb-true, true≢false}
 use Rattle.sector_disk.specs.Lists.{Content}
 use Rattle.sector_disk.proofs.SpaceLaws.{space_both}
@@ -22,7 +22,6 @@ use Rattle.volume_step.proofs.Shortened.{nothing_steps}
 use Rattle.volume_step.proofs.Widening.{laid_still}
 use Rattle.volume_step.proofs.Ready.{written_none}
 use Rattle.volume_step.proofs.ReadyData.{data_still, put_none}
-use Rattle.volume_space.specs.Writing.{IsFilled}
 use Rattle.volume_step.proofs.Loaded.{within_behind, within_reads, within_none}
 use Rattle.volume_step.proofs.resizing.write_value.Goals as goal
 
@@ -126,22 +125,22 @@ returns-in-None-clause-puts g c tells met =
     (data_still (command.Write c.args.path.now c.args.from c.args.value.now) c.args.volume.now c.change_at.new.self (g.P.SectorView.space c.args.space.now) (g.P.SectorView.space c.change_at.new.space) c.change_at.ensures.reads tells met))
 
 pub returns-in-Some-clause-loads : goal.returns-in-Some-clause-loads
-returns-in-Some-clause-loads g c tells filled =
+returns-in-Some-clause-loads g c tells =
     within_behind (command.Write c.args.path.now c.args.from c.args.value.now) c.args.volume.now c.change_at.new.self (g.P.SectorView.space c.args.space.now) (g.P.SectorView.space c.change_at.new.space) (g.P.SectorView.space c.write.new.space) c.change_at.ensures.reads tells
-    (λ load grow is. c.write.ensures.loads (c.change_at.ensures.reads.looks.same.tells ∙ tells) (subst (λ (k : Content). IsFilled (command.Write c.args.path.now c.args.from c.args.value.now) k) (sym (c.change_at.ensures.reads.looks.content tells)) filled) load grow is)
+    (λ load grow is. c.write.ensures.loads (c.change_at.ensures.reads.looks.same.tells ∙ tells) load grow is)
 
 pub returns-in-None-clause-loads : goal.returns-in-None-clause-loads
-returns-in-None-clause-loads g c tells filled =
+returns-in-None-clause-loads g c tells =
     within_behind (command.Write c.args.path.now c.args.from c.args.value.now) c.args.volume.now c.change_at.new.self (g.P.SectorView.space c.args.space.now) (g.P.SectorView.space c.change_at.new.space) (g.P.SectorView.space c.write.new.space) c.change_at.ensures.reads tells
-    (λ load grow is. c.write.ensures.loads (c.change_at.ensures.reads.looks.same.tells ∙ tells) (subst (λ (k : Content). IsFilled (command.Write c.args.path.now c.args.from c.args.value.now) k) (sym (c.change_at.ensures.reads.looks.content tells)) filled) load grow is)
+    (λ load grow is. c.write.ensures.loads (c.change_at.ensures.reads.looks.same.tells ∙ tells) load grow is)
 
 pub returns-in_err-reply-clause-loads : goal.returns-in_err-reply-clause-loads
-returns-in_err-reply-clause-loads g c tells filled =
+returns-in_err-reply-clause-loads g c tells =
     within_behind (command.Write c.args.path.now c.args.from c.args.value.now) c.args.volume.now c.change_at.new.self (g.P.SectorView.space c.args.space.now) (g.P.SectorView.space c.change_at.new.space) (g.P.SectorView.space c.write.new.space) c.change_at.ensures.reads tells
-    (λ load grow is. c.write.ensures.loads (c.change_at.ensures.reads.looks.same.tells ∙ tells) (subst (λ (k : Content). IsFilled (command.Write c.args.path.now c.args.from c.args.value.now) k) (sym (c.change_at.ensures.reads.looks.content tells)) filled) load grow is)
+    (λ load grow is. c.write.ensures.loads (c.change_at.ensures.reads.looks.same.tells ∙ tells) load grow is)
 
 pub returns-in_err-changes-clause-loads : goal.returns-in_err-changes-clause-loads
-returns-in_err-changes-clause-loads g c tells filled = within_reads (command.Write c.args.path.now c.args.from c.args.value.now) c.args.volume.now c.change_at.new.self (g.P.SectorView.space c.args.space.now) (g.P.SectorView.space c.change_at.new.space) c.change_at.ensures.reads
+returns-in_err-changes-clause-loads g c tells = within_reads (command.Write c.args.path.now c.args.from c.args.value.now) c.args.volume.now c.change_at.new.self (g.P.SectorView.space c.args.space.now) (g.P.SectorView.space c.change_at.new.space) c.change_at.ensures.reads
 
 pub returns-then-is_empty-clause-loads : goal.returns-then-is_empty-clause-loads
-returns-then-is_empty-clause-loads g c tells filled = within_none (command.Write c.args.path.now c.args.from c.args.value.now) c.args.volume.now (g.P.SectorView.space c.args.space.now) (g.P.SectorView.space c.args.space.now) (omega arith)
+returns-then-is_empty-clause-loads g c tells = within_none (command.Write c.args.path.now c.args.from c.args.value.now) c.args.volume.now (g.P.SectorView.space c.args.space.now) (g.P.SectorView.space c.args.space.now) (omega arith)

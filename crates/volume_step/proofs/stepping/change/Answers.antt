@@ -1,25 +1,27 @@
-use Rattle.std.proofs.Common.{◌≤◌, ◌+◌, ℕ, [], inl, inr, sym, ◌∙◌, subst, arith}
+use Rattle.std.proofs.Common.{ℕ, [], inl, inr, sym, ◌∙◌, subst}
 use Rattle.std.specs.Prelude.{IfOk, OnOk, Option}
 use Rattle.sector_disk.specs.Lists.{Content}
 use Rattle.sector_disk.proofs.SpaceLaws.{space_both}
 use Rattle.hfs_volume.specs.Aside.{IsJournalSector}
 use Rattle.volume_weights.specs.DataWeighing.{WaitsForCut}
+use Rattle.hfs_volume.specs.Content.{volume_of}
+use Rattle.hfs_volume.specs.TreeOf.{tree_of}
+use Rattle.hfs_volume.specs.Weight.{data_of, needs_cut}
+use Rattle.volume_base.proofs.Seeing.{if_so}
 use Rattle.volume_base.specs.Fitting.{takable_of}
 use Rattle.volume_base.specs.Room.{capacity_of}
 use Rattle.volume_base.specs.Keeping.{shrunk_of}
 use Rattle.volume_space.proofs.Sounding.{sound_here}
-use Rattle.volume_step.specs.Steps.{Affords, IsDirect, IsJudged, IsTaken, KeepsJournal, ShrinksAs, StepsTo, WaitsForGrowth}
+use Rattle.volume_step.specs.Steps.{Affords, GrowsTheFirst, IsCutFirst, IsDirect, IsJudged, IsTaken, IsTakenAlike, KeepsJournal, ShrinksAs, StepsTo, WaitsForGrowth}
 use Rattle.volume_step.specs.declared.judging.Verdict.{Verdict}
 use Rattle.volume_step.specs.declared.outcome.Outcome.{Outcome}
 use Rattle.volume_step.proofs.Done.{holds_kept, refused_steps, same_place}
 use Rattle.volume_step.proofs.Widening.{laid_still, own_or_free_still, refused_shrinks, touches_behind, touches_looked, touches_own}
-use Rattle.volume_step.proofs.AheadLoads.{again_so, never_again, none_ahead, refused_never}
 use Rattle.volume_step.proofs.GrowthThere.{growth_there}
-use Rattle.volume_step.proofs.Ready.{now_still, wants_load, wants_now}
+use Rattle.volume_step.proofs.Ready.{now_still, refused_now, wants_now}
 use Rattle.volume_step.proofs.ReadyData.{puts_still}
-use Rattle.volume_step.proofs.AnewReady.{fits_alike, wants_alike, wants_so}
-use Rattle.volume_space.specs.Writing.{IsFilled}
-use Rattle.volume_step.proofs.Loaded.{takes_behind, takes_one, within_behind, within_reads, takes_answered}
+use Rattle.volume_step.proofs.AnewReady.{fits_alike, growth_within, wants_so}
+use Rattle.volume_step.proofs.Loaded.{cut_no_growth, fits_cut, lacks_still, uncut, within_behind, within_reads}
 use Rattle.volume_step.proofs.stepping.change.Goals as goal
 
 pub perform-requires-clause-closed : goal.perform-requires-clause-closed
@@ -153,23 +155,25 @@ returns-in-CutFirst-clause-same g c = space_both _ _ _ c.judge.ensures.reads.loo
 -- ---- what is ready
 
 pub returns-in-CommitFirst-clause-ready : goal.returns-in-CommitFirst-clause-ready
-returns-in-CommitFirst-clause-ready g c tells ready =
-    absurd (subst (λ (v : Verdict). IsTaken v ready.now.grow) c.in-CommitFirst.is (c.in_ok-why.ensures.taken tells ready.now))
+returns-in-CommitFirst-clause-ready g c tells now = absurd (subst (λ (v : Verdict). IsTaken v now.grow) c.in-CommitFirst.is (c.in_ok-why.ensures.taken tells now))
+
+pub returns-in-CutFirst-clause-ready : goal.returns-in-CutFirst-clause-ready
+returns-in-CutFirst-clause-ready g c tells now = absurd (subst (λ (v : Verdict). IsTaken v now.grow) c.in-CutFirst.is (c.in_ok-why.ensures.taken tells now))
 
 pub returns-in-Grows-clause-ready : goal.returns-in-Grows-clause-ready
-returns-in-Grows-clause-ready g c tells ready =
-    let first = subst (λ (v : Verdict). IsTaken v ready.now.grow) c.in-Grows.is (c.in_ok-why.ensures.taken tells ready.now) in
+returns-in-Grows-clause-ready g c tells now =
+    let first = subst (λ (v : Verdict). IsTaken v now.grow) c.in-Grows.is (c.in_ok-why.ensures.taken tells now) in
     let waits : WaitsForGrowth c.in-Grows.tree c.in-Grows.more (capacity_of c.args.volume.now) c.args.command.now (g.P.SectorView.space c.args.space.now).content =
     subst (λ (v : Verdict). IsJudged v (capacity_of c.args.volume.now) c.args.command.now (g.P.SectorView.space c.args.space.now).content) c.in-Grows.is (c.in_ok-why.ensures.judged tells) in
-    let there = growth_there c.args.volume.now (g.P.SectorView.space c.args.space.now).content (c.requires.settled tells) c.args.command.now c.requires.changes ready.now.no_data waits.no_refusal (capacity_of c.args.volume.now) (takable_of c.args.volume.now)
-    ready.now.load ready.now.grow ready.now.costs c.in-Grows.tree c.in-Grows.more first.0 first.1 in
+    let there = growth_there c.args.volume.now (g.P.SectorView.space c.args.space.now).content (c.requires.settled tells) c.args.command.now c.requires.changes now.no_data waits.no_refusal (capacity_of c.args.volume.now) (takable_of c.args.volume.now)
+    now.load now.grow now.costs c.in-Grows.tree c.in-Grows.more first.0 first.1 in
     c.grow_first.ensures.ready (c.judge.ensures.reads.looks.same.tells ∙ tells)
-    (wants_now c.args.command.now c.args.volume.now c.judge.new.volume (g.P.SectorView.space c.args.space.now) (g.P.SectorView.space c.judge.new.space) c.judge.ensures.reads tells c.requires.changes ready.now c.in-Grows.tree c.in-Grows.more first.0 first.1 there (ready.records c.in-Grows.tree c.in-Grows.more first.0 first.1))
+    (wants_now c.args.command.now c.args.volume.now c.judge.new.volume (g.P.SectorView.space c.args.space.now) (g.P.SectorView.space c.judge.new.space) c.judge.ensures.reads tells c.requires.changes now c.in-Grows.tree c.in-Grows.more first.0 first.1 there)
 
 pub returns-in-Fits-clause-ready : goal.returns-in-Fits-clause-ready
-returns-in-Fits-clause-ready g c tells ready =
-    let still = now_still c.args.command.now c.args.volume.now c.judge.new.volume (g.P.SectorView.space c.args.space.now) (g.P.SectorView.space c.judge.new.space) c.judge.ensures.reads tells ready.now in
-    c.perform.ensures.ready (c.judge.ensures.reads.looks.same.tells ∙ tells) c.requires.changes still.0 (still.1 ∙ subst (λ (v : Verdict). IsTaken v ready.now.grow) c.in-Fits.is (c.in_ok-why.ensures.taken tells ready.now))
+returns-in-Fits-clause-ready g c tells now =
+    let still = now_still c.args.command.now c.args.volume.now c.judge.new.volume (g.P.SectorView.space c.args.space.now) (g.P.SectorView.space c.judge.new.space) c.judge.ensures.reads tells now in
+    c.perform.ensures.ready (c.judge.ensures.reads.looks.same.tells ∙ tells) c.requires.changes still.0 (still.1 ∙ subst (λ (v : Verdict). IsTaken v now.grow) c.in-Fits.is (c.in_ok-why.ensures.taken tells now))
 
 pub returns-in-Grows-clause-below : goal.returns-in-Grows-clause-below
 returns-in-Grows-clause-below g c = g.met.P.SectorView.follows_trans c.args.space.now c.judge.new.space c.grow_first.new.space c.judge.ensures.below c.grow_first.ensures.below
@@ -190,99 +194,78 @@ returns-in-Fits-clause-puts g c tells puts =
 -- ---- what costs the same of all free blocks
 
 pub returns-in-CommitFirst-clause-alike : goal.returns-in-CommitFirst-clause-alike
-returns-in-CommitFirst-clause-alike g c tells it = absurd (subst (λ (v : Verdict). IsTaken v it.now.grow) c.in-CommitFirst.is (c.in_ok-why.ensures.alike tells it.now))
+returns-in-CommitFirst-clause-alike g c tells it = absurd (subst (λ (v : Verdict). IsTakenAlike v it.grow) c.in-CommitFirst.is (c.in_ok-why.ensures.alike tells it))
 
 pub returns-in-CutFirst-clause-alike : goal.returns-in-CutFirst-clause-alike
-returns-in-CutFirst-clause-alike g c tells it = absurd (subst (λ (v : Verdict). IsTaken v it.now.grow) c.in-CutFirst.is (c.in_ok-why.ensures.alike tells it.now))
+returns-in-CutFirst-clause-alike g c tells it =
+    let waits : WaitsForCut (g.P.SectorView.space c.args.space.now).content c.args.command.now = (subst (λ (v : Verdict). IsJudged v (capacity_of c.args.volume.now) c.args.command.now (g.P.SectorView.space c.args.space.now).content) c.in-CutFirst.is (c.in_ok-why.ensures.judged tells)) in
+    if_so _ _ c.cut_first.result (λ came short same. fits_cut c.args.command.now c.args.volume.now (g.P.SectorView.space c.args.space.now) c.requires.changes waits.1 it (lacks_still c.args.volume.now c.judge.new.volume (g.P.SectorView.space c.args.space.now) (g.P.SectorView.space c.judge.new.space) c.judge.ensures.reads tells (short same))) (c.cut_first.ensures.short (c.judge.ensures.reads.looks.same.tells ∙ tells))
 
 pub returns-in-Grows-clause-alike : goal.returns-in-Grows-clause-alike
 returns-in-Grows-clause-alike g c tells it =
-    let first = subst (λ (v : Verdict). IsTaken v it.now.grow) c.in-Grows.is (c.in_ok-why.ensures.alike tells it.now) in
+    let first = subst (λ (v : Verdict). IsTakenAlike v it.grow) c.in-Grows.is (c.in_ok-why.ensures.alike tells it) in
     let waits : WaitsForGrowth c.in-Grows.tree c.in-Grows.more (capacity_of c.args.volume.now) c.args.command.now (g.P.SectorView.space c.args.space.now).content =
     subst (λ (v : Verdict). IsJudged v (capacity_of c.args.volume.now) c.args.command.now (g.P.SectorView.space c.args.space.now).content) c.in-Grows.is (c.in_ok-why.ensures.judged tells) in
-    c.grow_first.ensures.ready (c.judge.ensures.reads.looks.same.tells ∙ tells)
-    (wants_alike c.args.command.now c.args.volume.now c.judge.new.volume (g.P.SectorView.space c.args.space.now) (g.P.SectorView.space c.judge.new.space) (c.requires.settled tells) c.judge.ensures.reads tells c.requires.changes it waits.no_refusal c.in-Grows.tree c.in-Grows.more first.0 first.1)
+    let wants = wants_so c.args.command.now c.args.volume.now c.judge.new.volume (g.P.SectorView.space c.args.space.now) (g.P.SectorView.space c.judge.new.space) (c.requires.settled tells) c.judge.ensures.reads tells c.requires.changes
+    (uncut (needs_cut (volume_of (g.P.SectorView.space c.args.space.now).content) (data_of (tree_of (g.P.SectorView.space c.args.space.now).content) c.args.command.now)) (λ needs. cut_no_growth c.in-Grows.tree c.in-Grows.more (capacity_of c.args.volume.now) c.args.command.now (g.P.SectorView.space c.args.space.now).content c.requires.changes needs waits))
+    it.load it.grow it.costs it.within waits.no_refusal c.in-Grows.tree c.in-Grows.more first.0 first.1 in
+    c.grow_first.ensures.ready (c.judge.ensures.reads.looks.same.tells ∙ tells) wants.0
 
 pub returns-in-Fits-clause-alike : goal.returns-in-Fits-clause-alike
 returns-in-Fits-clause-alike g c tells it =
     let later = c.judge.ensures.reads.looks.same.tells ∙ tells in
-    elim (fits_alike c.args.command.now c.args.volume.now c.judge.new.volume (g.P.SectorView.space c.args.space.now) (g.P.SectorView.space c.judge.new.space) (c.requires.settled tells) c.judge.ensures.reads tells c.requires.changes it
-    (subst (λ (v : Verdict). IsTaken v it.now.grow) c.in-Fits.is (c.in_ok-why.ensures.alike tells it.now))) [
+    elim (fits_alike c.args.command.now c.args.volume.now c.judge.new.volume (g.P.SectorView.space c.args.space.now) (g.P.SectorView.space c.judge.new.space) (c.requires.settled tells) c.judge.ensures.reads tells c.requires.changes
+    (uncut (needs_cut (volume_of (g.P.SectorView.space c.args.space.now).content) (data_of (tree_of (g.P.SectorView.space c.args.space.now).content) c.args.command.now)) (λ needs. subst IsCutFirst c.in-Fits.is (c.in_ok-why.ensures.cuts tells needs))) it
+    (subst (λ (v : Verdict). IsTakenAlike v it.grow) c.in-Fits.is (c.in_ok-why.ensures.alike tells it))) [
       | inl now ↦ c.perform.ensures.ready later c.requires.changes now.0 now.1
       | inr puts ↦ c.perform.ensures.puts later puts
     ]
 
-pub returns-in-Fits-clause-loads : goal.returns-in-Fits-clause-loads
-returns-in-Fits-clause-loads g c tells filled =
-    takes_answered c.perform.result c.args.command.now c.args.volume.now c.judge.new.volume (g.P.SectorView.space c.args.space.now) (g.P.SectorView.space c.judge.new.space) (g.P.SectorView.space c.perform.new.space) c.judge.ensures.reads tells
-    (c.perform.ensures.takes (c.judge.ensures.reads.looks.same.tells ∙ tells) (subst (λ (k : Content). IsFilled c.args.command.now k) (sym (c.judge.ensures.reads.looks.content tells)) filled))
+-- ---- where a cut goes ahead
+
+pub returns-in-Refused-clause-short : goal.returns-in-Refused-clause-short
+returns-in-Refused-clause-short g c tells needs same = absurd (refused_now c.refusal.result c.in-Refused.why c.refusal.ensures same)
+
+pub returns-in-CommitFirst-clause-short : goal.returns-in-CommitFirst-clause-short
+returns-in-CommitFirst-clause-short g c tells needs = absurd (subst IsCutFirst c.in-CommitFirst.is (c.in_ok-why.ensures.cuts tells needs))
+
+pub returns-in-CutFirst-clause-short : goal.returns-in-CutFirst-clause-short
+returns-in-CutFirst-clause-short g c tells needs =
+    if_so _ _ c.cut_first.result (λ came short same. lacks_still c.args.volume.now c.judge.new.volume (g.P.SectorView.space c.args.space.now) (g.P.SectorView.space c.judge.new.space) c.judge.ensures.reads tells (short same)) (c.cut_first.ensures.short (c.judge.ensures.reads.looks.same.tells ∙ tells))
+
+pub returns-in-Grows-clause-short : goal.returns-in-Grows-clause-short
+returns-in-Grows-clause-short g c tells needs = absurd (subst IsCutFirst c.in-Grows.is (c.in_ok-why.ensures.cuts tells needs))
+
+pub returns-in-Fits-clause-short : goal.returns-in-Fits-clause-short
+returns-in-Fits-clause-short g c tells needs = absurd (subst IsCutFirst c.in-Fits.is (c.in_ok-why.ensures.cuts tells needs))
+
+-- ---- what it puts
+
+pub returns-in_err-why-clause-loads : goal.returns-in_err-why-clause-loads
+returns-in_err-why-clause-loads g c tells = within_reads c.args.command.now c.args.volume.now c.judge.new.volume (g.P.SectorView.space c.args.space.now) (g.P.SectorView.space c.judge.new.space) c.judge.ensures.reads
 
 pub returns-in-Refused-clause-loads : goal.returns-in-Refused-clause-loads
-returns-in-Refused-clause-loads g c tells filled = takes_one c.refusal.result c.args.command.now c.args.volume.now (g.P.SectorView.space c.args.space.now) (g.P.SectorView.space c.judge.new.space) (within_reads c.args.command.now c.args.volume.now c.judge.new.volume (g.P.SectorView.space c.args.space.now) (g.P.SectorView.space c.judge.new.space) c.judge.ensures.reads)
+returns-in-Refused-clause-loads g c tells = within_reads c.args.command.now c.args.volume.now c.judge.new.volume (g.P.SectorView.space c.args.space.now) (g.P.SectorView.space c.judge.new.space) c.judge.ensures.reads
+
+pub returns-in-CommitFirst-clause-loads : goal.returns-in-CommitFirst-clause-loads
+returns-in-CommitFirst-clause-loads g c tells = within_reads c.args.command.now c.args.volume.now c.judge.new.volume (g.P.SectorView.space c.args.space.now) (g.P.SectorView.space c.judge.new.space) c.judge.ensures.reads
 
 pub returns-in-CutFirst-clause-loads : goal.returns-in-CutFirst-clause-loads
-returns-in-CutFirst-clause-loads g c tells filled =
-    takes_behind c.cut_first.result c.args.command.now c.args.volume.now c.judge.new.volume (g.P.SectorView.space c.args.space.now) (g.P.SectorView.space c.judge.new.space) (g.P.SectorView.space c.cut_first.new.space) c.judge.ensures.reads tells (c.cut_first.ensures.loads (c.judge.ensures.reads.looks.same.tells ∙ tells))
+returns-in-CutFirst-clause-loads g c tells =
+    within_behind c.args.command.now c.args.volume.now c.judge.new.volume (g.P.SectorView.space c.args.space.now) (g.P.SectorView.space c.judge.new.space) (g.P.SectorView.space c.cut_first.new.space) c.judge.ensures.reads tells (c.cut_first.ensures.loads (c.judge.ensures.reads.looks.same.tells ∙ tells))
 
 pub returns-in-Grows-clause-loads : goal.returns-in-Grows-clause-loads
-returns-in-Grows-clause-loads g c tells filled =
-    takes_behind c.grow_first.result c.args.command.now c.args.volume.now c.judge.new.volume (g.P.SectorView.space c.args.space.now) (g.P.SectorView.space c.judge.new.space) (g.P.SectorView.space c.grow_first.new.space) c.judge.ensures.reads tells c.grow_first.ensures.loads
-
--- ---- what goes ahead of what is ready
-
-pub returns-in-Refused-clause-ahead : goal.returns-in-Refused-clause-ahead
-returns-in-Refused-clause-ahead g c tells ready same = absurd (refused_never c.refusal.result _ c.refusal.ensures same)
-
-pub returns-in-CommitFirst-clause-ahead : goal.returns-in-CommitFirst-clause-ahead
-returns-in-CommitFirst-clause-ahead g c tells ready same = absurd (subst (λ (v : Verdict). IsTaken v ready.now.grow) c.in-CommitFirst.is (c.in_ok-why.ensures.taken tells ready.now))
-
-pub returns-in-CutFirst-clause-ahead : goal.returns-in-CutFirst-clause-ahead
-returns-in-CutFirst-clause-ahead g c tells ready = absurd (subst (λ (v : Verdict). IsTaken v ready.now.grow) c.in-CutFirst.is (c.in_ok-why.ensures.taken tells ready.now))
-
-pub returns-in-Fits-clause-ahead : goal.returns-in-Fits-clause-ahead
-returns-in-Fits-clause-ahead g c tells ready =
-    let affords : Affords (capacity_of c.args.volume.now) c.args.command.now (g.P.SectorView.space c.args.space.now).content =
-    subst (λ (v : Verdict). IsJudged v (capacity_of c.args.volume.now) c.args.command.now (g.P.SectorView.space c.args.space.now).content) c.in-Fits.is (c.in_ok-why.ensures.judged tells) in
-    never_again c.perform.result (λ (o : Outcome). StepsTo o (capacity_of c.args.volume.now) c.args.number c.args.command.now (g.P.SectorView.space c.args.space.now).content (g.P.SectorView.space c.perform.new.space).content) _
-    (none_ahead (capacity_of c.args.volume.now) c.args.number c.args.command.now (g.P.SectorView.space c.args.space.now).content (g.P.SectorView.space c.perform.new.space).content ready.now.no_data affords.load affords.affords) (returns-in-Fits-clause-answered g c tells)
-
-pub returns-in-Grows-clause-ahead : goal.returns-in-Grows-clause-ahead
-returns-in-Grows-clause-ahead g c tells ready =
-    let first = subst (λ (v : Verdict). IsTaken v ready.now.grow) c.in-Grows.is (c.in_ok-why.ensures.taken tells ready.now) in
+returns-in-Grows-clause-loads g c tells =
     let waits : WaitsForGrowth c.in-Grows.tree c.in-Grows.more (capacity_of c.args.volume.now) c.args.command.now (g.P.SectorView.space c.args.space.now).content =
     subst (λ (v : Verdict). IsJudged v (capacity_of c.args.volume.now) c.args.command.now (g.P.SectorView.space c.args.space.now).content) c.in-Grows.is (c.in_ok-why.ensures.judged tells) in
-    let there = growth_there c.args.volume.now (g.P.SectorView.space c.args.space.now).content (c.requires.settled tells) c.args.command.now c.requires.changes ready.now.no_data waits.no_refusal (capacity_of c.args.volume.now) (takable_of c.args.volume.now)
-    ready.now.load ready.now.grow ready.now.costs c.in-Grows.tree c.in-Grows.more first.0 first.1 in
-    let records = ready.records c.in-Grows.tree c.in-Grows.more first.0 first.1 in
-    let spent = c.grow_first.ensures.spent (c.judge.ensures.reads.looks.same.tells ∙ tells)
-    (wants_now c.args.command.now c.args.volume.now c.judge.new.volume (g.P.SectorView.space c.args.space.now) (g.P.SectorView.space c.judge.new.space) c.judge.ensures.reads tells c.requires.changes ready.now c.in-Grows.tree c.in-Grows.more first.0 first.1 there records) in
-    let load = wants_load c.args.command.now c.args.volume.now c.judge.new.volume (g.P.SectorView.space c.args.space.now) (g.P.SectorView.space c.judge.new.space) c.judge.ensures.reads tells c.requires.changes ready.now c.in-Grows.tree c.in-Grows.more first.0 first.1 there records in
-    again_so c.grow_first.result ((g.P.SectorView.space c.args.space.now).spare ≤ (g.P.SectorView.space c.grow_first.new.space).spare + ready.now.load) (omega (arith, spent, load, c.judge.ensures.reads.looks.spare))
+    growth_within c.args.command.now c.args.volume.now c.judge.new.volume (g.P.SectorView.space c.args.space.now) (g.P.SectorView.space c.judge.new.space) (c.requires.settled tells) c.judge.ensures.reads tells c.requires.changes
+    (uncut (needs_cut (volume_of (g.P.SectorView.space c.args.space.now).content) (data_of (tree_of (g.P.SectorView.space c.args.space.now).content) c.args.command.now)) (λ needs. cut_no_growth c.in-Grows.tree c.in-Grows.more (capacity_of c.args.volume.now) c.args.command.now (g.P.SectorView.space c.args.space.now).content c.requires.changes needs waits))
+    waits.no_refusal c.in-Grows.tree c.in-Grows.more (g.P.SectorView.space c.grow_first.new.space)
+    (λ load grow costs. subst (λ (v : Verdict). GrowsTheFirst v grow) c.in-Grows.is (c.in_ok-why.ensures.first tells load grow costs)) (c.grow_first.ensures.spent (c.judge.ensures.reads.looks.same.tells ∙ tells))
 
-pub returns-in_err-why-clause-within : goal.returns-in_err-why-clause-within
-returns-in_err-why-clause-within g c tells leaves it = omega (arith, c.judge.ensures.reads.looks.spare)
-
-pub returns-in-Refused-clause-within : goal.returns-in-Refused-clause-within
-returns-in-Refused-clause-within g c tells leaves it = omega (arith, c.judge.ensures.reads.looks.spare)
-
-pub returns-in-CommitFirst-clause-within : goal.returns-in-CommitFirst-clause-within
-returns-in-CommitFirst-clause-within g c tells leaves it = omega (arith, c.judge.ensures.reads.looks.spare)
-
-pub returns-in-CutFirst-clause-within : goal.returns-in-CutFirst-clause-within
-returns-in-CutFirst-clause-within g c tells leaves it = absurd (subst (λ (v : Verdict). IsTaken v it.now.grow) c.in-CutFirst.is (c.in_ok-why.ensures.alike tells it.now))
-
-pub returns-in-Grows-clause-within : goal.returns-in-Grows-clause-within
-returns-in-Grows-clause-within g c tells leaves it =
-    let first = subst (λ (v : Verdict). IsTaken v it.now.grow) c.in-Grows.is (c.in_ok-why.ensures.alike tells it.now) in
-    let waits : WaitsForGrowth c.in-Grows.tree c.in-Grows.more (capacity_of c.args.volume.now) c.args.command.now (g.P.SectorView.space c.args.space.now).content =
-    subst (λ (v : Verdict). IsJudged v (capacity_of c.args.volume.now) c.args.command.now (g.P.SectorView.space c.args.space.now).content) c.in-Grows.is (c.in_ok-why.ensures.judged tells) in
-    let wants = wants_so c.args.command.now c.args.volume.now c.judge.new.volume (g.P.SectorView.space c.args.space.now) (g.P.SectorView.space c.judge.new.space) (c.requires.settled tells) c.judge.ensures.reads tells c.requires.changes it waits.no_refusal c.in-Grows.tree c.in-Grows.more first.0 first.1 in
-    omega (arith, c.judge.ensures.reads.looks.spare, c.grow_first.ensures.spent (c.judge.ensures.reads.looks.same.tells ∙ tells) wants.0, wants.1)
-
-pub returns-in-Fits-clause-within : goal.returns-in-Fits-clause-within
-returns-in-Fits-clause-within g c tells leaves it =
-    within_behind c.args.command.now c.args.volume.now c.judge.new.volume (g.P.SectorView.space c.args.space.now) (g.P.SectorView.space c.judge.new.space) (g.P.SectorView.space c.perform.new.space) c.judge.ensures.reads tells
-    (c.perform.ensures.loads (c.judge.ensures.reads.looks.same.tells ∙ tells) leaves (subst (λ (k : Content). IsFilled c.args.command.now k) (sym (c.judge.ensures.reads.looks.content tells)) it.filled)) it.now.load it.now.grow it.now.costs
+pub returns-in-Fits-clause-loads : goal.returns-in-Fits-clause-loads
+returns-in-Fits-clause-loads g c tells =
+    within_behind c.args.command.now c.args.volume.now c.judge.new.volume (g.P.SectorView.space c.args.space.now) (g.P.SectorView.space c.judge.new.space) (g.P.SectorView.space c.perform.new.space) c.judge.ensures.reads tells (c.perform.ensures.loads (c.judge.ensures.reads.looks.same.tells ∙ tells))
 
 pub returns-in-Fits-clause-settled : goal.returns-in-Fits-clause-settled
 returns-in-Fits-clause-settled g c tells = c.perform.ensures.settled (c.judge.ensures.reads.looks.same.tells ∙ tells)

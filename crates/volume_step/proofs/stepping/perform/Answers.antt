@@ -1,4 +1,3 @@
-use Rattle.volume_base.proofs.FoundEntry.{ok_true}
 use Rattle.std.proofs.Common.{rules, ◌≡◌, true, [], ap, subst, sym, ℕ, List}
 use Rattle.std.specs.Prelude.{IfOk, None, Ok}
 use Rattle.hfs_language.specs.declared.command.Command.{Command}
@@ -7,12 +6,12 @@ use Rattle.hfs_volume.specs.Content.{volume_of}
 use Rattle.hfs_volume.specs.TreeOf.{tree_of}
 use Rattle.volume_base.specs.Keeping.{shrunk_of}
 use Rattle.hfs_volume.specs.Weight.{data_of}
-use Rattle.volume_space.specs.Writing.{is_data_met, IsFilled}
+use Rattle.volume_space.specs.Writing.{is_data_met}
 use Rattle.volume_step.specs.Steps.{IsMet, ShrinksAs}
 use Rattle.volume_step.proofs.Widening.{keeps_shrunk, touches_own}
 use Rattle.volume_step.proofs.Ready.{done_now, met_now}
 use Rattle.volume_step.proofs.ReadyData.{puts_data_now}
-use Rattle.volume_step.specs.Loads.{IsWithinLoad, leaves_links}
+use Rattle.volume_step.specs.Loads.{IsWithinLoad}
 use Rattle.hfs_language.specs.declared.command.Command.TheVariants as command
 use Rattle.volume_step.proofs.stepping.perform.Goals as goal
 
@@ -59,23 +58,9 @@ returns-in_default-clause-puts g c tells puts =
     puts_data_now c.args.volume.now (g.P.SectorView.space c.args.space.now) c.args.command.now puts c.perform_without_data.result c.perform_without_data.ensures.plain
 
 pub returns-in-Trunc-clause-loads : goal.returns-in-Trunc-clause-loads
-returns-in-Trunc-clause-loads g c tells leaves filled =
-    subst (λ (k : Command). IsWithinLoad k c.args.volume.now (g.P.SectorView.space c.args.space.now) (g.P.SectorView.space c.resize.new.space)) (sym c.in-Trunc.is) (c.resize.ensures.loads tells (subst (λ (k : Command). IsFilled k (g.P.SectorView.space c.args.space.now).content) c.in-Trunc.is filled))
+returns-in-Trunc-clause-loads g c tells = subst (λ (k : Command). IsWithinLoad k c.args.volume.now (g.P.SectorView.space c.args.space.now) (g.P.SectorView.space c.resize.new.space)) (sym c.in-Trunc.is) (c.resize.ensures.loads tells)
 
 pub returns-in-Write-clause-loads : goal.returns-in-Write-clause-loads
-returns-in-Write-clause-loads g c tells leaves filled =
+returns-in-Write-clause-loads g c tells =
     subst (λ (k : Command). IsWithinLoad k c.args.volume.now (g.P.SectorView.space c.args.space.now) (g.P.SectorView.space c.write_value.new.space)) (sym c.in-Write.is)
-    (subst (λ (l : List ℕ). IsWithinLoad (command.Write c.in-Write.path c.in-Write.from l) c.args.volume.now (g.P.SectorView.space c.args.space.now) (g.P.SectorView.space c.write_value.new.space)) c.as_slice.ensures
-    (c.write_value.ensures.loads tells (subst (λ (l : List ℕ). IsFilled (command.Write c.in-Write.path c.in-Write.from l) (g.P.SectorView.space c.args.space.now).content) (sym c.as_slice.ensures) (subst (λ (k : Command). IsFilled k (g.P.SectorView.space c.args.space.now).content) c.in-Write.is filled))))
-
-pub returns-in_default-clause-loads : goal.returns-in_default-clause-loads
-returns-in_default-clause-loads g c tells leaves filled = c.perform_without_data.ensures.loads tells leaves
-
-pub returns-in-Trunc-clause-takes : goal.returns-in-Trunc-clause-takes
-returns-in-Trunc-clause-takes g c tells filled = ok_true c.resize.result (returns-in-Trunc-clause-loads g c tells (ap leaves_links c.in-Trunc.is) filled)
-
-pub returns-in-Write-clause-takes : goal.returns-in-Write-clause-takes
-returns-in-Write-clause-takes g c tells filled = ok_true c.write_value.result (returns-in-Write-clause-loads g c tells (ap leaves_links c.in-Write.is) filled)
-
-pub returns-in_default-clause-takes : goal.returns-in_default-clause-takes
-returns-in_default-clause-takes g c tells filled = c.perform_without_data.ensures.takes tells
+    (subst (λ (l : List ℕ). IsWithinLoad (command.Write c.in-Write.path c.in-Write.from l) c.args.volume.now (g.P.SectorView.space c.args.space.now) (g.P.SectorView.space c.write_value.new.space)) c.as_slice.ensures (c.write_value.ensures.loads tells))

@@ -1,5 +1,4 @@
-use Rattle.volume_base.proofs.FoundEntry.{ok_so, ok_true}
-use Rattle.std.proofs.Common.{ap, sym, ◌∙◌, subst, ℕ, List}
+use Rattle.std.proofs.Common.{ap, sym, subst, ℕ, List}
 use Rattle.std.specs.Prelude.{Ok}
 use Rattle.hfs_language.specs.declared.command.Command.{Command}
 use Rattle.volume_runs.specs.Run.{shrunk_by}
@@ -8,8 +7,7 @@ use Rattle.hfs_volume.specs.Weight.{data_of}
 use Rattle.volume_base.specs.Keeping.{shrunk_of}
 use Rattle.volume_step.proofs.Widening.{keeps_shrunk, touches_own}
 use Rattle.volume_step.proofs.ReadyData.{any_ok}
-use Rattle.std.proofs.lemmas.Bool.{true≢false}
-use Rattle.volume_step.specs.Loads.{leaves_links, IsWithinLoad}
+use Rattle.volume_step.specs.Loads.{IsWithinLoad}
 use Rattle.hfs_language.specs.declared.command.Command.TheVariants as command
 use Rattle.volume_step.proofs.stepping.perform_without_data.Goals as goal
 
@@ -106,65 +104,31 @@ pub returns-in-Ln-clause-plain : goal.returns-in-Ln-clause-plain
 returns-in-Ln-clause-plain g c = any_ok c.link_file.result (λ tree. ap (λ (k : Command). data_of tree k) c.in-Ln.is)
 
 pub returns-in-Rm-clause-loads : goal.returns-in-Rm-clause-loads
-returns-in-Rm-clause-loads g c tells leaves = absurd (true≢false (sym leaves ∙ ap leaves_links c.in-Rm.is))
+returns-in-Rm-clause-loads g c tells = subst (λ (k : Command). IsWithinLoad k c.args.volume.now (g.P.SectorView.space c.args.space.now) (g.P.SectorView.space c.remove_file.new.space)) (sym c.in-Rm.is) (c.remove_file.ensures.loads tells)
 
 pub returns-in-Ln-clause-loads : goal.returns-in-Ln-clause-loads
-returns-in-Ln-clause-loads g c tells leaves = absurd (true≢false (sym leaves ∙ ap leaves_links c.in-Ln.is))
+returns-in-Ln-clause-loads g c tells = subst (λ (k : Command). IsWithinLoad k c.args.volume.now (g.P.SectorView.space c.args.space.now) (g.P.SectorView.space c.link_file.new.space)) (sym c.in-Ln.is) (c.link_file.ensures.loads tells)
 
 pub returns-in-At-clause-loads : goal.returns-in-At-clause-loads
-returns-in-At-clause-loads g c tells leaves = subst (λ (k : Command). IsWithinLoad k c.args.volume.now (g.P.SectorView.space c.args.space.now) (g.P.SectorView.space c.date.new.space)) (sym c.in-At.is) (c.date.ensures.loads tells)
+returns-in-At-clause-loads g c tells = subst (λ (k : Command). IsWithinLoad k c.args.volume.now (g.P.SectorView.space c.args.space.now) (g.P.SectorView.space c.date.new.space)) (sym c.in-At.is) (c.date.ensures.loads tells)
 
 pub returns-in-Chmod-clause-loads : goal.returns-in-Chmod-clause-loads
-returns-in-Chmod-clause-loads g c tells leaves = subst (λ (k : Command). IsWithinLoad k c.args.volume.now (g.P.SectorView.space c.args.space.now) (g.P.SectorView.space c.set_mode.new.space)) (sym c.in-Chmod.is) (c.set_mode.ensures.loads tells)
+returns-in-Chmod-clause-loads g c tells = subst (λ (k : Command). IsWithinLoad k c.args.volume.now (g.P.SectorView.space c.args.space.now) (g.P.SectorView.space c.set_mode.new.space)) (sym c.in-Chmod.is) (c.set_mode.ensures.loads tells)
 
 pub returns-in-SetAttr-clause-loads : goal.returns-in-SetAttr-clause-loads
-returns-in-SetAttr-clause-loads g c tells leaves = subst (λ (k : Command). IsWithinLoad k c.args.volume.now (g.P.SectorView.space c.args.space.now) (g.P.SectorView.space c.set_attribute.new.space)) (sym c.in-SetAttr.is) (subst (λ (l : List ℕ). IsWithinLoad (command.SetAttr c.in-SetAttr.path c.in-SetAttr.name l) c.args.volume.now (g.P.SectorView.space c.args.space.now) (g.P.SectorView.space c.set_attribute.new.space)) c.as_slice.ensures (c.set_attribute.ensures.loads tells))
+returns-in-SetAttr-clause-loads g c tells = subst (λ (k : Command). IsWithinLoad k c.args.volume.now (g.P.SectorView.space c.args.space.now) (g.P.SectorView.space c.set_attribute.new.space)) (sym c.in-SetAttr.is) (subst (λ (l : List ℕ). IsWithinLoad (command.SetAttr c.in-SetAttr.path c.in-SetAttr.name l) c.args.volume.now (g.P.SectorView.space c.args.space.now) (g.P.SectorView.space c.set_attribute.new.space)) c.as_slice.ensures (c.set_attribute.ensures.loads tells))
 
 pub returns-in-DelAttr-clause-loads : goal.returns-in-DelAttr-clause-loads
-returns-in-DelAttr-clause-loads g c tells leaves = subst (λ (k : Command). IsWithinLoad k c.args.volume.now (g.P.SectorView.space c.args.space.now) (g.P.SectorView.space c.delete_attribute.new.space)) (sym c.in-DelAttr.is) (c.delete_attribute.ensures.loads tells)
+returns-in-DelAttr-clause-loads g c tells = subst (λ (k : Command). IsWithinLoad k c.args.volume.now (g.P.SectorView.space c.args.space.now) (g.P.SectorView.space c.delete_attribute.new.space)) (sym c.in-DelAttr.is) (c.delete_attribute.ensures.loads tells)
 
 pub returns-in-Mkdir-clause-loads : goal.returns-in-Mkdir-clause-loads
-returns-in-Mkdir-clause-loads g c tells leaves = subst (λ (k : Command). IsWithinLoad k c.args.volume.now (g.P.SectorView.space c.args.space.now) (g.P.SectorView.space c.make_folder.new.space)) (sym c.in-Mkdir.is) (c.make_folder.ensures.loads tells)
+returns-in-Mkdir-clause-loads g c tells = subst (λ (k : Command). IsWithinLoad k c.args.volume.now (g.P.SectorView.space c.args.space.now) (g.P.SectorView.space c.make_folder.new.space)) (sym c.in-Mkdir.is) (c.make_folder.ensures.loads tells)
 
 pub returns-in-Create-clause-loads : goal.returns-in-Create-clause-loads
-returns-in-Create-clause-loads g c tells leaves = subst (λ (k : Command). IsWithinLoad k c.args.volume.now (g.P.SectorView.space c.args.space.now) (g.P.SectorView.space c.make_file.new.space)) (sym c.in-Create.is) (c.make_file.ensures.loads tells)
+returns-in-Create-clause-loads g c tells = subst (λ (k : Command). IsWithinLoad k c.args.volume.now (g.P.SectorView.space c.args.space.now) (g.P.SectorView.space c.make_file.new.space)) (sym c.in-Create.is) (c.make_file.ensures.loads tells)
 
 pub returns-in-Mv-clause-loads : goal.returns-in-Mv-clause-loads
-returns-in-Mv-clause-loads g c tells leaves = subst (λ (k : Command). IsWithinLoad k c.args.volume.now (g.P.SectorView.space c.args.space.now) (g.P.SectorView.space c.move_entry.new.space)) (sym c.in-Mv.is) (c.move_entry.ensures.loads tells)
+returns-in-Mv-clause-loads g c tells = subst (λ (k : Command). IsWithinLoad k c.args.volume.now (g.P.SectorView.space c.args.space.now) (g.P.SectorView.space c.move_entry.new.space)) (sym c.in-Mv.is) (c.move_entry.ensures.loads tells)
 
 pub returns-in-Rmdir-clause-loads : goal.returns-in-Rmdir-clause-loads
-returns-in-Rmdir-clause-loads g c tells leaves = subst (λ (k : Command). IsWithinLoad k c.args.volume.now (g.P.SectorView.space c.args.space.now) (g.P.SectorView.space c.remove_folder.new.space)) (sym c.in-Rmdir.is) (c.remove_folder.ensures.loads tells)
-
-pub returns-in-At-clause-takes : goal.returns-in-At-clause-takes
-returns-in-At-clause-takes g c tells = ok_true c.date.result (returns-in-At-clause-loads g c tells (ap leaves_links c.in-At.is))
-
-pub returns-in-Chmod-clause-takes : goal.returns-in-Chmod-clause-takes
-returns-in-Chmod-clause-takes g c tells = ok_true c.set_mode.result (returns-in-Chmod-clause-loads g c tells (ap leaves_links c.in-Chmod.is))
-
-pub returns-in-SetAttr-clause-takes : goal.returns-in-SetAttr-clause-takes
-returns-in-SetAttr-clause-takes g c tells = ok_true c.set_attribute.result (returns-in-SetAttr-clause-loads g c tells (ap leaves_links c.in-SetAttr.is))
-
-pub returns-in-DelAttr-clause-takes : goal.returns-in-DelAttr-clause-takes
-returns-in-DelAttr-clause-takes g c tells = ok_true c.delete_attribute.result (returns-in-DelAttr-clause-loads g c tells (ap leaves_links c.in-DelAttr.is))
-
-pub returns-in-Mkdir-clause-takes : goal.returns-in-Mkdir-clause-takes
-returns-in-Mkdir-clause-takes g c tells = ok_true c.make_folder.result (returns-in-Mkdir-clause-loads g c tells (ap leaves_links c.in-Mkdir.is))
-
-pub returns-in-Create-clause-takes : goal.returns-in-Create-clause-takes
-returns-in-Create-clause-takes g c tells = ok_true c.make_file.result (returns-in-Create-clause-loads g c tells (ap leaves_links c.in-Create.is))
-
-pub returns-in-Mv-clause-takes : goal.returns-in-Mv-clause-takes
-returns-in-Mv-clause-takes g c tells = ok_true c.move_entry.result (returns-in-Mv-clause-loads g c tells (ap leaves_links c.in-Mv.is))
-
-pub returns-in-Rmdir-clause-takes : goal.returns-in-Rmdir-clause-takes
-returns-in-Rmdir-clause-takes g c tells = ok_true c.remove_folder.result (returns-in-Rmdir-clause-loads g c tells (ap leaves_links c.in-Rmdir.is))
-
-pub returns-in-Rm-clause-takes : goal.returns-in-Rm-clause-takes
-returns-in-Rm-clause-takes g c tells =
-    ok_so (IsWithinLoad (command.Rm c.in-Rm.path) c.args.volume.now (g.P.SectorView.space c.args.space.now) (g.P.SectorView.space c.remove_file.new.space)) (IsWithinLoad c.args.command.now c.args.volume.now (g.P.SectorView.space c.args.space.now) (g.P.SectorView.space c.remove_file.new.space)) c.remove_file.result (c.remove_file.ensures.loads tells)
-    (subst (λ (k : Command). IsWithinLoad k c.args.volume.now (g.P.SectorView.space c.args.space.now) (g.P.SectorView.space c.remove_file.new.space)) (sym c.in-Rm.is))
-
-pub returns-in-Ln-clause-takes : goal.returns-in-Ln-clause-takes
-returns-in-Ln-clause-takes g c tells =
-    ok_so (IsWithinLoad (command.Ln c.in-Ln.from c.in-Ln.to) c.args.volume.now (g.P.SectorView.space c.args.space.now) (g.P.SectorView.space c.link_file.new.space)) (IsWithinLoad c.args.command.now c.args.volume.now (g.P.SectorView.space c.args.space.now) (g.P.SectorView.space c.link_file.new.space)) c.link_file.result (c.link_file.ensures.loads tells)
-    (subst (λ (k : Command). IsWithinLoad k c.args.volume.now (g.P.SectorView.space c.args.space.now) (g.P.SectorView.space c.link_file.new.space)) (sym c.in-Ln.is))
+returns-in-Rmdir-clause-loads g c tells = subst (λ (k : Command). IsWithinLoad k c.args.volume.now (g.P.SectorView.space c.args.space.now) (g.P.SectorView.space c.remove_folder.new.space)) (sym c.in-Rmdir.is) (c.remove_folder.ensures.loads tells)

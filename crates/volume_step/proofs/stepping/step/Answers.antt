@@ -1,15 +1,11 @@
-use Rattle.std.proofs.Common.{[], inl, inr, sym, ◌∙◌, arith}
+use Rattle.std.proofs.Common.{[], inl, inr, sym, ◌∙◌}
 use Rattle.std.proofs.lemmas.Bool.{true≢false}
 use Rattle.hfs_volume.specs.TreeOf.{tree_of}
-use Rattle.hfs_volume.specs.Content.{volume_of}
+use Rattle.volume_base.proofs.Seeing.{if_so}
 use Rattle.volume_base.specs.Keeping.{shrunk_of}
-use Rattle.volume_base.specs.Room.{capacity_of}
-use Rattle.volume_step.specs.Steps.{StepsTo}
-use Rattle.volume_step.specs.declared.outcome.Outcome.{Outcome}
-use Rattle.volume_step.proofs.AheadLoads.{never_again, none_ahead, read_weight}
 use Rattle.volume_step.proofs.AnewReady.{ready_alike}
 use Rattle.volume_step.proofs.Widening.{keeps_shrunk, reads_shrink_none, touches_own}
-use Rattle.volume_step.proofs.Loaded.{takes_any, within_none}
+use Rattle.volume_step.proofs.Loaded.{within_none}
 use Rattle.volume_step.proofs.stepping.step.Goals as goal
 
 pub returns-then-only_reads-clause-shrunk : goal.returns-then-only_reads-clause-shrunk
@@ -37,16 +33,10 @@ returns-clause-anew g c tells anew fits =
     c.change.ensures.alike tells (ready_alike c.args.volume.now (g.P.SectorView.space c.args.space.now) (c.requires.settled tells) anew c.args.command.now (sym c.only_reads.ensures ∙ c.if-only_reads.false) fits)
 
 pub returns-then-only_reads-clause-loads : goal.returns-then-only_reads-clause-loads
-returns-then-only_reads-clause-loads g c tells filled = takes_any c.answer.result c.args.command.now c.args.volume.now (g.P.SectorView.space c.args.space.now) (g.P.SectorView.space c.answer.new.space) (within_none c.args.command.now c.args.volume.now (g.P.SectorView.space c.args.space.now) (g.P.SectorView.space c.answer.new.space) c.answer.ensures.spent)
+returns-then-only_reads-clause-loads g c tells = within_none c.args.command.now c.args.volume.now (g.P.SectorView.space c.args.space.now) (g.P.SectorView.space c.answer.new.space) c.answer.ensures.spent
 
-pub returns-then-only_reads-clause-ahead : goal.returns-then-only_reads-clause-ahead
-returns-then-only_reads-clause-ahead g c tells ready =
-    never_again c.answer.result (λ (o : Outcome). StepsTo o (capacity_of c.args.volume.now) c.args.number c.args.command.now (g.P.SectorView.space c.args.space.now).content (g.P.SectorView.space c.answer.new.space).content) _
-    (none_ahead (capacity_of c.args.volume.now) c.args.number c.args.command.now (g.P.SectorView.space c.args.space.now).content (g.P.SectorView.space c.answer.new.space).content ready.now.no_data 0
-    (read_weight (capacity_of c.args.volume.now) (volume_of (g.P.SectorView.space c.args.space.now).content) (tree_of (g.P.SectorView.space c.args.space.now).content) c.args.command.now (sym c.only_reads.ensures ∙ c.if-only_reads.true))) (c.answer.ensures.answered tells)
+pub returns-then-only_reads-clause-short : goal.returns-then-only_reads-clause-short
+returns-then-only_reads-clause-short g c tells needs = if_so _ _ c.answer.result (λ it never same. absurd (never same)) c.answer.ensures.ready
 
-pub returns-clause-ahead : goal.returns-clause-ahead
-returns-clause-ahead g c tells ready = c.change.ensures.ahead tells ready
-
-pub returns-then-only_reads-clause-within : goal.returns-then-only_reads-clause-within
-returns-then-only_reads-clause-within g c tells leaves it = omega (arith, c.answer.ensures.spent)
+pub returns-clause-short : goal.returns-clause-short
+returns-clause-short g c tells needs = c.change.ensures.short tells needs

@@ -1,3 +1,4 @@
+use Rattle.volume_step.proofs.StepGrowth.{awaited_spent}
 use Rattle.volume_base.specs.Keeping.{shrunk_of}
 use Rattle.volume_base.specs.Room.{capacity_of}
 use Rattle.volume_step.proofs.GrowthSteps.{growth_place, growth_touches}
@@ -31,3 +32,13 @@ returns-in_err-went-clause-touches g c committed = growth_touches committed c.ar
 pub returns-clause-short : goal.returns-clause-short
 returns-clause-short g c tells wants =
     short_grown c.args.volume.now (g.P.SectorView.space c.args.space.now) c.args.wanted (c.requires.awaits tells) c.in_ok-went.went (λ fits. c.in_ok-went.ensures.sure tells fits) c.grown.result c.grown.ensures wants
+
+pub returns-clause-loads : goal.returns-clause-loads
+returns-clause-loads g c tells =
+    awaited_spent c.args.volume.now (g.P.SectorView.space c.args.space.now) (g.P.SectorView.space c.grow_tree.new.space) c.requires.stands tells (c.requires.settled tells) c.a_load_says_enough.ensures c.trees_grow_by_enough.ensures (shrunk_of c.args.volume.now) c.args.wanted (c.requires.awaits tells)
+    c.grow_tree.ensures.spent (c.grow_tree.ensures.spent_spread tells)
+
+pub returns-in_err-went-clause-loads : goal.returns-in_err-went-clause-loads
+returns-in_err-went-clause-loads g c tells =
+    awaited_spent c.args.volume.now (g.P.SectorView.space c.args.space.now) (g.P.SectorView.space c.grow_tree.new.space) c.requires.stands tells (c.requires.settled tells) c.a_load_says_enough.ensures c.trees_grow_by_enough.ensures (shrunk_of c.args.volume.now) c.args.wanted (c.requires.awaits tells)
+    c.grow_tree.ensures.spent (c.grow_tree.ensures.spent_spread tells)

@@ -1,5 +1,5 @@
-use Rattle.std.proofs.Common.{◌≡◌, ℕ, sym, ◌∙◌, ap, subst}
-use Rattle.std.specs.Prelude.{IfOk, IfSome, OnOk, Option}
+use Rattle.std.proofs.Common.{ℕ, sym, ◌∙◌, subst, arith}
+use Rattle.std.specs.Prelude.{IfSome, OnOk, Option}
 use Rattle.sector_disk.specs.Lists.{Content}
 use Rattle.hfs_volume.specs.Aside.{IsJournalSector}
 use Rattle.volume_base.specs.Keeping.{shrunk_of}
@@ -10,6 +10,7 @@ use Rattle.volume_space.specs.declared.awaiting.TreeWanted.{TreeWanted}
 use Rattle.volume_step.specs.Steps.{KeepsJournal}
 use Rattle.volume_step.proofs.Done.{holds_kept}
 use Rattle.volume_step.proofs.GrownFor.{lacks_behind, reclaims_behind}
+use Rattle.volume_step.proofs.Loaded.{step_behind}
 use Rattle.volume_step.proofs.Widening.{own_or_free_still, touches_behind, touches_looked, touches_own}
 use Rattle.volume_step.proofs.tidying.tidy.Goals as goal
 
@@ -108,3 +109,16 @@ pub returns-clause-short : goal.returns-clause-short
 returns-clause-short g c tells =
     if_so _ _ c.tidy_now.result (λ came was wants. lacks_behind c.args.volume.now c.next_growth.new.volume (g.P.SectorView.space c.args.space.now) (g.P.SectorView.space c.next_growth.new.space) c.next_growth.ensures.reads (c.next_growth.ensures.reads.looks.content tells) (was wants))
     (c.tidy_now.ensures.short (c.next_growth.ensures.reads.looks.same.tells ∙ tells))
+
+pub returns-clause-loads : goal.returns-clause-loads
+returns-clause-loads g c tells =
+    step_behind (g.P.SectorView.space c.args.space.now).content (g.P.SectorView.space c.next_growth.new.space).content (c.next_growth.ensures.reads.looks.content tells) (capacity_of c.args.volume.now) (capacity_of c.next_growth.new.volume) c.next_growth.ensures.reads.keeps.capacity (shrunk_of c.args.volume.now) (shrunk_of c.next_growth.new.volume) c.next_growth.ensures.reads.keeps.shrunk
+    (g.P.SectorView.space c.args.space.now).spare (g.P.SectorView.space c.next_growth.new.space).spare c.next_growth.ensures.reads.looks.spare (g.P.SectorView.space c.tidy_now.new.space).spare (c.tidy_now.ensures.loads (c.next_growth.ensures.reads.looks.same.tells ∙ tells))
+
+pub returns-in-Some-clause-loads : goal.returns-in-Some-clause-loads
+returns-in-Some-clause-loads g c tells =
+    step_behind (g.P.SectorView.space c.args.space.now).content (g.P.SectorView.space c.next_growth.new.space).content (c.next_growth.ensures.reads.looks.content tells) (capacity_of c.args.volume.now) (capacity_of c.next_growth.new.volume) c.next_growth.ensures.reads.keeps.capacity (shrunk_of c.args.volume.now) (shrunk_of c.next_growth.new.volume) c.next_growth.ensures.reads.keeps.shrunk
+    (g.P.SectorView.space c.args.space.now).spare (g.P.SectorView.space c.next_growth.new.space).spare c.next_growth.ensures.reads.looks.spare (g.P.SectorView.space c.grow_for.new.space).spare (c.grow_for.ensures.loads (c.next_growth.ensures.reads.looks.same.tells ∙ tells))
+
+pub returns-in_err-found-clause-loads : goal.returns-in_err-found-clause-loads
+returns-in_err-found-clause-loads g c tells step load grow next is = omega (arith, c.next_growth.ensures.reads.looks.spare)

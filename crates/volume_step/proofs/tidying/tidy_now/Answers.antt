@@ -35,3 +35,6 @@ returns-clause-holds g c committed was = c.tidy.ensures.used.holds committed was
 pub returns-clause-short : goal.returns-clause-short
 returns-clause-short g c tells =
     if_so _ _ c.tidy.result (λ came was wants. short_tidied c.args.volume.now (g.P.SectorView.space c.args.space.now) (g.P.SectorView.space c.tidy.new.space).content came was wants) (c.tidy.ensures.tidied tells)
+
+pub returns-clause-loads : goal.returns-clause-loads
+returns-clause-loads g c tells step load grow next is = c.tidy.ensures.loads tells step load grow next is
