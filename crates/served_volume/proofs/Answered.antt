@@ -11,7 +11,7 @@ use Rattle.hfs_language.specs.declared.reply.Reply.{Reply}
 use Rattle.hfs_language.specs.Language.{command_of}
 use Rattle.hfs_model.specs.Step.{refuses}
 use Rattle.hfs_model.specs.declared.plain.PlainTree.{PlainTree}
-use Rattle.volume_runs.specs.Rest.{CutsFor, GrowsFor}
+use Rattle.volume_runs.specs.Rest.{CutsFor, GrowsFor, file_written}
 use Rattle.volume_runs.specs.Run.{Entry, IsServed, is_ok, or_before, replies_of, shrunk_after, shrunk_by, spelled}
 use Rattle.volume_runs.specs.Told.{changes_by, changes_in}
 use Rattle.hfs_volume.specs.Content.{VolumeState, volume_of}
@@ -61,6 +61,7 @@ cuts_alike capacity line now next before after one two was =
         cuts = subst (λ (k : VolumeState × VolumeState). CutsAlone cut.id data_kind (blocks_wanted k.0 cut.id data_kind) k.0 k.1) {x = (volume_of before, volume_of after)} {y = (volume_of now, volume_of next)} (λ i. (sym one.lists i, sym two.lists i)) cut.cuts;
         keeps = record { sound = two.sound; tree = two.tree ∙ cut.keeps.tree ∙ sym one.tree };
       };
+      file = ap (λ (t : PlainTree). file_written (data_of t was.asked)) one.tree ∙ was.first.file;
     }
 
 -- and the same growth of a tree

@@ -1,5 +1,6 @@
 -- Lines that are refused.
-use Rattle.std.proofs.Common.{◌≡◌, ◌≢◌, ◌⊎◌, ℕ, Bool, true, false, List, [], inl, inr, ⊎_elim, refl, sym, ap, subst}
+use Rattle.std.proofs.Common.{◌≡◌, ◌≢◌, ◌⊎◌, ◌<◌, ◌==◌, ℕ, arith, Bool, true, false, List, [], inl, inr, ⊎_elim, refl, sym, ap, subst}
+use Rattle.std.proofs.lemmas.Bool.{ne_eqb, true≢false}
 use Rattle.std.specs.Prelude.{Option, Result, Ok, Err, if◌then◌else◌}
 use Rattle.jnl_format.specs.Keeping.{IsSame}
 use Rattle.jnl_format.specs.Recovery.{Content, header_of_volume}
@@ -17,7 +18,7 @@ use Rattle.hfs_volume.specs.TreeOf.{tree_of}
 use Rattle.volume_step.specs.Steps.{IsServedAs, KeepsJournal, ShrinksAs, StepsTo}
 use Rattle.volume_step.specs.declared.outcome.Outcome.{Outcome}
 use Rattle.volume_step.specs.declared.outcome.Outcome.TheVariants as outcome
-use Rattle.served_volume.specs.Answering.{AnswersAs, IsDecidedAs, IsRefusedAs, ShrinksBy, unless_short}
+use Rattle.served_volume.specs.Answering.{AnswersAs, IsDecidedAs, IsDecidedOrWaits, IsRefusedAs, ShrinksBy, unless_short}
 
 module _ (capacity number : ℕ) (line : List ℕ) (content : Content) (sound : IsSound content) where
   abbrev entry : Refusal → Entry
@@ -60,6 +61,23 @@ decided capacity number line asked before after spelled true outcome.CommitFirst
 decided capacity number line asked before after spelled false outcome.CommitFirst was other = absurd (other refl)
 decided capacity number line asked before after spelled true outcome.Again was other = tt
 decided capacity number line asked before after spelled false outcome.Again was other = tt
+
+pub some_put : (n : ℕ) → 0 < n → (n == 0) ≡ false
+some_put n some = ne_eqb n 0 (λ same. omega (arith, some, same))
+
+-- where something was put since the last commit
+pub decided_or_waits : (capacity number : ℕ) (line : List ℕ) (asked : Command) (before after : Content) → command_of line ≡ Ok asked → (fresh : Bool) → fresh ≡ false → (o : Outcome) → StepsTo o capacity number asked before after → IsDecidedOrWaits (unless_short fresh o) capacity line before after
+decided_or_waits capacity number line asked before after spelled true put o was = absurd (true≢false put)
+decided_or_waits capacity number line asked before after spelled false put (outcome.Answered said changes) was = (was line spelled).decided
+decided_or_waits capacity number line asked before after spelled false put outcome.CommitFirst was = tt
+decided_or_waits capacity number line asked before after spelled false put outcome.Again was = tt
+
+-- where nothing was
+pub never_waits : (fresh : Bool) → fresh ≡ true → (o : Outcome) → unless_short fresh o ≢ outcome.CommitFirst
+never_waits true nothing (outcome.Answered said changes) is = let no : outcome.Answered said changes ≡ outcome.CommitFirst = is in cc no
+never_waits true nothing outcome.CommitFirst is = let no : outcome.Answered (reply.No refusal.OutOfMemory) [] ≡ outcome.CommitFirst = is in cc no
+never_waits true nothing outcome.Again is = let no : outcome.Again ≡ outcome.CommitFirst = is in cc no
+never_waits false nothing o is = true≢false (sym nothing)
 
 -- and the file that was shrunk last
 pub shortened_shrinks : (line : List ℕ) (asked : Command) (before : Content) (old new : Option ℕ) → command_of line ≡ Ok asked → (fresh : Bool) (o : Outcome) → ShrinksAs o asked before old new → ShrinksBy (unless_short fresh o) line before old new

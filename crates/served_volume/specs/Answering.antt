@@ -44,6 +44,11 @@ IsDecidedAs (outcome.Answered said changes) capacity line before after =
 IsDecidedAs outcome.CommitFirst capacity line before after = ⊥
 IsDecidedAs outcome.Again capacity line before after = Unit {0}
 
+-- the line is decided, or a commit is wanted before it
+abbrev pub IsDecidedOrWaits : Outcome → ℕ → List ℕ → Content → Content → Type 0
+IsDecidedOrWaits outcome.CommitFirst capacity line before after = Unit {0}
+IsDecidedOrWaits it capacity line before after = IsDecidedAs it capacity line before after
+
 -- the file that was shrunk last, behind a line: the one that it shrank, where it was done and shrank one
 abbrev pub ShrinksBy : Outcome → List ℕ → Content → Option ℕ → Option ℕ → Type 0
 ShrinksBy (outcome.Answered said changes) line before old new = new ≡ (if is_ok said then or_before (shrunk_by (tree_of before) (command_of line)) old else old)

@@ -1,5 +1,5 @@
 //! A line on a volume in service.
-ghost use Rattle.std.specs.Prelude.{◌≡◌, ◌⊎◌, ℕ, true, IsTrue, IfErr, IfOk, Ok, OnOk};
+ghost use Rattle.std.specs.Prelude.{◌≡◌, ◌≢◌, ◌⊎◌, ◌<◌, ◌==◌, ℕ, true, IsTrue, IfErr, IfOk, Ok, OnOk};
 ghost use Rattle.jnl_format.specs.Recovery.{Content};
 ghost use Rattle.sector_disk.specs.Space.{SameSpace};
 ghost use Rattle.btree_edit.specs.Causes.{HasTroubleCause};
@@ -16,14 +16,15 @@ ghost use Rattle.volume_space.specs.Standing.{HoldsOn};
 ghost use Rattle.volume_base.specs.Standing.{IsSettled, StandsOver};
 ghost use Rattle.volume_base.specs.Touching.{Touches};
 ghost use Rattle.volume_step.specs.Anew.{FitsAnew, IsAnew};
-ghost use Rattle.volume_step.specs.Steps.{IsReady, KeepsJournal, OwnOf, PutsNow};
-ghost use Rattle.served_volume.specs.Answering.{AnswersAs, IsDecidedAs, IsRefusedAs, ShrinksBy, refusal_of, refused, unless_short};
+ghost use Rattle.volume_step.specs.Steps.{FitsNow, KeepsJournal, OwnOf, PutsNow};
+ghost use Rattle.volume_step.specs.declared.outcome.Outcome.TheVariants as outcome;
+ghost use Rattle.served_volume.specs.Answering.{AnswersAs, IsDecidedAs, IsDecidedOrWaits, IsRefusedAs, ShrinksBy, refusal_of, refused, unless_short};
 
 use crate::fitting::fits_command;
 use cmd_lang::{LineFault, read_line};
 use hfs_language::{Changes, Command, Refusal, Reply};
+use hfs_serving::Ground;
 use hx_bytes::Trouble;
-use sector_disk::SectorSpace;
 use std::alloc::Global;
 use volume_base::Volume;
 use volume_step::{Outcome, step};
@@ -83,12 +84,18 @@ fn read_command(alloc: Global, line: &[u8]) -> Result<Command, Refusal>
     }
 }
 
-/// Answers the line of this number, where `fresh` says that nothing was put since the last commit.
-pub(crate) fn answer_line<P: SectorSpace>(
+/// Whether nothing was put since the last commit.
+fn is_fresh<P: Ground>(space: &P) -> bool
+    ensures { result ≡ (P.taken space.now == 0) }
+{
+    space.pending() == 0
+}
+
+/// Answers the line of this number.
+pub(crate) fn answer_line<P: Ground>(
     alloc: Global,
     volume: &mut Volume,
     space: &mut P,
-    fresh: bool,
     number: u64,
     line: &[u8],
 ) -> Result<Outcome, Trouble>
@@ -112,17 +119,16 @@ pub(crate) fn answer_line<P: SectorSpace>(
     ensures cause { HasTroubleCause (P.SectorView.space space.old).faults (P.SectorView.space space.new).faults result }
 {
     match read_command(alloc, line) {
-        Ok(command) => do_command(alloc, volume, space, fresh, number, line, &command),
+        Ok(command) => do_command(alloc, volume, space, number, line, &command),
         Err(why) => Ok(refused(alloc, why)),
     }
 }
 
 // Does the command that a line spells.
-fn do_command<P: SectorSpace>(
+fn do_command<P: Ground>(
     alloc: Global,
     volume: &mut Volume,
     space: &mut P,
-    fresh: bool,
     number: u64,
     line: &[u8],
     command: &Command,
@@ -134,10 +140,13 @@ fn do_command<P: SectorSpace>(
     requires spelled { command_of line.now ≡ Ok command.now }
     requires fits { FitsCommand command.now }
     ensures answered { IsTrue (P.SectorView.space space.old).tells → IfOk result (λ outcome. AnswersAs outcome (capacity_of volume.old) number line.now (P.SectorView.space space.old).content (P.SectorView.space space.new).content) }
-    // Where the step is ready for it, or nothing was put since the last commit, nothing is missing for it and no cut goes ahead of it, neither a
-    // commit is wanted nor is memory missing.
-    ensures ready { IsTrue (P.SectorView.space space.old).tells → (only_reads command.now ≡ true) ⊎ (IsReady command.now volume.old (P.SectorView.space space.old) ⊎ PutsNow command.now volume.old (P.SectorView.space space.old)) → IfOk result (λ outcome. IsDecidedAs outcome (capacity_of volume.old) line.now (P.SectorView.space space.old).content (P.SectorView.space space.new).content) }
+    // Where the step is ready for it, or nothing was put since the last commit and nothing is missing for it, neither a commit is wanted nor is
+    // memory missing.
+    ensures ready { IsTrue (P.SectorView.space space.old).tells → (only_reads command.now ≡ true) ⊎ (FitsNow command.now volume.old (P.SectorView.space space.old) ⊎ PutsNow command.now volume.old (P.SectorView.space space.old)) → IfOk result (λ outcome. IsDecidedAs outcome (capacity_of volume.old) line.now (P.SectorView.space space.old).content (P.SectorView.space space.new).content) }
     ensures anew { IsTrue (P.SectorView.space space.old).tells → IsAnew volume.old (P.SectorView.space space.old) → FitsAnew command.now volume.old (P.SectorView.space space.old).content → IfOk result (λ outcome. IsDecidedAs outcome (capacity_of volume.old) line.now (P.SectorView.space space.old).content (P.SectorView.space space.new).content) }
+    // Where something was put since the last commit memory isn't missing for it; where nothing was, no commit is wanted.
+    ensures pends { IsTrue (P.SectorView.space space.old).tells → 0 < P.taken space.old → IfOk result (λ outcome. IsDecidedOrWaits outcome (capacity_of volume.old) line.now (P.SectorView.space space.old).content (P.SectorView.space space.new).content) }
+    ensures never { P.taken space.old ≡ 0 → IfOk result (λ it. it ≢ outcome.CommitFirst) }
     ensures place { IsTrue (P.SectorView.space space.old).tells → OnOk result (KeepsJournal (P.SectorView.space space.old).content (P.SectorView.space space.new).content) }
     ensures stands { OnOk result (StandsOver volume.new (P.SectorView.space space.new)) }
     ensures settled { IsTrue (P.SectorView.space space.old).tells → OnOk result (IsSettled volume.new (P.SectorView.space space.new).content) }
@@ -150,6 +159,7 @@ fn do_command<P: SectorSpace>(
     ensures below { P.SectorView.follows space.old space.new }
     ensures cause { HasTroubleCause (P.SectorView.space space.old).faults (P.SectorView.space space.new).faults result }
 {
+    let fresh = is_fresh(space);
     let outcome = step(alloc, volume, space, number, command)?;
     Ok(unless_short(alloc, fresh, outcome))
 }

@@ -53,8 +53,7 @@ impl Volume for ServedVolume {
         if self.is_elsewhere(base) {
             return Err(Trouble::Memory);
         }
-        let fresh = base.pending() == 0;
-        let outcome = answer_line(self.alloc, &mut self.volume, base, fresh, number, line);
+        let outcome = answer_line(self.alloc, &mut self.volume, base, number, line);
         base.look();
         match outcome {
             Ok(outcome) => tell(self.alloc, outcome, told),
