@@ -183,7 +183,7 @@ a_block_is_added = record {
           blocks = refl;
           bytes = omega arith;
         },
-        (refl, refl, tt),
+        (refl, refl, tt, refl),
       );
       others = refl;
       flips = record {
