@@ -7,6 +7,7 @@
 A name is its UTF-16 code units as big-endian bytes, which stand in the order of the units. `df` is no question to a tree: its answer is None.
 """
 
+import functools
 import re
 import struct
 import unicodedata
@@ -15,7 +16,7 @@ import urllib.parse
 LINE, READ, SIZE, GROWTH, LINKS, VALUE = 140000, 65536, 2**40, 1048576, 32767, 1700
 NAME, ATTRIBUTE_NAME = 255, 127
 PRIVATE = ("\0\0\0\0HFS+ Private Data".encode("utf-16-be"), ".journal".encode("utf-16-be"), ".journal_info_block".encode("utf-16-be"))
-NUMBER, MODE, VALUE_TEXT = re.compile(rb"0|[1-9][0-9]*"), re.compile(rb"[0-7]{1,4}"), re.compile(rb"=([!-$&-~]|%([01][0-9A-F]|20|25|7F|[89A-F][0-9A-F]))*")
+NUMBER, MODE, VALUE_TEXT = re.compile(rb"0|[1-9][0-9]*"), re.compile(rb"[0-7]{1,4}"), re.compile(rb"=(?:[!-$&-~]++|%(?:[01][0-9A-F]|20|25|7F|[89A-F][0-9A-F]))*+")
 
 
 class No(Exception):
@@ -25,6 +26,7 @@ class No(Exception):
 # ---- names
 
 
+@functools.lru_cache(maxsize=4096)
 def read_name(text):
     """The name that a text spells."""
     if text in ("", ".", "..") or "/" in text:
@@ -51,6 +53,7 @@ def units_of(name):
     return struct.unpack(f">{len(name) // 2}H", name)
 
 
+@functools.lru_cache(maxsize=4096)
 def print_name(name):
     """The text of a name, which spells it."""
     units = units_of(name)
@@ -80,10 +83,12 @@ def print_path(path):
 SPELLED = [bytes([it]) if 0x21 <= it <= 0x7E and it != 0x25 else b"%%%02X" % it for it in range(256)]
 
 
+@functools.lru_cache(maxsize=256)
 def print_value(value):
     return b"=" + b"".join(map(SPELLED.__getitem__, value))
 
 
+@functools.lru_cache(maxsize=256)
 def read_value(word):
     """The bytes of a value that is spelled right."""
     return urllib.parse.unquote_to_bytes(word[1:])
