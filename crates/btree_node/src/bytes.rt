@@ -39,7 +39,7 @@ pub(crate) fn move_up(bytes: &mut [u8], at: usize, end: usize, by: usize)
     requires within { end + by ≤ length bytes.old }
     ensures { MovesUp at end by bytes.old bytes.new }
 {
-    bytes[at..end + by].rotate_right(by);
+    bytes.copy_within(at..end, at + by);
 }
 
 /// Moves the bytes from `at + by` up to `end` by this many places towards the front.
@@ -48,7 +48,7 @@ pub(crate) fn move_down(bytes: &mut [u8], at: usize, end: usize, by: usize)
     requires within { end ≤ length bytes.old }
     ensures { MovesDown at end by bytes.old bytes.new }
 {
-    bytes[at..end].rotate_left(by);
+    bytes.copy_within(at + by..end, at);
 }
 
 /// Adds to the offsets from `from` up to `to`.
