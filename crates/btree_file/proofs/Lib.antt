@@ -1,5 +1,6 @@
 pub mod PlaceLaws
 pub mod CountedLaws
+pub mod HeldNodes
 pub mod NodeLaws
 pub mod RoomLaws
 pub mod MapLaws

@@ -1,5 +1,5 @@
 -- Calls of a tree file over a space, one after another.
-use Rattle.std.proofs.Common.{◌≡◌, ◌↔◌, ℕ, List, length, inl, inr, ⊎_elim, refl, sym, ◌∙◌, ap, subst, arith}
+use Rattle.std.proofs.Common.{◌≡◌, ℕ, List, length, inl, inr, ⊎_elim, refl, ◌∙◌, ap, subst, arith}
 use Rattle.std.specs.Prelude.{IsTrue}
 use Rattle.sector_disk.specs.Lists.{Content, sector}
 use Rattle.sector_disk.specs.Clock.{TimePasses}

@@ -15,8 +15,59 @@ use fork_map::SummedFork;
 use hx_bytes::{Failed, Sector};
 use sector_disk::{SectorSpace, SectorView, SectorsToPut, put_list};
 
-/// Reads a node.
+/// Reads a node: by one copy where the view holds its sectors side by side, or else sector by sector.
 pub(crate) fn get_node<V: SectorView>(
+    space: &mut V,
+    fork: &SummedFork,
+    per_block: u32,
+    node: u32,
+    into: &mut Node,
+) -> Result<(), Failed>
+    requires blocks { per_block ≤ 128 }
+    requires inside { IsInside fork.now per_block (V.space space.old) }
+    requires whole { (node + 1) * (length into.old / 512) ≤ length (fork_sectors fork.now per_block) }
+    ensures value { IsTrue (V.space space.old).tells → OnOk result (into.new ≡ node_of (V.space space.old).content (fork_sectors fork.now per_block) (length into.old / 512) node) }
+    ensures length { length into.new ≡ length into.old }
+    ensures reads { ReadsSpace (V.space space.old) (V.space space.new) }
+    ensures below { V.follows space.old space.new }
+    ensures cause { HasCause (V.space space.old).faults (V.space space.new).faults result }
+{
+    if take_held(space, fork, per_block, node, into) {
+        return Ok(());
+    }
+    get_sectors(space, fork, per_block, node, into)
+}
+
+/// Whether the view held a node's sectors side by side: then they were copied.
+fn take_held<V: SectorView>(
+    space: &V,
+    fork: &SummedFork,
+    per_block: u32,
+    node: u32,
+    into: &mut Node,
+) -> bool
+    requires blocks { per_block ≤ 128 }
+    requires whole { (node + 1) * (length into.old / 512) ≤ length (fork_sectors fork.now per_block) }
+    ensures value { IsTrue result → IsTrue (V.space space.now).tells → into.new ≡ node_of (V.space space.now).content (fork_sectors fork.now per_block) (length into.old / 512) node }
+    ensures length { length into.new ≡ length into.old }
+{
+    let size = into.bytes().len();
+    let per = size as u32 / 512;
+    let Some(first) = first_in_block(fork, per_block, node as u64 * per as u64, per) else {
+        return false;
+    };
+    let Some(bytes) = space.held(first, per) else {
+        return false;
+    };
+    if bytes.len() != size {
+        return false;
+    }
+    into.take_over(bytes);
+    true
+}
+
+/// Reads a node sector by sector.
+fn get_sectors<V: SectorView>(
     space: &mut V,
     fork: &SummedFork,
     per_block: u32,

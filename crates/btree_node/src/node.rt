@@ -145,6 +145,14 @@ impl Node {
         self.bytes.copy_from_slice(other.bytes());
     }
 
+    /// Takes over bytes, as many as it has.
+    pub fn take_over(&mut self, bytes: &[u8])
+        requires { length bytes.now ≡ length self.old }
+        ensures { self.new ≡ bytes.now }
+    {
+        self.bytes.copy_from_slice(bytes);
+    }
+
     /// Sets fLink and bLink.
     pub fn set_links(&mut self, next: u32, back: u32)
         ensures links { SetsLinks next back self.old self.new }

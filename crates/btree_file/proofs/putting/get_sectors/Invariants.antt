@@ -1,7 +1,7 @@
 use Rattle.std.proofs.Common.{◌≡◌, ◌/◌, length}
 use Rattle.fork_map.specs.Blocks.{fork_sectors}
 use Rattle.btree_file.proofs.Fetched.{Fetched}
-use Rattle.btree_file.proofs.putting.get_node.Given as goal
+use Rattle.btree_file.proofs.putting.get_sectors.Given as goal
 
 abbrev pub invariant-loop-k : goal.invariant-loop-k
 invariant-loop-k g l = record {

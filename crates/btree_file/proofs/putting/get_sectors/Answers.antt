@@ -1,10 +1,10 @@
-use Rattle.std.proofs.Common.{◌≡◌, ◌<◌, ◌+◌, ◌*◌, ◌/◌, ℕ, List, Option, Some, None, length, slice_get, sym, ◌∙◌, ap, subst, arith}
+use Rattle.std.proofs.Common.{◌≡◌, ◌<◌, ◌+◌, ◌/◌, ℕ, List, length, sym, ◌∙◌, ap, subst, arith}
 use Rattle.sector_disk.specs.Space.{Space}
 use Rattle.fork_map.specs.Blocks.{fork_sectors}
 use Rattle.btree_file.proofs.Fetched.{Fetched, fetched_none, fetched_more}
 use Rattle.btree_file.proofs.PlaceLaws.{has_place, same_place, same_none}
-use Rattle.btree_file.proofs.putting.get_node.Goals as goal
-use Rattle.btree_file.proofs.putting.get_node.Goals.{in-Some+in_ok-get, in_default}
+use Rattle.btree_file.proofs.putting.get_sectors.Goals as goal
+use Rattle.btree_file.proofs.putting.get_sectors.Goals.{in-Some+in_ok-get, in_default}
 
 pub loop-k-init : goal.loop-k-init
 loop-k-init g c = record {
