@@ -5,3 +5,4 @@ pub mod Scalars
 pub mod Spelled
 pub mod RoundTrip
 pub mod Lengths
+pub mod PlainAscii

@@ -23,11 +23,11 @@ use Rattle.std.proofs.lemmas.Str.{encodes_same, length-le-encodes}
 
 -- ---- the units of what is printed
 
-no_escape : (cs : List ℕ) → list_any is_escaped (map Character cs) ≡ false
+pub no_escape : (cs : List ℕ) → list_any is_escaped (map Character cs) ≡ false
 no_escape [] = refl
 no_escape (c ∷ cs) = no_escape cs
 
-codes_back : (cs : List ℕ) → map code (map Character cs) ≡ cs
+pub codes_back : (cs : List ℕ) → map code (map Character cs) ≡ cs
 codes_back [] = refl
 codes_back (c ∷ cs) = ap (λ x. c ∷ x) (codes_back cs)
 
@@ -45,7 +45,7 @@ unit_codes : (us : List ℕ) → map code (map unit_piece us) ≡ us
 unit_codes [] = refl
 unit_codes (u ∷ us) = rw (unit_code u, unit_codes us) refl
 
-ones_back : (us : List ℕ) → AreUnits us → flat_map encode_utf16 us ≡ us
+pub ones_back : (us : List ℕ) → AreUnits us → flat_map encode_utf16 us ≡ us
 ones_back [] are = refl
 ones_back (u ∷ us) are = rw (encode_one u are.0, ones_back us are.1) refl
 

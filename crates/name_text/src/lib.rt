@@ -1,6 +1,7 @@
 //! Names of files, folders and attributes as a component of a path spells them, and their order.
 #![tactic(auto)]
 
+mod ascii;
 mod laws;
 mod order;
 mod piece;

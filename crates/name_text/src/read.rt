@@ -5,13 +5,14 @@ ghost use Rattle.std.specs.Prelude.{◌≡◌, ◌≢◌, ◌<◌, ◌≤◌, Ok
 ghost use Rattle.name_text.specs.declared.piece.NameFault.TheVariants.{Memory};
 ghost use Rattle.name_text.specs.Reading as spec;
 
+use crate::ascii::{is_plain, read_plain};
 use crate::pieces::read_pieces;
 use crate::units::units_of_pieces;
 use crate::{NameFault, Units};
 use std::alloc::{AllocError, Global};
 
 /// The most units of a name (TN1150, "HFS Plus Names").
-const MOST_UNITS: usize = 255;
+pub(crate) const MOST_UNITS: usize = 255;
 
 /// The name that the text of a component spells.
 ///
@@ -26,6 +27,10 @@ pub fn read_component(alloc: Global, text: &str) -> Result<Units, NameFault>
     ensures some { IfOk result (λ units. 0 < length units) }
     ensures short { IfOk result (λ units. length units ≤ 255) }
 {
+    let bytes = text.as_bytes();
+    if is_plain(bytes) {
+        return read_plain(alloc, bytes);
+    }
     let characters = characters(alloc, text)?;
     let units = read_characters(alloc, &characters)?;
     Ok(units)
