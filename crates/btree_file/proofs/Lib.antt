@@ -1,6 +1,7 @@
 pub mod PlaceLaws
 pub mod CountedLaws
 pub mod HeldNodes
+pub mod NodeParts
 pub mod NodeLaws
 pub mod RoomLaws
 pub mod MapLaws

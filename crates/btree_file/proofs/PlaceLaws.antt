@@ -1,9 +1,9 @@
 -- The sectors of a node, one by one.
-use Rattle.std.proofs.Common.{◌≡◌, ℕ, ◌+◌, ◌*◌, ◌≤◌, ◌<◌, List, [], ◌∷◌, ◌++◌, length, get_or, take, drop, slice_get, slice_range, Option, Some, None, sym, ◌∙◌, ap, subst, arith, ⊎_elim}
-use Rattle.std.specs.List.{All, Contains}
+use Rattle.std.proofs.Common.{◌≡◌, ℕ, ◌+◌, ◌*◌, ◌≤◌, ◌<◌, List, [], ◌∷◌, ◌++◌, length, get_or, take, drop, slice_get, slice_range, Option, Some, None, sym, ◌∙◌, ap, arith, ⊎_elim}
+use Rattle.std.specs.List.{Contains}
 use Rattle.std.proofs.lemmas.Bool.{cases_lt}
 use Rattle.std.proofs.lemmas.List.{get_or-take, get_or-drop, length-take, length-drop, take_more, drop_more, drop_all, get_or_default}
-use Rattle.std.proofs.lemmas.List.Elements.{All-from_get_or, Contains-get_or}
+use Rattle.std.proofs.lemmas.List.Elements.{Contains-get_or}
 use Rattle.std.proofs.lemmas.Option.{get_or_from_slice_get, slice_get-get_or, slice_get_within}
 use Rattle.sector_disk.specs.Lists.{Content, sector}
 use Rattle.btree_file.specs.Place.{AreApart, sectors_at}
@@ -63,10 +63,6 @@ in_fork : (fork : List ℕ) (per n i : ℕ) → i < length (sectors_at fork per 
 in_fork fork per n i low =
     let below : i < per = omega (arith, low, length-take per (drop (n * per) fork)) in
     (below, omega (arith, low, length-take per (drop (n * per) fork), length-drop (n * per) fork))
-
-pub sectors_below : (fork : List ℕ) (per n most : ℕ) → ((i : ℕ) → i < length fork → get_or fork i 0 < most) → All (λ s. s < most) (sectors_at fork per n)
-sectors_below fork per n most inside = All-from_get_or (λ s. s < most) (sectors_at fork per n) 0
-    (λ i low. let both = in_fork fork per n i low in subst (λ s. s < most) (sym (at_place fork per n i both.0)) (inside (n * per + i) both.1))
 
 pub sector_in_fork : (fork : List ℕ) (per n s : ℕ) → Contains (sectors_at fork per n) s → (i : ℕ) × (i < length fork) × (get_or fork i 0 ≡ s)
 sector_in_fork fork per n s c =

@@ -1,5 +1,5 @@
-//! One node of a fork, read and put sector by sector.
-ghost use Rattle.std.specs.Prelude.{◌≡◌, ◌⊎◌, ◌<◌, ◌≤◌, ◌+◌, ◌*◌, ◌/◌, ◌^◌, ℕ, Some, IsTrue, length, slice_get, slice_index, slice_range, OnOk};
+//! One node of a fork, read and put.
+ghost use Rattle.std.specs.Prelude.{◌≡◌, ◌<◌, ◌≤◌, ◌+◌, ◌*◌, ◌/◌, IsTrue, length, slice_range, OnOk};
 ghost use Rattle.sector_disk.specs.Cause.{HasCause};
 ghost use Rattle.sector_disk.specs.Clock.{TimePasses};
 ghost use Rattle.sector_disk.specs.Space.{SameSpace, LeavesDurable};
@@ -13,7 +13,7 @@ use crate::counted::{counted_sector, first_in_block};
 use btree_node::Node;
 use fork_map::SummedFork;
 use hx_bytes::{Failed, Sector};
-use sector_disk::{SectorSpace, SectorView, SectorsToPut, put_list};
+use sector_disk::{SectorSpace, SectorView};
 
 /// Reads a node: by one copy where the view holds its sectors side by side, or else sector by sector.
 pub(crate) fn get_node<V: SectorView>(
@@ -97,55 +97,12 @@ fn get_sectors<V: SectorView>(
 }
 
 /// One sector of a node.
-pub(crate) fn copy_sector(from: &Node, k: u32, sector: &mut Sector)
+fn sector_of(from: &Node, k: u32) -> &Sector
     requires { k < length from.now / 512 }
-    ensures { sector.new ≡ slice_range from.now (k * 512) (k * 512 + 512) }
+    ensures { result.now ≡ slice_range from.now (k * 512) (k * 512 + 512) }
 {
-    let start = k as usize * 512;
-    sector.copy_from_slice(&from.bytes()[start..start + 512]);
-}
-
-/// The sectors of a node from one of them on, each with its bytes.
-#[derive(Drop)]
-struct NodeSectors<'a> {
-    fork: &'a SummedFork,
-    per_block: u32,
-    node: u32,
-    from: &'a Node,
-    /// The sector of its first place, where it lies in one block.
-    first: Option<u64>,
-    /// The sectors of the node before this one were told.
-    k: u32,
-    ghost small: { per_block ≤ 128 },
-    ghost bound: { (s : ℕ) → first ≡ Some s → s < 2 ^ 41 },
-    ghost following: { (s k : ℕ) → first ≡ Some s → k < length from.now / 512 → slice_get (fork_sectors fork.now per_block) (node * (length from.now / 512) + k) ≡ Some (s + k) },
-}
-
-impl SectorsToPut for NodeSectors<'_> {
-    ghost use Rattle.std.specs.Prelude.{◌/◌, drop, length};
-    ghost use Rattle.btree_file.specs.Place.{sectors_at};
-    ghost use Rattle.fork_map.specs.Blocks.{fork_sectors};
-    ghost use Rattle.btree_file.specs.Putting.{IsPiece};
-
-    ghost places = { λ s. drop s.k (sectors_at (fork_sectors s.fork.now s.per_block) (length s.from.now / 512) s.node) };
-
-    ghost belongs = { λ s at piece. IsPiece (sectors_at (fork_sectors s.fork.now s.per_block) (length s.from.now / 512) s.node) s.from.now at piece };
-
-    fn next(&mut self, into: &mut Sector) -> Option<u64> {
-        let k = self.k;
-        let per = self.from.bytes().len() as u32 / 512;
-        if k >= per {
-            return None;
-        }
-        let place = self.node as u64 * per as u64 + k as u64;
-        let sector = counted_sector(self.fork, self.per_block, place, self.first, k);
-        let Some(at) = sector else {
-            return None;
-        };
-        copy_sector(self.from, k, into);
-        self.k = k + 1;
-        Some(at)
-    }
+    let (sectors, _rest) = from.bytes().as_chunks::<512>();
+    &sectors[k as usize]
 }
 
 /// Puts a node.
@@ -171,13 +128,10 @@ pub(crate) fn put_node<P: SectorSpace>(
 {
     let per = from.bytes().len() as u32 / 512;
     let first = first_in_block(fork, per_block, node as u64 * per as u64, per);
-    let mut list = NodeSectors {
-        fork,
-        per_block,
-        node,
-        from,
-        first,
-        k: 0,
-    };
-    put_list(space, &mut list);
+    for k in 0..per {
+        let place = node as u64 * per as u64 + k as u64;
+        if let Some(at) = counted_sector(fork, per_block, place, first, k) {
+            space.put(at, sector_of(from, k));
+        }
+    }
 }

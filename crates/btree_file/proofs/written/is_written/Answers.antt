@@ -1,4 +1,4 @@
-use Rattle.std.proofs.Common.{◌≡◌, ◌+◌, ◌*◌, ◌&&◌, ℕ, List, [], ◌∷◌, Bool, true, false, drop, sym, ◌∙◌, ap, arith}
+use Rattle.std.proofs.Common.{◌+◌, ◌&&◌, ℕ, List, Bool, drop, sym, ◌∙◌, ap, arith}
 use Rattle.std.specs.List.{list_all}
 use Rattle.fork_map.specs.Blocks.{fork_sectors}
 use Rattle.btree_file.specs.Place.{sectors_at}
