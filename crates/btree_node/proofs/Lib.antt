@@ -7,6 +7,7 @@ pub mod Inserting
 pub mod Removing
 pub mod Packing
 pub mod Replacing
+pub mod Overwriting
 pub mod Descriptor
 pub mod Units
 pub mod UnitOrder
