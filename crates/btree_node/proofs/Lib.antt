@@ -2,6 +2,7 @@ pub mod Places
 pub mod Offsets
 pub mod Slots
 pub mod Records
+pub mod Moving
 pub mod Items
 pub mod Inserting
 pub mod Removing

@@ -4,9 +4,8 @@ ghost use Rattle.hx_bytes.specs.Field.{put_at};
 ghost use Rattle.btree_node.specs.Node.{IsNode, SameHead, offset, record_count, items, room_beside};
 ghost use Rattle.btree_node.specs.Bytes.{OpensData, OpensSlot, ClosesSlot, SetsCount, Packs, InsertsRecord, RemovesRecord, OverwritesRecord};
 
-use crate::bytes::{
-    count_records, get_offset, lower_offsets, move_down, move_up, raise_offsets, set_offset,
-};
+use crate::bytes::{count_records, get_offset, lower_offsets, raise_offsets, set_offset};
+use crate::moves::{move_down, move_up};
 use hx_bytes::write_be16;
 
 fn put_record(node: &mut [u8], at: usize, key: &[u8], value: &[u8])
