@@ -2,11 +2,13 @@ pub mod Places
 pub mod Offsets
 pub mod Slots
 pub mod Records
+pub mod Moving
 pub mod Items
 pub mod Inserting
 pub mod Removing
 pub mod Packing
 pub mod Replacing
+pub mod Overwriting
 pub mod Descriptor
 pub mod Units
 pub mod UnitOrder

@@ -1,5 +1,5 @@
 -- What the steps of an edit do to the bytes of a node, place by place.
-use Rattle.std.specs.Prelude.{◌≡◌, ◌≢◌, ◌<◌, ◌≤◌, ℕ, ◌+◌, ◌*◌, List, length, slice_index, slice_range, insert, remove}
+use Rattle.std.specs.Prelude.{◌≡◌, ◌≢◌, ◌<◌, ◌≤◌, ℕ, ◌+◌, ◌*◌, List, length, slice_index, slice_range, slice_set, insert, remove}
 use Rattle.btree_node.specs.Node.{offset, record_count, items, IsNode, SameHead}
 
 -- the bytes from `at` up to `end` moved towards the end
@@ -78,5 +78,11 @@ pub record InsertsRecord (i : ℕ) (bytes old new : List ℕ) : Type 0 where
 -- one record less
 pub record RemovesRecord (i : ℕ) (old new : List ℕ) : Type 0 where
   pub items : items new ≡ remove (items old) i
+  pub well_formed : IsNode new
+  pub head : SameHead old new
+
+-- another record in the place of one
+pub record OverwritesRecord (i : ℕ) (bytes old new : List ℕ) : Type 0 where
+  pub items : items new ≡ slice_set (items old) i bytes
   pub well_formed : IsNode new
   pub head : SameHead old new

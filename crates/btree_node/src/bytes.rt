@@ -1,7 +1,7 @@
-//! Moves of bytes and of offsets in a node.
+//! The offsets of a node, and the number of its records.
 ghost use Rattle.std.specs.Prelude.{◌≡◌, ◌<◌, ◌≤◌, ℕ, ◌+◌, ◌*◌, ◌^◌, length};
 ghost use Rattle.btree_node.specs.Node.{offset, record_count};
-ghost use Rattle.btree_node.specs.Bytes.{MovesUp, MovesDown, SetsOffset, ChangesOffsets};
+ghost use Rattle.btree_node.specs.Bytes.{SetsOffset, ChangesOffsets};
 
 use hx_bytes::{read_be16, write_be16};
 
@@ -31,24 +31,6 @@ pub(crate) fn set_offset(node: &mut [u8], i: usize, x: u16)
 {
     let at = node.len() - 2 * (i + 1);
     write_be16(node, at, x);
-}
-
-/// Moves the bytes from `at` up to `end` by this many places towards the end.
-pub(crate) fn move_up(bytes: &mut [u8], at: usize, end: usize, by: usize)
-    requires ordered { at ≤ end }
-    requires within { end + by ≤ length bytes.old }
-    ensures { MovesUp at end by bytes.old bytes.new }
-{
-    bytes.copy_within(at..end, at + by);
-}
-
-/// Moves the bytes from `at + by` up to `end` by this many places towards the front.
-pub(crate) fn move_down(bytes: &mut [u8], at: usize, end: usize, by: usize)
-    requires ordered { at + by ≤ end }
-    requires within { end ≤ length bytes.old }
-    ensures { MovesDown at end by bytes.old bytes.new }
-{
-    bytes.copy_within(at + by..end, at);
 }
 
 /// Adds to the offsets from `from` up to `to`.

@@ -1,12 +1,11 @@
 //! Edits of one record in a node: its bytes, and then the offsets.
-ghost use Rattle.std.specs.Prelude.{◌≡◌, ◌<◌, ◌≤◌, ℕ, ◌+◌, ◌*◌, ◌++◌, length, insert, remove};
+ghost use Rattle.std.specs.Prelude.{◌≡◌, ◌<◌, ◌≤◌, ℕ, ◌+◌, ◌*◌, ◌++◌, [], length, insert, remove, slice_index_or};
 ghost use Rattle.hx_bytes.specs.Field.{put_at};
 ghost use Rattle.btree_node.specs.Node.{IsNode, SameHead, offset, record_count, items, room_beside};
-ghost use Rattle.btree_node.specs.Bytes.{OpensData, OpensSlot, ClosesSlot, SetsCount, Packs, InsertsRecord, RemovesRecord};
+ghost use Rattle.btree_node.specs.Bytes.{OpensData, OpensSlot, ClosesSlot, SetsCount, Packs, InsertsRecord, RemovesRecord, OverwritesRecord};
 
-use crate::bytes::{
-    count_records, get_offset, lower_offsets, move_down, move_up, raise_offsets, set_offset,
-};
+use crate::bytes::{count_records, get_offset, lower_offsets, raise_offsets, set_offset};
+use crate::moves::{move_down, move_up};
 use hx_bytes::write_be16;
 
 fn put_record(node: &mut [u8], at: usize, key: &[u8], value: &[u8])
@@ -99,6 +98,18 @@ pub(crate) fn remove_record(node: &mut [u8], i: usize)
     let len = to - at;
     move_down(node, at, end, len);
     close_slot(node, i, n, len);
+}
+
+/// Puts a record in the place of another of its length.
+pub(crate) fn overwrite_record(node: &mut [u8], i: usize, key: &[u8], value: &[u8])
+    requires size { 512 ≤ length node.old }
+    requires well_formed { IsNode node.old }
+    requires inside { i < length (items node.old) }
+    requires length { length key.now + length value.now ≡ length (slice_index_or (items node.old) i []) }
+    ensures { OverwritesRecord i (key.now ++ value.now) node.old node.new }
+{
+    let at = get_offset(node, i);
+    put_record(node, at, key, value);
 }
 
 /// Brings the first record to the end of the descriptor.

@@ -9,6 +9,7 @@ mod header;
 mod keys;
 mod map;
 mod mem;
+mod moves;
 mod node;
 mod order;
 mod reads;

@@ -5,7 +5,7 @@ ghost use Rattle.flag_rows.specs.Bits.{bit_of};
 ghost use Rattle.btree_node.specs.Node.{IsNodeSize, IsNode, IsNodeOf, SameHead, SetsLinks, ClearsNode, items, next_of, back_of, room_beside};
 ghost use Rattle.btree_node.specs.TreeFile.{tree_head, shape_of, SetsShape, SetsBit};
 
-use crate::edits::{insert_record, pack, remove_record};
+use crate::edits::{insert_record, overwrite_record, pack, remove_record};
 use crate::head::{clear, set_links};
 use crate::header::{read_shape, write_shape};
 use crate::map::{first_clear, set_bit};
@@ -133,6 +133,10 @@ impl Node {
         ensures well_formed { IsNode self.new }
         ensures head { SameHead self.old self.new }
     {
+        if self.item(i).len() == key.len() + value.len() {
+            overwrite_record(&mut self.bytes, i as usize, key, value);
+            return;
+        }
         self.remove(i);
         self.insert(i, key, value);
     }
