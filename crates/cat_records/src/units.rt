@@ -15,17 +15,18 @@ pub(crate) fn read_units(
     requires { at + 2 * count ≤ length bytes.now }
     ensures { IfOk result (λ units. units ≡ units_at bytes.now at count) }
 {
-    let mut units = Units::new(alloc);
+    let mut units = Vec::with_capacity(alloc, usize::from(count))?;
     for place in 0..usize::from(count) {
         units.push(read_be16(bytes, at + 2 * place))?;
     }
-    Ok(units)
+    Ok(Units::from_vec(units))
 }
 
 /// Adds the bytes of units.
 pub(crate) fn append_units(bytes: &mut Vec<u8>, units: &Units) -> Result<(), OutOfMemory>
     ensures { OnOk result (bytes.new.items ≡ bytes.old.items ++ units_bytes units.now) }
 {
+    bytes.reserve(units.len().saturating_mul(2))?;
     for unit in units.as_slice() {
         let mut pair = [0; 2];
         write_be16(&mut pair, 0, *unit);
