@@ -40,3 +40,4 @@ pub mod Grown
 pub mod Room
 pub mod Composed
 pub mod BroughtHome
+pub mod Sides

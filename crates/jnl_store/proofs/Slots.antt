@@ -1,12 +1,12 @@
 -- What a store keeps in its slots, as its calls leave it.
-use Rattle.std.proofs.Common.{◌≡◌, ◌≢◌, ◌⊎◌, ◌<◌, ◌%◌, ℕ, Bool, true, false, not, List, [], ◌∷◌, inl, inr, ⊎_elim, length, get_or, set, refl, sym, ◌∙◌, ap, subst, arith, eqb, length-set, get_or-set_same, get_or-set_other, replicate}
-use Rattle.std.specs.Prelude.{Result, Ok, Err, OnOk, Option, None, Some, IsTrue, MatchOption, nat_le, nat_lt, ◌&&◌, ◌||◌, ◌==◌, ◌/◌, ◌+◌, if◌then◌else◌}
+use Rattle.std.proofs.Common.{Bor, ◌≡◌, ◌≢◌, ◌⊎◌, ◌<◌, ◌%◌, ℕ, Bool, true, false, not, List, [], ◌∷◌, inl, inr, ⊎_elim, length, get_or, set, refl, sym, ◌∙◌, ap, subst, arith, eqb, length-set, get_or-set_same, get_or-set_other, replicate}
+use Rattle.std.specs.Prelude.{Result, Ok, Err, OnOk, Option, None, Some, IfSome, IsTrue, MatchOption, nat_le, nat_lt, ◌&&◌, ◌||◌, ◌==◌, ◌/◌, ◌+◌, if◌then◌else◌}
 use Rattle.std.proofs.lemmas.Bool.{and_parts, cases_Bool, cases_lt, eqb-true, eqb-false, true≢false, not-false}
 use Rattle.std.proofs.lemmas.List.{get_or_past, length-map}
 use Rattle.std.proofs.lemmas.Slice.Eq.{bytes_eq-Decides}
 use Rattle.jnl_format.specs.declared.structures.Info.{Info}
 use Rattle.jnl_replay.specs.declared.plan.Place.{Place}
-use Rattle.sector_disk.specs.Lists.{Content, last, sector}
+use Rattle.sector_disk.specs.Lists.{Content, last, run_of, sector}
 use Rattle.sector_disk.specs.Disk.{Candidates, CrashesLeave, IsDisk, IsImage, LeftNow, OnlyReads, SameSink, State, Untouched, content, content_of, only}
 use Rattle.sector_disk.proofs.Passing.{both_pass}
 use Rattle.sector_disk.specs.Space.{AgreesOutside}
@@ -15,7 +15,7 @@ use Rattle.jnl_format.specs.Recovery.{homes_of}
 use Rattle.jnl_replay.specs.Plan.{journal_of}
 use Rattle.jnl_replay.specs.declared.plan.Plan.{Plan}
 use Rattle.jnl_store.specs.Batch.{AreOnce, Staged, bytes_of, is_dropped, is_same, names}
-use Rattle.jnl_store.specs.Cache.{AreCached, AreRead, EachBecomes, EachReread, IsRead, IsReread, Slots, holds, slot_of, undone_slot, with_slot}
+use Rattle.jnl_store.specs.Cache.{AreCached, AreRead, EachBecomes, EachReread, IsKept, IsRead, IsReread, KeepsRun, Slots, holds, slot_of, undone_slot, with_slot}
 use Rattle.jnl_store.specs.Journal.{IsClosed, are_open, is_closed}
 use Rattle.jnl_store.specs.Overlay.{overlay}
 use Rattle.jnl_store.specs.SpaceLaws.{length-durable, length-overlay}
@@ -269,15 +269,15 @@ pub on_ok : {T E : Type 0} (result : Result T E) (A B : Type 0) → OnOk result 
 on_ok (Ok x) A B a f = f a
 on_ok (Err e) A B a f = tt
 
-pub recalled_from : (store : Store) (at : ℕ) (result : Option (List ℕ)) → store.faults ≡ 0 → MatchOption result (holds store.cache at ≡ false) (λ bytes. (put : Put) × (slot_of store.cache at ≡ Some put) × (put.at ≡ at) × (bytes ≡ put.bytes))
-    → MatchOption result (store.faults ≡ 0 → holds store.cache at ≡ false) (λ bytes. IsRecalled store at bytes)
+pub recalled_from : (store : Store) (at : ℕ) (result : Option (Bor (List ℕ))) → store.faults ≡ 0 → MatchOption result (holds store.cache at ≡ false) (λ bytes. (put : Put) × (slot_of store.cache at ≡ Some put) × (put.at ≡ at) × (bytes.now ≡ put.bytes))
+    → MatchOption result (store.faults ≡ 0 → holds store.cache at ≡ false) (λ bytes. IsRecalled store at bytes.now)
 recalled_from store at None none h = λ _. h
 recalled_from store at (Some bytes) none (put, there, of, is) = record { none = none; put = put; there = there; of = of; is = is }
 
 -- a sector was read, put or spilled: its slot keeps it, and no other sector changed
-pub keeps_some : (old new : Store) (sectors : ℕ) (before after : Candidates) (at : ℕ) (put : Put) → KeepsRing new sectors after → new.cache ≡ with_slot old.cache at (Some put) → put.at ≡ at → AreCached old.cache (content_over old (content_of before))
-    → sector (content_over new (content_of after)) at ≡ put.bytes → ((s : ℕ) → s ≢ at → sector (content_over new (content_of after)) s ≡ sector (content_over old (content_of before)) s) → Keeps new sectors after
-keeps_some old new sectors before after at put ring cache of are value others = record {
+pub keeps_some : (old new : Store) (sectors : ℕ) (before after : Candidates) (at : ℕ) (bytes : List ℕ) → KeepsRing new sectors after → IsKept old.cache at bytes new.cache → AreCached old.cache (content_over old (content_of before)) → sector (content_over new (content_of after)) at ≡ bytes
+    → ((s : ℕ) → s ≢ at → sector (content_over new (content_of after)) s ≡ sector (content_over old (content_of before)) s) → Keeps new sectors after
+keeps_some old new sectors before after at bytes ring (put, of, same, cache) are value others = record {
   ring = ring;
   cached = subst (λ (l : Slots). AreCached l (content_over new (content_of after))) (sym cache)
       (cached_set old.cache (content_over old (content_of before)) (content_over new (content_of after)) at (Some put) are (λ p is. picked p is) others);
@@ -288,7 +288,7 @@ keeps_some old new sectors before after at put ring cache of are value others = 
     good (Some p) = (p.at ≡ at) × (sector (content_over new (content_of after)) at ≡ p.bytes)
 
     picked : (p : Put) → Some put ≡ Some p → (p.at ≡ at) × (sector (content_over new (content_of after)) at ≡ p.bytes)
-    picked p is = subst good is (of, value)
+    picked p is = subst good is (of, value ∙ sym same)
 
 -- a spill of a sector failed: its slot is empty, and no other sector changed
 pub keeps_none : (old new : Store) (sectors : ℕ) (before after : Candidates) (at : ℕ) → KeepsRing new sectors after → new.cache ≡ with_slot old.cache at None → AreCached old.cache (content_over old (content_of before))
@@ -322,3 +322,9 @@ keeps_empty store sectors candidates count ring empty = record {
 pub cached_still : (old new : Store) (before after : Candidates) → new.cache ≡ old.cache → content_over new (content_of after) ≡ content_over old (content_of before) → AreCached old.cache (content_over old (content_of before)) → AreCached new.cache (content_over new (content_of after))
 cached_still old new before after cache same are =
     subst (λ (l : Slots). AreCached l (content_over new (content_of after))) (sym cache) (cached_same old.cache (content_over old (content_of before)) (content_over new (content_of after)) (sym same) are)
+
+-- the bytes that slots side by side keep are those that reads give
+pub run_held : (store : Store) (disk : State) (at many : ℕ) (result : Option (Bor (List ℕ))) → (store.faults ≡ 0 → IsTrue disk.tells → Keeps store disk.sectors disk.candidates) → IsTrue disk.tells → IfSome result (λ bytes. (store.faults ≡ 0) × KeepsRun store.cache at many bytes.now)
+    → IfSome result (λ bytes. bytes.now ≡ run_of (content_over store (content disk)) at many)
+run_held store disk at many None kept tells held = tt
+run_held store disk at many (Some bytes) kept tells (none, run) = run (content_over store (content disk)) (kept none tells).cached

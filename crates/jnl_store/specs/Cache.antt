@@ -1,6 +1,8 @@
 -- Slots that keep sectors of a content. A sector's slot is the one with its number modulo their count.
-use Rattle.std.specs.Prelude.{◌≡◌, ◌<◌, ◌≢◌, ◌%◌, ◌==◌, ℕ, Bool, true, false, if◌then◌else◌, List, length, slice_index_or, slice_set, Option, None, Some}
-use Rattle.sector_disk.specs.Lists.{Content, sector}
+use Rattle.std.specs.Prelude.{◌≡◌, ◌<◌, ◌≢◌, ◌⊎◌, [], ◌∷◌, ◌%◌, ◌==◌, ℕ, Bool, true, false, if◌then◌else◌, List, length, slice_index_or, slice_set, Option, None, Some}
+use Rattle.std.proofs.Common.{inl, inr}
+use Rattle.std.proofs.lemmas.Bool.{cases_eq}
+use Rattle.sector_disk.specs.Lists.{Content, run_of, sector}
 use Rattle.jnl_replay.specs.declared.plan.Plan.{Plan}
 use Rattle.jnl_store.specs.Batch.{is_dropped}
 use Rattle.jnl_store.specs.Journal.{is_closed}
@@ -9,6 +11,26 @@ use Rattle.jnl_store.specs.declared.puts.Put.{Put}
 -- each is empty, or keeps the bytes of one sector
 abbrev pub Slots : Type 0
 Slots = List (Option Put)
+
+-- what the slot of this sector is that keeps these bytes, which are 512
+abbrev pub sized_slot : (at : ℕ) (bytes : List ℕ) → (length bytes ≡ 512) ⊎ (length bytes ≢ 512) → Option Put
+sized_slot at bytes (inl whole) = Some (record { at = at; bytes = bytes; whole = whole })
+sized_slot at bytes (inr other) = None
+
+-- a slot, by the sector that it names and by its bytes
+abbrev pub slot_with : Option ℕ → List ℕ → Option Put
+slot_with None bytes = None
+slot_with (Some at) bytes = sized_slot at bytes (cases_eq (length bytes) 512)
+
+-- slots, by the sectors that they name and by their bytes
+abbrev pub slots_with : List (Option ℕ) → List (List ℕ) → Slots
+slots_with [] bytes = []
+slots_with (name ∷ names) [] = None ∷ slots_with names []
+slots_with (name ∷ names) (first ∷ bytes) = slot_with name first ∷ slots_with names bytes
+
+-- there is a sector of 512 bytes for each slot
+abbrev pub AreSlots : List (Option ℕ) → List (List ℕ) → Type 0
+AreSlots names bytes = (length bytes ≡ length names) × ((k : ℕ) → k < length bytes → length (sector bytes k) ≡ 512)
 
 -- the slot of a sector
 abbrev pub slot_of : Slots → ℕ → Option Put
@@ -27,10 +49,18 @@ holds slots at = is_of (slot_of slots at) at
 abbrev pub with_slot : Slots → ℕ → Option Put → Slots
 with_slot slots at slot = slice_set slots (at % length slots) slot
 
+-- the slot of this sector, where there is one, names it and keeps these bytes, and the others are as they were
+abbrev pub IsKept : Slots → ℕ → List ℕ → Slots → Type 0
+IsKept old at bytes new = (put : Put) × (put.at ≡ at) × (put.bytes ≡ bytes) × (new ≡ with_slot old at (Some put))
+
 -- each slot that isn't empty names a sector of its own, and keeps the bytes that this content has there
 abbrev pub AreCached : Slots → Content → Type 0
 AreCached slots content =
     (k : ℕ) (put : Put) → k < length slots → slice_index_or slots k None ≡ Some put → (put.at % length slots ≡ k) × (sector content put.at ≡ put.bytes)
+
+-- these are the bytes that any content has in so many sectors from this one on, if the slots keep what it has
+abbrev pub KeepsRun : Slots → ℕ → ℕ → List ℕ → Type 0
+KeepsRun slots at many bytes = (content : Content) → AreCached slots content → bytes ≡ run_of content at many
 
 -- each slot but that of this sector is as it was
 abbrev pub OthersStand : ℕ → Slots → Slots → Type 0
@@ -58,6 +88,11 @@ AreRead plan content slots = (k : ℕ) → k < length slots → IsRead plan cont
 abbrev pub undone_slot : List Put → List Put → Option Put → Option Put
 undone_slot all kept None = None
 undone_slot all kept (Some put) = if is_dropped all kept put.at then None else Some put
+
+-- what a slot without a sector that an undo changes names
+abbrev pub undone_name : List Put → List Put → Option ℕ → Option ℕ
+undone_name all kept None = None
+undone_name all kept (Some at) = if is_dropped all kept at then None else Some at
 
 -- each slot becomes this of what it was
 abbrev pub EachBecomes : (Option Put → Option Put) → Slots → Slots → Type 0

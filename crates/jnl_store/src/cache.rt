@@ -1,6 +1,6 @@
 //! Slots that keep sectors of a content, so that they are read without a device.
-ghost use Rattle.std.specs.Prelude.{◌≡◌, ◌≤◌, Bool, IsTrue, IfOk, MatchOption, OnOk, Option, None, if◌then◌else◌, replicate};
-ghost use Rattle.jnl_store.specs.Cache.{AreRead, EachBecomes, EachReread, IsRead, IsReread, holds, slot_of, undone_slot, with_slot};
+ghost use Rattle.std.specs.Prelude.{◌≡◌, ◌<◌, ◌≤◌, ◌+◌, ℕ, Bool, IsTrue, IfOk, IfSome, MatchOption, OnOk, Option, None, Some, if◌then◌else◌, length, replicate, slice_index_or};
+ghost use Rattle.jnl_store.specs.Cache.{AreRead, AreSlots, EachBecomes, EachReread, IsKept, IsRead, IsReread, KeepsRun, OthersStand, holds, slot_of, slot_with, slots_with, undone_name, undone_slot, with_slot};
 ghost use Rattle.sector_disk.specs.Cause.{HasCause};
 ghost use Rattle.sector_disk.specs.Disk.{OnlyReads, content};
 ghost use Rattle.jnl_replay.specs.Plan.{FitsPlan};
@@ -15,18 +15,23 @@ use sector_disk::SectorDisk;
 use std::alloc::Global;
 use std::marker::Model;
 
-/// So many slots. Each is empty, or keeps the bytes of one sector.
+/// So many slots. Each is empty, or keeps the bytes of one sector. The bytes of slots side by side stand side by side.
 #[derive(Drop)]
 pub struct Cache {
-    slots: Vec<Option<Put>>,
+    /// The sector that each slot keeps.
+    names: Vec<Option<u64>>,
+    /// The bytes of each slot, of which those of an empty one aren't looked at.
+    bytes: Vec<Sector>,
 }
 
 impl Model for Cache {
-    ghost use Rattle.jnl_store.specs.Cache.{Slots};
+    ghost use Rattle.jnl_store.specs.Cache.{AreSlots, Slots, slots_with};
 
     ghost Value = { Slots };
 
-    ghost view = { λ c. c.slots.items };
+    ghost view = { λ c. slots_with c.names.items c.bytes.items };
+
+    ghost invariant = { λ c. AreSlots c.names.items c.bytes.items };
 }
 
 impl Cache {
@@ -34,20 +39,29 @@ impl Cache {
     pub fn new(alloc: Global, count: u32) -> Result<Cache, OutOfMemory>
         ensures { IfOk result (λ cache. cache ≡ replicate count None) }
     {
-        let mut slots = Vec::new(alloc);
-        slots.resize(count as usize, None)?;
-        Ok(Cache { slots })
+        let mut names = Vec::new(alloc);
+        names.resize(count as usize, None)?;
+        let mut bytes = Vec::new(alloc);
+        bytes.resize(count as usize, [0; 512])?;
+        Ok(Cache { names, bytes })
     }
 
     /// The bytes of a sector whose slot names it.
-    pub fn get(&self, at: u64) -> Option<Sector>
-        ensures { MatchOption result (holds self.now at ≡ Bool.false) (λ bytes. (put : Put) × (slot_of self.now at ≡ Option.Some put) × (put.at ≡ at) × (bytes ≡ put.bytes)) }
+    pub fn get(&self, at: u64) -> Option<&Sector>
+        ensures { MatchOption result (holds self.now at ≡ Bool.false) (λ bytes. (put : Put) × (slot_of self.now at ≡ Option.Some put) × (put.at ≡ at) × (bytes.now ≡ put.bytes)) }
     {
-        if self.slots.is_empty() {
+        if self.names.is_empty() {
             return None;
         }
-        match self.slots[(at % self.slots.len() as u64) as usize] {
-            Some(put) => { if put.at == at { Some(put.bytes) } else { None } }
+        let place = (at % self.names.len() as u64) as usize;
+        match self.names[place] {
+            Some(name) => {
+                if name == at {
+                    Some(&self.bytes[place])
+                } else {
+                    None
+                }
+            }
             None => None,
         }
     }
@@ -59,15 +73,48 @@ impl Cache {
         self.get(at).is_some()
     }
 
-    /// Puts this into the slot of a sector, where there is a slot.
-    pub fn set(&mut self, at: u64, slot: Option<Put>)
-        ensures { self.new ≡ with_slot self.old at slot }
+    /// The bytes of so many sectors from one on, where their slots stand side by side and name them.
+    pub fn held(&self, at: u64, many: u32) -> Option<&[u8]>
+        ensures { IfSome result (λ bytes. KeepsRun self.now at many bytes.now) }
     {
-        if self.slots.is_empty() {
+        let count = self.names.len();
+        if count == 0 {
+            return None;
+        }
+        let first = (at % count as u64) as usize;
+        let many = many as usize;
+        if count - first < many {
+            return None;
+        }
+        if !are_named(&self.names[first..first + many], at) {
+            return None;
+        }
+        Some(self.bytes[first..first + many].as_flattened())
+    }
+
+    /// Puts a sector into its slot, where there is a slot.
+    pub fn set(&mut self, at: u64, from: &Sector)
+        ensures kept { IsKept self.old at from.now self.new }
+        ensures holds { 0 < length self.old → holds self.new at ≡ Bool.true }
+        ensures others { OthersStand at self.old self.new }
+    {
+        if self.names.is_empty() {
             return;
         }
-        let place = (at % self.slots.len() as u64) as usize;
-        self.slots[place] = slot;
+        let place = (at % self.names.len() as u64) as usize;
+        self.names[place] = Some(at);
+        self.bytes[place] = *from;
+    }
+
+    /// Empties the slot of a sector.
+    pub fn empty(&mut self, at: u64)
+        ensures { self.new ≡ with_slot self.old at None }
+    {
+        if self.names.is_empty() {
+            return;
+        }
+        let place = (at % self.names.len() as u64) as usize;
+        self.names[place] = None;
     }
 
     /// Reads again what each slot that names a sector of the journal keeps.
@@ -78,51 +125,85 @@ impl Cache {
         ensures reads { OnlyReads (D.state disk.old) (D.state disk.new) }
         ensures cause { HasCause (D.state disk.old).faults (D.state disk.new).faults result }
     {
-        reread_all(self.slots.as_mut_slice(), plan, disk)
+        reread_all(self.names.as_slice(), self.bytes.as_mut_slice(), plan, disk)
     }
 
     /// Empties each slot that names a sector which an undo changes.
     pub fn empty_dropped(&mut self, batch: &Batch)
         ensures { EachBecomes (undone_slot batch.now.all batch.now.kept) self.old self.new }
     {
-        for slot in self.slots.iter_mut() {
-            if names_dropped(slot, batch) {
-                *slot = None;
+        for name in self.names.iter_mut() {
+            if is_dropped(*name, batch) {
+                *name = None;
             }
         }
     }
 }
 
+// Whether the slots name the sectors from this one on.
+fn are_named(names: &[Option<u64>], at: u64) -> bool
+    ensures { IsTrue result → (k : ℕ) → k < length names.now → slice_index_or names.now k None ≡ Some (at + k) }
+{
+    for i in 0..names.len() {
+        if !is_named(names[i], at, i as u64) {
+            return false;
+        }
+    }
+    true
+}
+
+// Whether a slot names the sector so many behind this one.
+fn is_named(name: Option<u64>, at: u64, behind: u64) -> bool
+    ensures { IsTrue result → name ≡ Some (at + behind) }
+{
+    match name {
+        Some(name) => {
+            if name < at {
+                return false;
+            }
+            name - at == behind
+        }
+        None => false,
+    }
+}
+
 fn reread_all<D: SectorDisk>(
-    slots: &mut [Option<Put>],
+    names: &[Option<u64>],
+    bytes: &mut [Sector],
     plan: &Plan,
     disk: &mut D,
 ) -> Result<(), Failed>
-    requires { FitsPlan (D.state disk.old).sectors plan.now }
-    ensures slots { EachReread plan.now slots.old slots.new }
-    ensures own { IsTrue (D.state disk.old).tells → OnOk result (AreRead plan.now (content (D.state disk.old)) slots.new) }
+    requires slots { AreSlots names.now bytes.old }
+    requires plan { FitsPlan (D.state disk.old).sectors plan.now }
+    ensures are { AreSlots names.now bytes.new }
+    ensures slots { EachReread plan.now (slots_with names.now bytes.old) (slots_with names.now bytes.new) }
+    ensures own { IsTrue (D.state disk.old).tells → OnOk result (AreRead plan.now (content (D.state disk.old)) (slots_with names.now bytes.new)) }
     ensures reads { OnlyReads (D.state disk.old) (D.state disk.new) }
     ensures cause { HasCause (D.state disk.old).faults (D.state disk.new).faults result }
 {
-    for slot in slots.iter_mut() {
-        reread(slot, plan, disk)?;
+    for i in 0..names.len() {
+        reread(names[i], &mut bytes[i], plan, disk)?;
     }
     Ok(())
 }
 
-fn reread<D: SectorDisk>(slot: &mut Option<Put>, plan: &Plan, disk: &mut D) -> Result<(), Failed>
+fn reread<D: SectorDisk>(
+    name: Option<u64>,
+    bytes: &mut Sector,
+    plan: &Plan,
+    disk: &mut D,
+) -> Result<(), Failed>
     requires { FitsPlan (D.state disk.old).sectors plan.now }
-    ensures slot { IsReread plan.now slot.old slot.new }
-    ensures own { IsTrue (D.state disk.old).tells → OnOk result (IsRead plan.now (content (D.state disk.old)) slot.new) }
+    ensures slot { IsReread plan.now (slot_with name bytes.old) (slot_with name bytes.new) }
+    ensures own { IsTrue (D.state disk.old).tells → OnOk result (IsRead plan.now (content (D.state disk.old)) (slot_with name bytes.new)) }
+    ensures whole { length bytes.new ≡ 512 }
     ensures reads { OnlyReads (D.state disk.old) (D.state disk.new) }
     ensures cause { HasCause (D.state disk.old).faults (D.state disk.new).faults result }
 {
-    match *slot {
-        Some(put) => {
-            if is_own(plan, put.at) {
-                let mut bytes = put.bytes;
-                disk.read(put.at, &mut bytes)?;
-                *slot = Some(Put { at: put.at, bytes });
+    match name {
+        Some(at) => {
+            if is_own(plan, at) {
+                disk.read(at, bytes)?;
             }
             Ok(())
         }
@@ -130,11 +211,11 @@ fn reread<D: SectorDisk>(slot: &mut Option<Put>, plan: &Plan, disk: &mut D) -> R
     }
 }
 
-fn names_dropped(slot: &Option<Put>, batch: &Batch) -> bool
-    ensures { (if result then Option.None else slot.now) ≡ undone_slot batch.now.all batch.now.kept slot.now }
+fn is_dropped(name: Option<u64>, batch: &Batch) -> bool
+    ensures { (if result then None else name) ≡ undone_name batch.now.all batch.now.kept name }
 {
-    match slot {
-        Some(put) => batch.is_dropped(put.at),
+    match name {
+        Some(at) => batch.is_dropped(at),
         None => false,
     }
 }

@@ -1,5 +1,5 @@
 //! The calls of a store that reach no disk.
-ghost use Rattle.std.specs.Prelude.{◌≡◌, ◌<◌, ◌≤◌, ◌+◌, ◌-◌, ℕ, [], Bool, IsTrue, IfOk, OnOk, OnErr, MatchOption, Option, None, length, replicate};
+ghost use Rattle.std.specs.Prelude.{◌≡◌, ◌<◌, ◌≤◌, ◌+◌, ◌-◌, ℕ, [], Bool, IsTrue, IfOk, IfSome, OnOk, OnErr, MatchOption, Option, None, length, replicate};
 ghost use Rattle.sector_disk.specs.Lists.{Content};
 ghost use Rattle.sector_disk.specs.Disk.{Candidates, only};
 ghost use Rattle.jnl_ring.specs.Whole.{AreWhole};
@@ -8,7 +8,7 @@ ghost use Rattle.jnl_replay.specs.Plan.{FitsPlan, IsPlan};
 ghost use Rattle.jnl_store.specs.Batch.{AreOnce};
 ghost use Rattle.sector_disk.specs.Cause.{next_count};
 ghost use Rattle.jnl_store.specs.Store.{HasNoList, IsRecalled, Keeps, SameButBatch, durable_of, faults_of, has_spilled, kept_of, plan_of, puts_of, room_of, slots_of, spare_of};
-ghost use Rattle.jnl_store.specs.Cache.{EachBecomes, holds, undone_slot};
+ghost use Rattle.jnl_store.specs.Cache.{EachBecomes, KeepsRun, holds, undone_slot};
 ghost use Rattle.jnl_store.specs.Plan.{IsCapacityOf, rested};
 
 use crate::batch::Batch;
@@ -139,12 +139,22 @@ impl Store {
     }
 
     // The bytes that the slot of a sector keeps, where it names it and no call answered a disk fault.
-    pub(crate) fn recall(&self, at: u64) -> Option<Sector>
-        ensures { MatchOption result (faults_of self.now ≡ 0 → holds (slots_of self.now) at ≡ Bool.false) (λ bytes. IsRecalled self.now at bytes) }
+    pub(crate) fn recall(&self, at: u64) -> Option<&Sector>
+        ensures { MatchOption result (faults_of self.now ≡ 0 → holds (slots_of self.now) at ≡ Bool.false) (λ bytes. IsRecalled self.now at bytes.now) }
     {
         if self.faults > 0 {
             return None;
         }
         self.cache.get(at)
+    }
+
+    // The bytes of so many sectors from one on, where slots side by side name them and no call answered a disk fault.
+    pub(crate) fn held(&self, at: u64, many: u32) -> Option<&[u8]>
+        ensures { IfSome result (λ bytes. (faults_of self.now ≡ 0) × KeepsRun (slots_of self.now) at many bytes.now) }
+    {
+        if self.faults > 0 {
+            return None;
+        }
+        self.cache.held(at, many)
     }
 }

@@ -1,6 +1,6 @@
 //! The calls of a space.
-ghost use Rattle.std.specs.Prelude.{◌≡◌, ◌≢◌, ◌⊎◌, ◌<◌, ◌≤◌, ◌+◌, ◌==◌, ◌||◌, ℕ, Bool, IsTrue, IsOk, OnOk, OnErr, length};
-ghost use Rattle.sector_disk.specs.Lists.{sector};
+ghost use Rattle.std.specs.Prelude.{◌≡◌, ◌≢◌, ◌⊎◌, ◌<◌, ◌≤◌, ◌+◌, ◌==◌, ◌||◌, ℕ, Bool, IsTrue, IsOk, IfSome, OnOk, OnErr, length};
+ghost use Rattle.sector_disk.specs.Lists.{run_of, sector};
 ghost use Rattle.sector_disk.specs.Cause.{HasCause, next_count};
 ghost use Rattle.sector_disk.specs.Clock.{TimePasses};
 ghost use Rattle.sector_disk.specs.Disk.{SameDisk, SameSink, Untouched};
@@ -12,7 +12,6 @@ ghost use Rattle.jnl_store.specs.Store.{KeepsOn, KeepsRingOn, SameButBatch, Same
 ghost use Rattle.jnl_store.specs.Following.{SpaceFollows};
 ghost use Rattle.jnl_store.specs.Seen.{seen};
 
-use crate::puts::Put;
 use crate::reading::read_durable;
 use crate::space::Space;
 use hx_bytes::{Failed, Sector};
@@ -62,13 +61,21 @@ impl<D: SectorDisk> SectorView for Space<'_, '_, D> {
     {
         let store = &mut *self.store;
         if let Some(bytes) = store.recall(at) {
-            *into = bytes;
+            *into = *bytes;
             return Ok(());
         }
         self.fetch(at, into)?;
         let store = &mut *self.store;
-        store.cache.set(at, Some(Put { at, bytes: *into }));
+        store.cache.set(at, into);
         Ok(())
+    }
+
+    /// What the slots of the sectors keep, where they stand side by side and name them.
+    fn held(&self, at: u64, many: u32) -> Option<&[u8]>
+        ensures { IsTrue (seen D.state self.now).tells → IfSome result (λ bytes. bytes.now ≡ run_of (seen D.state self.now).content at many) }
+    {
+        let store = &*self.store;
+        store.held(at, many)
     }
 }
 
@@ -104,7 +111,7 @@ impl<D: SectorDisk> SectorSpace for Space<'_, '_, D> {
     {
         let store = &mut *self.store;
         store.batch.put(at, from);
-        store.cache.set(at, Some(Put { at, bytes: *from }));
+        store.cache.set(at, from);
     }
 
     /// Writes the sector to the disk at once.
@@ -136,12 +143,12 @@ impl<D: SectorDisk> SectorSpace for Space<'_, '_, D> {
         store.unsettled = true;
         match self.disk.write(at, from) {
             Ok(()) => {
-                store.cache.set(at, Some(Put { at, bytes: *from }));
+                store.cache.set(at, from);
                 Ok(())
             }
             Err(failed) => {
                 store.count_fault();
-                store.cache.set(at, None);
+                store.cache.empty(at);
                 Err(failed)
             }
         }

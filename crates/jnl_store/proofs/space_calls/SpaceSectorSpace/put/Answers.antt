@@ -1,4 +1,4 @@
-use Rattle.std.proofs.Common.{List, ◌&&◌, ◌∙◌, ◌<◌, ap, arith, inl, refl, length, length-set}
+use Rattle.std.proofs.Common.{List, ◌&&◌, ◌∙◌, ◌<◌, ap, arith, inl, refl, length}
 use Rattle.std.specs.Prelude.{IsTrue}
 use Rattle.std.proofs.lemmas.Bool.{and_from}
 use Rattle.jnl_store.specs.Journal.{are_open}
@@ -8,7 +8,6 @@ use Rattle.jnl_format.specs.Recovery.{homes_of, replayed}
 use Rattle.jnl_format.specs.Named.{IsNamed}
 use Rattle.jnl_replay.specs.Plan.{journal_of}
 use Rattle.jnl_store.specs.Batch.{names}
-use Rattle.jnl_store.specs.Cache.{Slots}
 use Rattle.jnl_store.specs.Store.{KeepsOn, content_over, durable_of, is_kept}
 use Rattle.jnl_store.specs.declared.store.Store.{Store}
 use Rattle.jnl_store.proofs.Slots.{keeps_some, length-over, put_elsewhere, put_here}
@@ -34,7 +33,7 @@ invariant_of-self g c =
                 ∙ kept_put store.plan (keeps_lists store.plan disk.candidates store.batch.live) disk.sectors c.args.at store.batch.all c.put.new.self.all store.batch.kept c.put.new.self.kept c.put.ensures.names c.put.ensures.kept c.requires.inside open_at keeps.ring.kept;
             settled = keeps.ring.settled;
           })
-          c.set.ensures refl keeps.cached (put_here old _ c.args.at c.args.from.now after inside) (λ s apart. put_elsewhere old _ c.args.at s c.args.from.now (inl after) apart);
+          c.set.ensures.kept keeps.cached (put_here old _ c.args.at c.args.from.now after inside) (λ s apart. put_elsewhere old _ c.args.at s c.args.from.now (inl after) apart);
     }
 
 pub returns-clause-puts : goal.returns-clause-puts
@@ -92,7 +91,7 @@ returns-clause-keeps g c keeps open_at =
                 ∙ kept_put store.plan (keeps_lists store.plan disk.candidates store.batch.live) disk.sectors c.args.at store.batch.all c.put.new.self.all store.batch.kept c.put.new.self.kept c.put.ensures.names c.put.ensures.kept c.requires.inside open_at keeps.1.ring.kept;
             settled = keeps.1.ring.settled;
           })
-          c.set.ensures refl keeps.1.cached (put_here old _ c.args.at c.args.from.now after inside) (λ s apart. put_elsewhere old _ c.args.at s c.args.from.now (inl after) apart),
+          c.set.ensures.kept keeps.1.cached (put_here old _ c.args.at c.args.from.now after inside) (λ s apart. put_elsewhere old _ c.args.at s c.args.from.now (inl after) apart),
     )
 
 -- what tells a space
@@ -108,7 +107,7 @@ returns-clause-below g c =
       live = c.put.ensures.live;
       kept = c.put.ensures.kept;
       room = c.put.ensures.room;
-      slots = ap (λ (l : Slots). length l) c.set.ensures ∙ length-set _ _ _;
+      slots = c.set.ensures.others.0;
       same = record { tells = refl; tells_left = refl; names = refl; sectors = refl };
       sink = record { told = refl; faults = refl };
       barriers = refl;

@@ -66,7 +66,7 @@ invariant_of-self g c =
                 ∙ (and_parts disk.tells (is_kept store disk.sectors new.candidates) (told ∙ told_old)).1;
             settled = λ e. absurd (true≢false e);
           })
-          c.set.ensures refl keeps.cached (put_here old _ c.args.at c.args.from.now made.content inside) (λ q apart. put_elsewhere old _ c.args.at q c.args.from.now (inl made.content) apart);
+          c.set.ensures.kept keeps.cached (put_here old _ c.args.at c.args.from.now made.content inside) (λ q apart. put_elsewhere old _ c.args.at q c.args.from.now (inl made.content) apart);
     }
 
 pub returns-in-Ok-clause-spills : goal.returns-in-Ok-clause-spills
@@ -147,7 +147,7 @@ returns-in-Ok-clause-keeps g c keeps open_at =
                 ∙ (and_parts disk.tells (is_kept store disk.sectors new.candidates) (told ∙ told_old)).1;
             settled = λ e. absurd (true≢false e);
           })
-          c.set.ensures refl keeps.1.cached (put_here old _ c.args.at c.args.from.now made.content inside) (λ q apart. put_elsewhere old _ c.args.at q c.args.from.now (inl made.content) apart),
+          c.set.ensures.kept keeps.1.cached (put_here old _ c.args.at c.args.from.now made.content inside) (λ q apart. put_elsewhere old _ c.args.at q c.args.from.now (inl made.content) apart),
     )
 
 pub returns-in-Err-clause-unsure : goal.returns-in-Err-clause-unsure
@@ -232,7 +232,7 @@ returns-in-Err-clause-keeps g c keeps open_at =
                 ∙ (and_parts disk.tells (is_kept store disk.sectors new.candidates) (told ∙ told_old)).1;
             settled = λ e. absurd (true≢false (sym c.count_fault.ensures.unsettled ∙ e));
           })
-          (c.set-in-Err.ensures ∙ ap (λ (l : Slots). with_slot l c.args.at None) c.count_fault.ensures.slots)
+          (c.empty.ensures ∙ ap (λ (l : Slots). with_slot l c.args.at None) c.count_fault.ensures.slots)
           keeps.1.cached (λ q apart. put_elsewhere old _ c.args.at q c.args.from.now made.content apart),
     )
 
@@ -249,7 +249,7 @@ returns-in-Ok-clause-below g c =
       live = refl;
       kept = refl;
       room = refl;
-      slots = ap (λ (l : Slots). length l) c.set.ensures ∙ length-set _ _ _;
+      slots = c.set.ensures.others.0;
       same = c.write.ensures.same;
       sink = c.write.ensures.sink;
       barriers = c.write.ensures.barriers;
@@ -267,7 +267,7 @@ returns-in-Err-clause-below g c =
       live = ap (λ b. b.live) c.count_fault.ensures.batch;
       kept = ap (λ b. b.kept) c.count_fault.ensures.batch;
       room = ap (λ b. b.room) c.count_fault.ensures.batch;
-      slots = (ap (λ (l : Slots). length l) c.set-in-Err.ensures ∙ length-set _ _ _) ∙ ap (λ (l : Slots). length l) c.count_fault.ensures.slots;
+      slots = (ap (λ (l : Slots). length l) c.empty.ensures ∙ length-set _ _ _) ∙ ap (λ (l : Slots). length l) c.count_fault.ensures.slots;
       same = c.write.ensures.same;
       sink = c.write.ensures.sink;
       barriers = c.write.ensures.barriers;

@@ -1,8 +1,7 @@
-use Rattle.std.proofs.Common.{refl, sym, ◌∙◌, ap, inl, inr, length, length-set}
+use Rattle.std.proofs.Common.{refl, sym, ◌∙◌, ap, inl, inr}
 use Rattle.std.proofs.lemmas.Bool.{and_from}
 use Rattle.sector_disk.specs.Lists.{Content, sector}
 use Rattle.jnl_store.specs.Batch.{Staged}
-use Rattle.jnl_store.specs.Cache.{Slots}
 use Rattle.jnl_store.specs.Store.{durable_of, is_kept}
 use Rattle.jnl_store.proofs.Slots.{cached_still, keeps_some}
 use Rattle.jnl_store.proofs.space_calls.SpaceSectorView.get.Goals as goal
@@ -18,7 +17,7 @@ invariant_of-self-2 g c =
       kept = λ none tells. let keeps = c.fetch.new.self.kept none tells in
           let told = sym c.fetch.ensures.same.tells ∙ and_from s1.tells (is_kept mid s1.sectors s1.candidates) tells keeps.ring.kept in
           let same = (c.fetch.ensures.sectors told).content in
-          keeps_some mid _ s1.sectors s1.candidates s1.candidates c.args.at _ (record { kept = keeps.ring.kept; settled = keeps.ring.settled }) c.set.ensures refl keeps.cached
+          keeps_some mid _ s1.sectors s1.candidates s1.candidates c.args.at _ (record { kept = keeps.ring.kept; settled = keeps.ring.settled }) c.set.ensures.kept keeps.cached
           (ap (λ (d : Content). sector d c.args.at) same ∙ sym (c.in_ok-fetch.ensures.value told)) (λ s apart. refl);
     }
 
@@ -45,7 +44,7 @@ returns-clause-keeps g c keeps =
     let told = and_from s0.tells (is_kept store s0.sectors s0.candidates) keeps.0 keeps.1.ring.kept in
     let same = (c.fetch.ensures.sectors told).content in (
       k.0,
-      keeps_some mid _ s1.sectors s1.candidates s1.candidates c.args.at _ (record { kept = k.1.kept; settled = k.1.settled }) c.set.ensures refl
+      keeps_some mid _ s1.sectors s1.candidates s1.candidates c.args.at _ (record { kept = k.1.kept; settled = k.1.settled }) c.set.ensures.kept
           (cached_still store mid s0.candidates s1.candidates c.fetch.ensures.slots same keeps.1.cached) (ap (λ (d : Content). sector d c.args.at) same ∙ sym (c.in_ok-fetch.ensures.value told)) (λ s apart. refl),
     )
 
@@ -58,7 +57,7 @@ returns-clause-below g c =
       live = ap (λ (b : Staged). b.live) fetched.batch;
       kept = ap (λ (b : Staged). b.kept) fetched.batch;
       room = ap (λ (b : Staged). b.room) fetched.batch;
-      slots = (ap (λ (l : Slots). length l) c.set.ensures ∙ length-set _ _ _) ∙ fetched.slots;
+      slots = c.set.ensures.others.0 ∙ fetched.slots;
       same = reads.same;
       sink = reads.sink;
       barriers = reads.barriers;
