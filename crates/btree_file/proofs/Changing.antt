@@ -1,8 +1,9 @@
 -- What a node that is put makes of the map: a node of the tree, the header node with other numbers, and a bit set or cleared.
-use Rattle.std.proofs.Common.{◌≡◌, ◌≢◌, ℕ, zero, suc, ◌+◌, ◌-◌, ◌*◌, ◌/◌, ◌≤◌, ◌<◌, Bool, true, false, cond, ◌==◌, ◌||◌, List, [], ◌∷◌, length, get_or, inl, inr, refl, sym, ◌∙◌, ap, subst, arith, ⊎_elim}
+use Rattle.std.proofs.Common.{◌≡◌, ◌≢◌, ℕ, zero, suc, ◌+◌, ◌-◌, ◌*◌, ◌/◌, ◌≤◌, ◌<◌, Bool, true, false, cond, ◌==◌, ◌||◌, List, [], ◌∷◌, length, get_or, drop, inl, inr, refl, sym, ◌∙◌, ap, subst, arith, ⊎_elim}
 use Rattle.std.specs.List.{list_any, count_by, range_with_len}
 use Rattle.std.proofs.Math.Path.{fun_ext}
 use Rattle.std.proofs.lemmas.Bool.{cases_eq, eq-eqb, true≢false, or_parts, or_right}
+use Rattle.std.proofs.lemmas.List.{ext_get_or, get_or-drop, length-drop}
 use Rattle.std.proofs.lemmas.Option.{slice_get_within, get_or_from_slice_get}
 use Rattle.flag_rows.specs.Bits.{bit_of}
 use Rattle.flag_rows.proofs.ByteLaws.{bit_alike}
@@ -75,61 +76,60 @@ form_kept shape a b sets = record {
   attributes = same_four a b 52 (λ k low. sets.others (52 + k) (inr (inr (omega arith))));
 }
 
-module _ (sectors : List ℕ) (size total free : ℕ) (map : List Stretch) (header after : List ℕ) (shape : TreeShape) (old new : Space) (apart : AreApart sectors) (large : 512 ≤ size) (long : length header ≡ size)
+-- what stands behind the first sector of the header node is the same
+pub shaped_rest : (shape : TreeShape) (a b : List ℕ) → SetsShape shape a b → drop 512 a ≡ drop 512 b
+shaped_rest shape a b sets = ext_get_or 0 (drop 512 a) (drop 512 b) (omega (arith, length-drop 512 a, length-drop 512 b, sets.size))
+    (λ k low. get_or-drop 512 a k 0 ∙ sym (sets.others (512 + k) (inr (inr (omega arith)))) ∙ sym (get_or-drop 512 b k 0))
+
+module _ (sectors : List ℕ) (size total free : ℕ) (map : List Stretch) (header after : List ℕ) (shape : TreeShape) (old new : Space) (large : 512 ≤ size) (long : length header ≡ size)
     (size_is : shape.node_size ≡ size) (sets : SetsShape shape header after)
-    (puts : PutsNode (sectors_at sectors (size / 512) 0) after old new) (whole : 1 * (size / 512) ≤ length sectors) (whole_size : size / 512 * 512 ≡ size)
+    (others : (m : ℕ) → m ≢ 0 → nodes_on sectors size new.content m ≡ nodes_on sectors size old.content m) (node_zero : nodes_on sectors size new.content 0 ≡ after)
     (low : (k : ℕ) (d : Stretch) → k < length map → (get_or map k d).node ≡ 0 → 248 ≤ (get_or map k d).at)
+    (was : HasMap sectors size total free map header old.content)
   where
-    pub shaped_node : (m : ℕ) → m ≢ 0 → nodes_on sectors size new.content m ≡ nodes_on sectors size old.content m
-    shaped_node m other = node_kept sectors (size / 512) 0 m after old new puts apart other
+    grammar_zero : SameGrammar header after
+    grammar_zero = grammar_kept header after 14 44 sets.size (omega arith) (omega (arith, was.header_node.1, long, large)) (omega arith)
+        (λ k where_. sets.others k (⊎_elim (λ before. inl before) (λ behind. inr (inr behind)) where_))
 
-    pub node_zero : nodes_on sectors size new.content 0 ≡ after
-    node_zero = node_put sectors (size / 512) 0 after old new puts whole (sets.size ∙ long ∙ sym whole_size)
+    pub shaped_bytes : (m k : ℕ) → (m ≡ 0 → 44 ≤ k) → get_or (nodes_on sectors size new.content m) k 0 ≡ get_or (nodes_on sectors size old.content m) k 0
+    shaped_bytes m k high = ⊎_elim
+        (λ (e : m ≡ 0).
+        ap (λ (i : ℕ). get_or (nodes_on sectors size new.content i) k 0) e ∙ ap (λ (l : List ℕ). get_or l k 0) node_zero ∙ sets.others k (inr (inr (high e)))
+        ∙ ap (λ (l : List ℕ). get_or l k 0) (sym was.header_is) ∙ ap (λ (i : ℕ). get_or (nodes_on sectors size old.content i) k 0) (sym e))
+        (λ (other : m ≢ 0). ap (λ (l : List ℕ). get_or l k 0) (others m other))
+        (cases_eq m 0)
 
-    module _ (was : HasMap sectors size total free map header old.content) where
-      grammar_zero : SameGrammar header after
-      grammar_zero = grammar_kept header after 14 44 sets.size (omega arith) (omega (arith, was.header_node.1, long, large)) (omega arith)
-          (λ k where_. sets.others k (⊎_elim (λ before. inl before) (λ behind. inr (inr behind)) where_))
+    shaped_bits : (these : List Stretch) (n : ℕ) → ((k : ℕ) (d : Stretch) → k < length these → (get_or these k d).node ≡ 0 → 248 ≤ (get_or these k d).at) → used_in (nodes_on sectors size new.content) these n ≡ used_in (nodes_on sectors size old.content) these n
+    shaped_bits [] n far = refl
+    shaped_bits (stretch ∷ rest) n far =
+        let first : bit_of (nodes_on sectors size new.content stretch.node) (8 * stretch.at + n) ≡ bit_of (nodes_on sectors size old.content stretch.node) (8 * stretch.at + n) =
+        bit_alike (nodes_on sectors size new.content stretch.node) (nodes_on sectors size old.content stretch.node) (8 * stretch.at + n) (8 * stretch.at + n)
+        (shaped_bytes stretch.node ((8 * stretch.at + n) / 8) (λ e. omega (arith, far 0 stretch (omega arith) e))) refl in
+        let more = shaped_bits rest (n - 8 * stretch.len) (λ k d low e. far (suc k) d (omega (arith, low)) e) in
+        rw (first, more) refl
 
-      pub shaped_bytes : (m k : ℕ) → (m ≡ 0 → 44 ≤ k) → get_or (nodes_on sectors size new.content m) k 0 ≡ get_or (nodes_on sectors size old.content m) k 0
-      shaped_bytes m k high = ⊎_elim
-          (λ (e : m ≡ 0).
-          ap (λ (i : ℕ). get_or (nodes_on sectors size new.content i) k 0) e ∙ ap (λ (l : List ℕ). get_or l k 0) node_zero ∙ sets.others k (inr (inr (high e)))
-          ∙ ap (λ (l : List ℕ). get_or l k 0) (sym was.header_is) ∙ ap (λ (i : ℕ). get_or (nodes_on sectors size old.content i) k 0) (sym e))
-          (λ (other : m ≢ 0). ap (λ (l : List ℕ). get_or l k 0) (shaped_node m other))
-          (cases_eq m 0)
+    pub shaped_used : (n : ℕ) → used_in (nodes_on sectors size new.content) map n ≡ used_in (nodes_on sectors size old.content) map n
+    shaped_used n = shaped_bits map n low
 
-      shaped_bits : (these : List Stretch) (n : ℕ) → ((k : ℕ) (d : Stretch) → k < length these → (get_or these k d).node ≡ 0 → 248 ≤ (get_or these k d).at) → used_in (nodes_on sectors size new.content) these n ≡ used_in (nodes_on sectors size old.content) these n
-      shaped_bits [] n far = refl
-      shaped_bits (stretch ∷ rest) n far =
-          let first : bit_of (nodes_on sectors size new.content stretch.node) (8 * stretch.at + n) ≡ bit_of (nodes_on sectors size old.content stretch.node) (8 * stretch.at + n) =
-          bit_alike (nodes_on sectors size new.content stretch.node) (nodes_on sectors size old.content stretch.node) (8 * stretch.at + n) (8 * stretch.at + n)
-          (shaped_bytes stretch.node ((8 * stretch.at + n) / 8) (λ e. omega (arith, far 0 stretch (omega arith) e))) refl in
-          let more = shaped_bits rest (n - 8 * stretch.len) (λ k d low e. far (suc k) d (omega (arith, low)) e) in
-          rw (first, more) refl
+    pub shaped_grammar : (m : ℕ) → SameGrammar (nodes_on sectors size old.content m) (nodes_on sectors size new.content m)
+    shaped_grammar m = ⊎_elim
+        (λ (e : m ≡ 0). subst (λ i. SameGrammar (nodes_on sectors size old.content i) (nodes_on sectors size new.content i)) (sym e) (subst (λ (l : List ℕ). SameGrammar l (nodes_on sectors size new.content 0)) (sym was.header_is) (subst (λ (l : List ℕ). SameGrammar header l) (sym node_zero) grammar_zero)))
+        (λ (other : m ≢ 0). grammar_equal (nodes_on sectors size old.content m) (nodes_on sectors size new.content m) (others m other))
+        (cases_eq m 0)
 
-      pub shaped_used : (n : ℕ) → used_in (nodes_on sectors size new.content) map n ≡ used_in (nodes_on sectors size old.content) map n
-      shaped_used n = shaped_bits map n low
-
-      pub shaped_grammar : (m : ℕ) → SameGrammar (nodes_on sectors size old.content m) (nodes_on sectors size new.content m)
-      shaped_grammar m = ⊎_elim
-          (λ (e : m ≡ 0). subst (λ i. SameGrammar (nodes_on sectors size old.content i) (nodes_on sectors size new.content i)) (sym e) (subst (λ (l : List ℕ). SameGrammar l (nodes_on sectors size new.content 0)) (sym was.header_is) (subst (λ (l : List ℕ). SameGrammar header l) (sym node_zero) grammar_zero)))
-          (λ (other : m ≢ 0). grammar_equal (nodes_on sectors size old.content m) (nodes_on sectors size new.content m) (shaped_node m other))
-          (cases_eq m 0)
-
-      pub shaped_map : shape.total ≡ total → HasMap sectors size total free map after new.content
-      shaped_map total_is = record {
-        some = was.some;
-        header_is = node_zero;
-        header_node = header_kept header after grammar_zero was.header_node;
-        says_size = ap (λ (s : TreeShape). s.node_size) sets.numbers ∙ size_is;
-        says_total = ap (λ (s : TreeShape). s.total) sets.numbers ∙ total_is;
-        stretches = stretches_kept (nodes_on sectors size old.content) (nodes_on sectors size new.content) size map (λ k d inside. shaped_grammar (get_or map k d).node) was.stretches;
-        bits = was.bits;
-        counted = ap (λ (u : ℕ → Bool). free + count_by u (range_with_len 0 total)) (fun_ext shaped_used) ∙ was.counted;
-        reserved = λ m low is. shaped_used m ∙ was.reserved m low is;
-        behind = λ m high low. shaped_used m ∙ was.behind m high low;
-      }
+    pub shaped_map : shape.total ≡ total → HasMap sectors size total free map after new.content
+    shaped_map total_is = record {
+      some = was.some;
+      header_is = node_zero;
+      header_node = header_kept header after grammar_zero was.header_node;
+      says_size = ap (λ (s : TreeShape). s.node_size) sets.numbers ∙ size_is;
+      says_total = ap (λ (s : TreeShape). s.total) sets.numbers ∙ total_is;
+      stretches = stretches_kept (nodes_on sectors size old.content) (nodes_on sectors size new.content) size map (λ k d inside. shaped_grammar (get_or map k d).node) was.stretches;
+      bits = was.bits;
+      counted = ap (λ (u : ℕ → Bool). free + count_by u (range_with_len 0 total)) (fun_ext shaped_used) ∙ was.counted;
+      reserved = λ m low is. shaped_used m ∙ was.reserved m low is;
+      behind = λ m high low. shaped_used m ∙ was.behind m high low;
+    }
 
 -- ---- a bit of the map
 

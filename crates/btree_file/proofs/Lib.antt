@@ -10,6 +10,7 @@ pub mod Grammar
 pub mod Rooms
 pub mod Changing
 pub mod Frames
+pub mod FirstSector
 pub mod Sizes
 pub mod Marks
 pub mod NameLaws

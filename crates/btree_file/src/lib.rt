@@ -6,6 +6,7 @@ mod apart;
 mod attaching;
 mod counted;
 mod growing;
+mod heading;
 mod map_node;
 mod marking;
 mod numbers;

@@ -3,6 +3,7 @@ ghost use Rattle.std.specs.Prelude.{◌≡◌, ℕ, IsTrue};
 ghost use Rattle.btree_file.specs.Place.{IsInside, IsOpen};
 ghost use Rattle.btree_file.specs.State.{Agrees};
 
+use crate::heading::put_header;
 use crate::marking::{find_bit, find_clear, is_reserved, mark};
 use crate::putting::{get_node, put_node};
 use crate::tree::TreeFile;
@@ -51,13 +52,7 @@ impl<P: SectorSpace> NodeStore for TreeOn<'_, '_, P> {
             return;
         }
         tree.header.set_shape(shape);
-        put_node(
-            &mut *self.space,
-            &tree.fork,
-            tree.per_block,
-            0,
-            &tree.header,
-        );
+        put_header(&mut *self.space, &tree.fork, tree.per_block, &tree.header);
     }
 
     fn load(&mut self, node: u32, into: &mut Node) -> Result<(), Failed> {

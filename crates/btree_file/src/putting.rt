@@ -97,7 +97,7 @@ fn get_sectors<V: SectorView>(
 }
 
 /// One sector of a node.
-fn sector_of(from: &Node, k: u32) -> &Sector
+pub(crate) fn sector_of(from: &Node, k: u32) -> &Sector
     requires { k < length from.now / 512 }
     ensures { result.now ≡ slice_range from.now (k * 512) (k * 512 + 512) }
 {

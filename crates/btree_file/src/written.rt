@@ -5,6 +5,7 @@ ghost use Rattle.fork_map.specs.Blocks.{fork_sectors};
 ghost use Rattle.btree_file.specs.Place.{sectors_at};
 ghost use Rattle.btree_file.specs.State.{all_put};
 
+use crate::counted::{counted_sector, first_in_block};
 use fork_map::SummedFork;
 use sector_disk::SectorSpace;
 
@@ -19,9 +20,10 @@ pub(crate) fn is_written<P: SectorSpace>(
     requires blocks { per_block ≤ 128 }
     ensures { result ≡ all_put (P.SectorView.space space.now).put (sectors_at (fork_sectors fork.now per_block) per_node node) }
 {
+    let first = first_in_block(fork, per_block, node as u64 * per_node as u64, per_node);
     for k in 0..per_node {
         let place = node as u64 * per_node as u64 + k as u64;
-        let Some(at) = fork.sector_at(per_block, place) else {
+        let Some(at) = counted_sector(fork, per_block, place, first, k) else {
             return true;
         };
         if !space.is_put(at) {

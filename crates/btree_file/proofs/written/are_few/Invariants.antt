@@ -1,4 +1,4 @@
-use Rattle.std.proofs.Common.{◌≡◌, ◌≤◌, ◌+◌, ◌-◌, ℕ, Bool, not}
+use Rattle.std.proofs.Common.{◌≡◌, ◌≤◌, ◌+◌, ◌-◌, not}
 use Rattle.std.specs.List.{count_by, range_with_len}
 use Rattle.fork_map.specs.Blocks.{fork_sectors}
 use Rattle.btree_file.specs.Place.{sectors_at}

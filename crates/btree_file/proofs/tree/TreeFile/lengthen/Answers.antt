@@ -10,9 +10,10 @@ use Rattle.btree_file.specs.Place.{sectors_at}
 use Rattle.btree_file.specs.Putting.{unput, PutsNode}
 use Rattle.btree_file.specs.State.{sectors_of_tree, nodes_on, HasMap}
 use Rattle.btree_file.specs.declared.tree.TreeFile.{TreeFile}
-use Rattle.btree_file.proofs.Changing.{form_kept, not_header, node_zero, shaped_node, shaped_bytes, shaped_grammar, shaped_used}
+use Rattle.btree_file.proofs.Changing.{form_kept, not_header, shaped_bytes, shaped_grammar, shaped_used}
 use Rattle.btree_file.proofs.Frames.{put_within}
 use Rattle.btree_file.proofs.MoreNodes.{more_nodes, reserved_below}
+use Rattle.btree_file.proofs.NodeLaws.{node_put, node_kept}
 use Rattle.btree_file.proofs.Sizes.{tree_size, tree_large}
 use Rattle.btree_file.proofs.Rooms.{whole_node}
 use Rattle.btree_file.proofs.Spending.{puts_as, room_as, unput_as, fits, gone, fewer, spends}
@@ -61,16 +62,19 @@ module _ (tree : TreeFile) (nodes now : ℕ) (header : List ℕ) (old new : Spac
     one = whole_node nodes (tree.shape.node_size / 512) 0 (length (sectors_of_tree tree)) growing.whole (omega (arith, some_node tree nodes old growing, growing.order))
 
     node_stays : (m : ℕ) → m ≢ 0 → nodes_on (sectors_of_tree tree) tree.shape.node_size new.content m ≡ nodes_on (sectors_of_tree tree) tree.shape.node_size old.content m
-    node_stays = shaped_node (sectors_of_tree tree) tree.shape.node_size tree.shape.total tree.shape.free tree.map.items tree.header header shape old new tree.kept.apart (tree_large tree) tree.long refl sets puts one (tree_size tree).1 tree.kept.map_header
+    node_stays m other = node_kept (sectors_of_tree tree) (tree.shape.node_size / 512) 0 m header old new puts tree.kept.apart other
+
+    node_there : nodes_on (sectors_of_tree tree) tree.shape.node_size new.content 0 ≡ header
+    node_there = node_put (sectors_of_tree tree) (tree.shape.node_size / 512) 0 header old new puts one (sets.size ∙ tree.long ∙ sym (tree_size tree).1)
 
     used_stays : (n : ℕ) → used_in (nodes_on (sectors_of_tree tree) tree.shape.node_size new.content) tree.map.items n ≡ used_in (nodes_on (sectors_of_tree tree) tree.shape.node_size old.content) tree.map.items n
-    used_stays = shaped_used (sectors_of_tree tree) tree.shape.node_size tree.shape.total tree.shape.free tree.map.items tree.header header shape old new tree.kept.apart (tree_large tree) tree.long refl sets puts one (tree_size tree).1 tree.kept.map_header was
+    used_stays = shaped_used (sectors_of_tree tree) tree.shape.node_size tree.shape.total tree.shape.free tree.map.items tree.header header shape old new (tree_large tree) tree.long refl sets node_stays node_there tree.kept.map_header was
 
     map_now : HasMap (sectors_of_tree tree) tree.shape.node_size now (tree.shape.free + (now - tree.shape.total)) tree.map.items header new.content
     map_now = more_nodes (sectors_of_tree tree) tree.shape.node_size tree.shape.total now tree.shape.free tree.map.items tree.header header old.content new.content
-        (shaped_bytes (sectors_of_tree tree) tree.shape.node_size tree.shape.total tree.shape.free tree.map.items tree.header header shape old new tree.kept.apart (tree_large tree) tree.long refl sets puts one (tree_size tree).1 tree.kept.map_header was)
-        (shaped_grammar (sectors_of_tree tree) tree.shape.node_size tree.shape.total tree.shape.free tree.map.items tree.header header shape old new tree.kept.apart (tree_large tree) tree.long refl sets puts one (tree_size tree).1 tree.kept.map_header was)
-        (node_zero (sectors_of_tree tree) tree.shape.node_size tree.shape.total tree.shape.free tree.map.items tree.header header shape old new tree.kept.apart (tree_large tree) tree.long refl sets puts one (tree_size tree).1 tree.kept.map_header)
+        (shaped_bytes (sectors_of_tree tree) tree.shape.node_size tree.shape.total tree.shape.free tree.map.items tree.header header shape old new (tree_large tree) tree.long refl sets node_stays node_there tree.kept.map_header was)
+        (shaped_grammar (sectors_of_tree tree) tree.shape.node_size tree.shape.total tree.shape.free tree.map.items tree.header header shape old new (tree_large tree) tree.long refl sets node_stays node_there tree.kept.map_header was)
+        node_there
         (ap (λ (s : TreeShape). s.node_size) sets.numbers) (ap (λ (s : TreeShape). s.total) sets.numbers) (omega (arith, order)) enough tree.kept.map_inside tree.kept.map_header was
 
     new_free : (n : ℕ) → tree.shape.total ≤ n → n < now → used_in (nodes_on (sectors_of_tree tree) tree.shape.node_size new.content) tree.map.items n ≡ is_reserved tree.map.items n
