@@ -7,6 +7,7 @@ pub mod Items
 pub mod Inserting
 pub mod Removing
 pub mod Packing
+pub mod Descending
 pub mod Replacing
 pub mod Overwriting
 pub mod Descriptor

@@ -1,5 +1,6 @@
 //! What is read of a node's bytes.
 ghost use Rattle.std.specs.Prelude.{◌≡◌, ◌<◌, ◌≤◌, ℕ, ◌+◌, ◌*◌, ◌↔◌, IsTrue, [], length, slice_range, slice_index_or};
+ghost use Rattle.hx_bytes.specs.Field.{big_at};
 ghost use Rattle.btree_node.specs.Node.{IsNode, IsNodeOf, offset, record_count, items, room_beside};
 
 use crate::bytes::{count_records, get_offset};
@@ -11,25 +12,34 @@ pub(crate) fn is_well_formed(node: &[u8]) -> bool
     ensures { IsTrue result ↔ IsNode node.now }
 {
     let n = count_records(node);
-    if 2 * (n + 1) > node.len() {
+    let size = node.len();
+    if 2 * (n + 1) > size {
         return false;
     }
-    let first = get_offset(node, 0);
-    if first < 14 {
+    if get_offset(node, 0) < 14 {
         return false;
     }
-    if get_offset(node, n) + 2 * (n + 1) > node.len() {
+    if get_offset(node, n) + 2 * (n + 1) > size {
         return false;
     }
-    let mut begin = first;
-    for i in 0..n {
-        let end = get_offset(node, i + 1);
-        if end < begin {
-            return false;
-        }
-        begin = end;
+    descends(&node[size - 2 * (n + 1)..])
+}
+
+/// Whether no number of two bytes is higher than the one before it.
+fn descends(table: &[u8]) -> bool
+    requires { 2 ≤ length table.now }
+    ensures { IsTrue result ↔ ((k : ℕ) → 2 * (k + 2) ≤ length table.now → big_at 2 table.now (2 * (k + 1)) ≤ big_at 2 table.now (2 * k)) }
+{
+    // Without a branch for each number the compiler looks at many of them at once.
+    let (numbers, _rest) = table.as_chunks::<2>();
+    let mut before = read_be16(table, 0);
+    let mut descends = true;
+    for bytes in numbers {
+        let number = read_be16(bytes, 0);
+        descends &= number <= before;
+        before = number;
     }
-    true
+    descends
 }
 
 #[tactic(auto, unfolding(crate::specs::Node::kind_of, crate::specs::Node::height_of))]
