@@ -7,7 +7,7 @@ use Rattle.btree_node.specs.Node.{items}
 use Rattle.btree_node.specs.Levels.{Pair, entries, key_of, value_of}
 use Rattle.btree_node.specs.Store.{Store}
 use Rattle.btree_node.specs.Tree.{pairs_of, HasLevels, IsOrdered}
-use Rattle.btree_edit.specs.Desk.{HasKey, Finds, Picks, HoldsNone, StandsIn, IsInTree}
+use Rattle.btree_edit.specs.Desk.{HasKey, Finds, Picks, HoldsLeaf, HoldsNone, KeepsLeaf, StandsIn, IsInTree}
 use Rattle.btree_edit.specs.Reading.{LeadsTo, HasNoKey, IsPlace}
 use Rattle.btree_edit.specs.declared.desk.Desk.{Desk}
 use Rattle.btree_edit.specs.declared.finding.Found.{Found}
@@ -70,6 +70,13 @@ module _ (is_key : List ℕ → Type 0) (cmp : List ℕ → List ℕ → Orderin
           }),
         )
     stands Absent picked = tt
+
+-- and the leaf is on the desk still
+pub keeps_leaf : (is_key : List ℕ → Type 0) (cmp : List ℕ → List ℕ → Ordering) (key : List ℕ) (store : Store) (node : ℕ) (old new : Desk) → new.node ≡ old.node → HoldsLeaf store old.node node
+    → (found : Found) → Picks is_key cmp key node old new found → KeepsLeaf store new found
+keeps_leaf is_key cmp key store node old new same holds (At at index) picked =
+    subst (λ n. HoldsLeaf store new.node n) (sym picked.0) (subst (λ bytes. HoldsLeaf store bytes node) (sym same) holds)
+keeps_leaf is_key cmp key store node old new same holds Absent picked = tt
 
 -- where a pair was found, the tree has the key
 pub found_key : (cmp : List ℕ → List ℕ → Ordering) (key : List ℕ) (store : Store) (desk : Desk) (node index : ℕ) → Finds cmp key store desk (At node index) → HasKey cmp key (pairs_of store)

@@ -1,7 +1,8 @@
 -- A record of a leaf replaced by another with its key and its length: the tree is one still.
-use Rattle.std.proofs.Common.{◌≡◌, ◌≢◌, ◌⊎◌, ℕ, suc, ◌+◌, ◌-◌, ◌/◌, ◌^◌, ◌<◌, ◌≤◌, true, false, List, [], ◌∷◌, ◌++◌, map, length, take, drop, get_or, set, inl, inr, refl, sym, ◌∙◌, ap, subst, arith}
+use Rattle.std.proofs.Common.{◌≡◌, ◌≢◌, ◌⊎◌, ℕ, suc, ◌+◌, ◌-◌, ◌/◌, ◌^◌, ◌<◌, ◌≤◌, true, false, List, [], ◌∷◌, ◌++◌, map, length, take, drop, get_or, set, max, inl, inr, refl, sym, ◌∙◌, ap, subst, arith}
 use Rattle.std.proofs.lemmas.Bool.{cases_eq, cases_lt}
 use Rattle.std.proofs.lemmas.List.{length-set, length-append, length-map, append-nil, set_split, get_or_at, get_or_append_left, get_or-append_right, get_or-set_same, get_or-set_other}
+use Rattle.std.specs.Prelude.{IsTrue}
 use Rattle.std.specs.Cmp.{IsTotalOrder}
 use Rattle.std.specs.declared.cmp.Ordering.{Ordering}
 use Rattle.std.specs.declared.cmp.Ordering.TheVariants.{Less, Equal, Greater}
@@ -15,13 +16,16 @@ use Rattle.btree_node.specs.declared.store.TreeShape.{TreeShape}
 use Rattle.btree_node.proofs.Levels.{same_entries, level_spliced}
 use Rattle.btree_node.proofs.Ranks.{in_node, level_long, below_all}
 use Rattle.btree_edit.specs.Climb.{IsLevel, IsTreeBut}
+use Rattle.btree_edit.specs.Editing.{CostsAtMost}
+use Rattle.btree_edit.specs.Edits.{top_of, IsNoHigher}
+use Rattle.btree_edit.specs.Reading.{ReadsNodes}
 use Rattle.btree_edit.specs.Desk.{StandsIn, HoldsPair, Finds, IsInTree}
 use Rattle.btree_edit.specs.declared.finding.Found.{Found}
 use Rattle.btree_edit.specs.declared.finding.Found.TheVariants.{At}
 use Rattle.btree_edit.specs.declared.desk.Desk.{Desk}
 use Rattle.btree_edit.specs.LevelEdit.{bit}
 use Rattle.btree_edit.specs.Rising.{MakesTree, BoundsRoot, RootHasTwoChildren}
-use Rattle.btree_edit.specs.Swapping.{HasRecord, SwapsRecord, HasValueOf}
+use Rattle.btree_edit.specs.Swapping.{HasRecord, SwapsRecord, HasValueOf, ChangesLeafAlone}
 use Rattle.btree_edit.specs.Sorted.{ChangesPair, EditsTree}
 use Rattle.std.proofs.lemmas.List.Sums.{get_or-le-sum_by}
 use Rattle.btree_edit.proofs.Counting.{bits_changed}
@@ -439,3 +443,44 @@ thick_read old new shape read thick deep =
     let depth : new.shape.depth ≡ old.shape.depth = ap (λ h. h.depth) shape in
     let same : length (items (new.nodes new.shape.root)) ≡ length (items (old.nodes old.shape.root)) = ap (λ (h : TreeShape). length (items (new.nodes h.root))) shape ∙ ap (λ l. length (items l)) (read.nodes old.shape.root) in
     omega (arith, same, thick (omega (arith, depth, deep)))
+
+-- The pair that was found has another value of its length: what that leaves, over the search before.
+module _ {is_key : List ℕ → Type 0} {cmp : List ℕ → List ℕ → Ordering} (total : IsTotalOrder cmp) (key_length : (a : List ℕ) → is_key a → length a ≡ big_at 2 a 0 + 2)
+    (old mid new : Store) (desk : Desk) (node index : ℕ) (key value : List ℕ) (tree : IsTree is_key cmp old) (found : IsFound cmp key old desk node index) (long : length value ≡ length desk.held.value)
+    (most : ℕ) (reads : ReadsNodes most old mid) (tells : IsTrue old.tells) (small : old.shape.total < 2 ^ 32)
+    (swap : IsTrue mid.tells → HasRecord mid node index (length (desk.held.key ++ value)) → SwapsRecord node index (desk.held.key ++ value) mid new)
+    (costs : CostsAtMost 1 0 mid new) (shape : new.shape ≡ mid.shape)
+  where
+    swaps : SwapsRecord node index (desk.held.key ++ value) mid new
+    swaps = swap (reads.same.tells ∙ tells) (has_record total key_length old desk node index found.k key value tree found.stands found.holds found.item long mid reads.same ((reads.tree tells).nodes node))
+
+    pub swap_edits : EditsTree is_key cmp old new (λ before after. ChangesPair cmp key value before after)
+    swap_edits =
+        value_swapped total key_length old desk node index found.k key value tree found.stands found.holds found.item long mid new reads.same reads.shape (reads.tree tells) swaps costs.same shape (omega (arith, small)) found.equal
+
+    pub swap_alone : ChangesLeafAlone cmp key old new
+    swap_alone = record {
+      leaf = node;
+      index = index;
+      place = found.k;
+      stands = found.stands;
+      equal = ap (λ l. cmp l key) (sym found.holds.key) ∙ found.equal;
+      others = λ n other. swaps.others n other ∙ (reads.tree tells).nodes n;
+    }
+
+    pub swap_header : old.header ≡ old.shape → new.header ≡ new.shape
+    swap_header says = swaps.header ∙ (reads.tree tells).header ∙ says ∙ sym reads.shape ∙ sym shape
+
+    pub swap_top : IsNoHigher (top_of new) (top_of old)
+    swap_top =
+        let root : new.shape.root ≡ old.shape.root = ap (λ h. h.root) (shape ∙ reads.shape) in
+        let here : length (items (new.nodes old.shape.root)) ≡ length (items (mid.nodes old.shape.root)) = elim (cases_eq old.shape.root node) [
+          | inl is ↦ subst (λ m. length (items (new.nodes m)) ≡ length (items (mid.nodes m))) (sym is) (ap length swaps.items ∙ length-set (items (mid.nodes node)) index (desk.held.key ++ value))
+          | inr other ↦ ap (λ l. length (items l)) (swaps.others old.shape.root other)
+        ] in
+        let records : length (items (new.nodes new.shape.root)) ≡ length (items (old.nodes old.shape.root)) =
+        ap (λ n. length (items (new.nodes n))) root ∙ here ∙ ap (λ l. length (items l)) ((reads.tree tells).nodes old.shape.root) in
+        record {
+          depth = omega (arith, ap (λ h. h.depth) (shape ∙ reads.shape));
+          records = λ same deep. omega (arith, ap (λ n. max 1 n) records);
+        }

@@ -1,8 +1,8 @@
 -- What a search finds.
-use Rattle.std.specs.Prelude.{◌≡◌, ◌≢◌, ◌<◌, ◌≤◌, ℕ, ◌+◌, ◌-◌, ◌⊎◌, List, Bool, true, false, [], ◌++◌, ◌∷◌, length, slice_index_or}
+use Rattle.std.specs.Prelude.{◌≡◌, ◌≢◌, ◌<◌, ◌≤◌, ℕ, ◌+◌, ◌-◌, ◌⊎◌, List, Bool, true, false, IsTrue, [], ◌++◌, ◌∷◌, length, slice_index_or}
 use Rattle.std.specs.declared.cmp.Ordering.{Ordering}
 use Rattle.std.specs.declared.cmp.Ordering.TheVariants.{Greater, Equal}
-use Rattle.btree_node.specs.Node.{items}
+use Rattle.btree_node.specs.Node.{items, IsNode}
 use Rattle.btree_node.specs.Levels.{Pair, entries, key_of, value_of}
 use Rattle.btree_node.specs.Store.{Store}
 use Rattle.btree_node.specs.Tree.{level_of, pairs_of}
@@ -19,6 +19,12 @@ pub record IsDeskOf (size : ℕ) (desk : Desk) : Type 0 where
   pub first : desk.first.room ≡ size
   pub second : desk.second.room ≡ size
   pub path : length desk.path ≡ 12
+
+-- these are the bytes of this node, which the store has
+pub record HoldsLeaf (store : Store) (bytes : List ℕ) (node : ℕ) : Type 0 where
+  pub inside : node < store.shape.total
+  pub well_formed : IsNode bytes
+  pub value : IsTrue store.tells → bytes ≡ store.nodes node
 
 -- one of the pairs has this key
 abbrev pub HasKey : (List ℕ → List ℕ → Ordering) → List ℕ → List Pair → Type 0
@@ -54,6 +60,11 @@ pub record StandsIn (store : Store) (leaf index k : ℕ) : Type 0 where
 abbrev pub IsInTree : Store → Desk → Found → Type 0
 IsInTree store desk (At node index) = (k : ℕ) × HoldsPair store desk k × StandsIn store node index k
 IsInTree store desk Absent = Unit {0}
+
+-- At: the leaf with the pair is on the desk, too
+abbrev pub KeepsLeaf : Store → Desk → Found → Type 0
+KeepsLeaf store desk (At node index) = HoldsLeaf store desk.node node
+KeepsLeaf store desk Absent = Unit {0}
 
 -- the search of one leaf: where the key is, the desk has its pair; else the desk is as it was
 abbrev pub Picks : (List ℕ → Type 0) → (List ℕ → List ℕ → Ordering) → List ℕ → ℕ → Desk → Desk → Found → Type 0

@@ -31,6 +31,11 @@ pub record HasValueOf (cmp : List ℕ → List ℕ → Ordering) (key : List ℕ
   pub equal : cmp (slice_index_or (pairs_of store) place ([], [])).0 key ≡ Equal
   pub long : length (slice_index_or (pairs_of store) place ([], [])).1 ≡ size
 
+-- if a pair has this key, its value is of this length
+abbrev pub HasNoOtherLength : (List ℕ → List ℕ → Ordering) → List ℕ → ℕ → Store → Type 0
+HasNoOtherLength cmp key size store =
+    (k : ℕ) → k < length (pairs_of store) → cmp (slice_index_or (pairs_of store) k ([], [])).0 key ≡ Equal → length (slice_index_or (pairs_of store) k ([], [])).1 ≡ size
+
 -- the leaf with the pair of this key was written since the last commit
 abbrev pub IsLeafWritten : (List ℕ → List ℕ → Ordering) → List ℕ → Store → Type 0
 IsLeafWritten cmp key store = (leaf index place : ℕ) → StandsIn store leaf index place → cmp (slice_index_or (pairs_of store) place ([], [])).0 key ≡ Equal → IsTrue (store.written leaf)

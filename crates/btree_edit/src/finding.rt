@@ -3,7 +3,7 @@ ghost use Rattle.std.specs.Prelude.{◌≡◌, ◌≤◌, ◌+◌, ◌-◌, ◌<
 ghost use Rattle.btree_node.specs.Node.{IsNode};
 ghost use Rattle.btree_node.specs.Store.{HasCause};
 ghost use Rattle.btree_node.specs.Tree.{IsTree};
-ghost use Rattle.btree_edit.specs.Desk.{IsDeskOf, Finds, IsInTree, Picks};
+ghost use Rattle.btree_edit.specs.Desk.{IsDeskOf, Finds, IsInTree, KeepsLeaf, Picks};
 ghost use Rattle.btree_edit.specs.Reading.{ReadsNodes, LeadsToLeaf};
 
 use crate::desk::Desk;
@@ -95,6 +95,8 @@ pub fn find<N: NodeStore, K: KeyOrder>(
     ensures found { IsTrue (N.state store.old).tells → IfOk result (λ found. Finds K.cmp key.now (N.state store.old) desk.new found) }
     // The pair stands in that leaf of the tree.
     ensures place { IsTrue (N.state store.old).tells → IfOk result (λ found. IsInTree (N.state store.old) desk.new found) }
+    // That leaf stays on the desk.
+    ensures leaf { IfOk result (λ found. KeepsLeaf (N.state store.new) desk.new found) }
     // It loads one node a level, and changes nothing.
     ensures reads { ReadsNodes (N.state store.old).shape.depth (N.state store.old) (N.state store.new) }
     ensures desk { IsDeskOf (N.state store.old).shape.node_size desk.new }

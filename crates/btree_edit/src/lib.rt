@@ -12,6 +12,7 @@ mod room;
 mod roots;
 mod search;
 mod splitting;
+mod swapping;
 mod tracing;
 mod walking;
 
@@ -20,4 +21,5 @@ pub use edits::{Inserted, Removed, insert, remove};
 pub use finding::{Found, find};
 pub use following::next;
 pub use replacing::replace;
+pub use swapping::swap;
 pub use walking::{seek, step};

@@ -2,7 +2,7 @@
 ghost use Rattle.std.specs.Prelude.{◌≡◌, ◌≢◌, ◌≤◌, ◌<◌, ◌+◌, ◌-◌, ◌*◌, ◌/◌, ◌⊎◌, ◌++◌, IsTrue, length, OnOk, IfOk};
 ghost use Rattle.btree_node.specs.Store.{HasRoom, HasCause};
 ghost use Rattle.btree_node.specs.Tree.{IsTree, HasValues, pairs_of};
-ghost use Rattle.btree_edit.specs.Desk.{IsDeskOf};
+ghost use Rattle.btree_edit.specs.Desk.{IsDeskOf, HoldsLeaf};
 ghost use Rattle.btree_edit.specs.Editing.{CostsAtMost, edit_writes};
 ghost use Rattle.btree_edit.specs.Halves.{record_of};
 ghost use Rattle.btree_edit.specs.LevelEdit.{node_room};
@@ -15,7 +15,7 @@ use crate::desk::Desk;
 use crate::edits::{Removed, change_pair, total_of};
 use crate::finding::{Found, find};
 use crate::room::fits_value;
-use crate::search::read_node;
+use crate::swapping::{has_length, put_value, swap_value};
 use btree_node::{KeyOrder, NodeStore};
 use hx_bytes::Failed;
 
@@ -81,64 +81,7 @@ pub fn replace<N: NodeStore, K: KeyOrder>(
     }
 }
 
-/// Whether the value of the pair that was found has the length of another.
-fn has_length(desk: &Desk, value: &[u8]) -> bool
-    ensures same { IsTrue result → length value.now ≡ length desk.now.held.value }
-    ensures surely { length value.now ≡ length desk.now.held.value → IsTrue result }
-{
-    value.len() == desk.value().len()
-}
-
-/// Keeps the key of the pair that was found, with another value.
-fn put_value(desk: &mut Desk, value: &[u8])
-    ensures node { desk.new.node ≡ desk.old.node }
-    ensures other { desk.new.other ≡ desk.old.other }
-    ensures held { desk.new.held ≡ desk.old.held }
-    ensures key { length desk.old.held.key + length value.now ≤ desk.old.first.room → desk.new.first.key ≡ desk.old.held.key }
-    ensures value { length desk.old.held.key + length value.now ≤ desk.old.first.room → desk.new.first.value ≡ value.now }
-    ensures first { length desk.old.held.key + length value.now ≤ desk.old.first.room → record_of desk.new.first ≡ desk.old.held.key ++ value.now }
-    ensures room { desk.new.first.room ≡ desk.old.first.room }
-    ensures second { desk.new.second ≡ desk.old.second }
-    ensures path { desk.new.path ≡ desk.old.path }
-{
-    let key = desk.held.key();
-    if key.len() <= desk.first.room()
-        && value.len() <= desk.first.room().saturating_sub(key.len())
-    {
-        desk.first.put(key, value);
-    }
-}
-
-/// Puts the pair on the desk in the place of a record of its length in a leaf.
-fn swap_value<N: NodeStore>(
-    store: &mut N,
-    desk: &mut Desk,
-    node: u32,
-    index: u16,
-) -> Result<(), Failed>
-    requires desk { IsDeskOf (N.state store.old).shape.node_size desk.old }
-    requires room { HasRoom 1 (N.state store.old) ⊎ IsTrue ((N.state store.old).written node) }
-    ensures swaps { IsTrue (N.state store.old).tells → HasRecord (N.state store.old) node index (length (record_of desk.old.first))
-        → OnOk result (SwapsRecord node index (record_of desk.old.first) (N.state store.old) (N.state store.new)) }
-    ensures desk { IsDeskOf (N.state store.old).shape.node_size desk.new }
-    ensures shape { (N.state store.new).shape ≡ (N.state store.old).shape }
-    ensures does { CostsAtMost 1 0 (N.state store.old) (N.state store.new) }
-    ensures cause { HasCause (N.state store.old).faults (N.state store.new).faults result }
-    ensures below { N.follows store.old store.new }
-{
-    if !read_node(store, &mut desk.node, node, 1)? || index >= desk.node.count() {
-        return Ok(());
-    }
-    if desk.first.size() > desk.node.item(index).len() + 2 {
-        return Ok(());
-    }
-    desk.node
-        .replace(index, desk.first.key(), desk.first.value());
-    store.save(node, &desk.node);
-    Ok(())
-}
-
-/// Gives the pair on the desk, which stands in this leaf, another value: in the leaf alone where the lengths are the same.
+/// Gives the pair on the desk, which stands in the leaf there, another value: in the leaf alone where the lengths are the same.
 fn give_value<N: NodeStore, K: KeyOrder>(
     store: &mut N,
     desk: &mut Desk,
@@ -150,6 +93,7 @@ fn give_value<N: NodeStore, K: KeyOrder>(
     requires desk { IsDeskOf (N.state store.old).shape.node_size desk.old }
     requires key { K.is_key key.now }
     requires tree { IsTrue (N.state store.old).tells → IsTree K.is_key K.cmp (N.state store.old) }
+    requires leaf { HoldsLeaf (N.state store.old) desk.old.node node }
     requires depth { length value.now ≢ length desk.old.held.value → (N.state store.old).shape.depth ≤ 11 }
     requires free { length value.now ≢ length desk.old.held.value → (N.state store.old).shape.depth + 1 ≤ (N.state store.old).shape.free }
     requires once { length value.now ≡ length desk.old.held.value → HasRoom 1 (N.state store.old) ⊎ IsTrue ((N.state store.old).written node) }
@@ -177,10 +121,10 @@ fn give_value<N: NodeStore, K: KeyOrder>(
     ensures cause { HasCause (N.state store.old).faults (N.state store.new).faults result }
     ensures below { N.follows store.old store.new }
 {
-    let same = value.len() == desk.value().len();
-    put_value(desk, value);
-    if same {
-        return swap_value(store, desk, node, index);
+    if value.len() == desk.value().len() {
+        swap_value(store, desk, value, node, index);
+        return Ok(());
     }
+    put_value(desk, value);
     change_pair::<N, K>(store, desk, key)
 }

@@ -1,18 +1,11 @@
 -- How edits and records updated in place add up.
-use Rattle.std.proofs.Common.{◌≡◌, ◌≤◌, ◌<◌, ◌+◌, ◌*◌, ◌-◌, ◌^◌, ℕ, Bool, true, false, List, ◌∷◌, ◌++◌, length, max, inl, inr, refl, sym, ◌∙◌, ap, subst, arith}
-use Rattle.std.specs.Prelude.{IsTrue, ◌≢◌, slice_index}
-use Rattle.std.specs.declared.cmp.Ordering.{Ordering}
-use Rattle.std.proofs.lemmas.List.{length-append}
-use Rattle.std.proofs.Math.Seq.{get_or-append_seam}
-use Rattle.btree_node.specs.Keys.{IsCatalogKey, catalog_cmp}
-use Rattle.btree_node.specs.Node.{items}
+use Rattle.std.proofs.Common.{◌≡◌, ◌≤◌, ◌+◌, ◌*◌, ◌-◌, ℕ, sym, ◌∙◌, subst, arith}
+use Rattle.std.specs.Prelude.{IsTrue}
 use Rattle.btree_node.specs.Store.{Store, SameStore, HasRoom}
-use Rattle.btree_node.specs.Tree.{IsTree, level_of}
-use Rattle.btree_edit.specs.Editing.{CostsAtMost, edit_writes}
+use Rattle.btree_edit.specs.Editing.{edit_writes}
 use Rattle.btree_edit.specs.Edits.{top_of, tops, IsNoHigher, EditRoom, TakesAtMost, TakesEdits}
 use Rattle.btree_edit.specs.LevelEdit.{node_room}
 use Rattle.btree_edit.specs.Reading.{ReadsNodes}
-use Rattle.btree_edit.specs.Swapping.{ChangesLeafAlone}
 use Rattle.btree_edit.proofs.Doing.{does_both}
 use Rattle.btree_edit.proofs.EditLaws.{costs_more, deep_first, deep_then, no_higher_trans, tops_add, tops_count, tops_keep, tops_no_lower, takes_none}
 use Rattle.catalog.specs.Rooms.{UpdateRoom, UpdatesAtMost, TakesUpdates}
@@ -129,23 +122,3 @@ room_before first one others more longest store room tells =
 -- room for an update
 pub update_room : (store : Store) → (IsTrue store.tells → UpdateRoom 0 1 516 store) → IsTrue store.tells → HasRoom 1 store
 update_room store room tells = let had = room tells in fewer_writes 1 (0 * edit_writes had.room.deepest + 1) store (omega arith) had.beside
-
--- ---- a leaf written alone
-
--- A record of a leaf is changed alone: the root stays where it is an index node.
-pub top_stays : (key : List ℕ) (old new : Store) → IsTree IsCatalogKey catalog_cmp old → new.shape ≡ old.shape → ChangesLeafAlone catalog_cmp key old new → IsNoHigher (top_of new) (top_of old)
-top_stays key old new tree kept alone = record {
-  depth = omega (arith, ap (λ h. h.depth) kept);
-  records = λ same deep.
-      let root = ap (λ h. h.root) kept in
-      let items_are : length (items (new.nodes new.shape.root)) ≡ length (items (old.nodes old.shape.root)) =
-      ap (λ n. length (items (new.nodes n))) root ∙ ap (λ (l : List ℕ). length (items l)) (alone.others old.shape.root (other (omega (arith, deep, ap (λ h. h.depth) kept)))) in
-      omega (arith, ap (λ n. max 1 n) items_are);
-}
-  where
-    other : 2 ≤ old.shape.depth → old.shape.root ≢ alone.leaf
-    other deep is =
-        let stands = alone.stands in
-        let here : slice_index (level_of old (old.shape.depth - 1)) (length stands.front) ≡ alone.leaf = ap (λ l. slice_index l (length stands.front)) stands.is ∙ get_or-append_seam stands.front alone.leaf stands.back 0 in
-        let inside : length stands.front < length (level_of old (old.shape.depth - 1)) = omega (arith, ap (λ (l : List ℕ). length l) stands.is, length-append stands.front (alone.leaf ∷ stands.back)) in
-        omega (arith, deep, (tree.mapped.distinct 0 0 (old.shape.depth - 1) (length stands.front) (omega (arith, deep)) (omega arith) (omega (arith, deep)) inside (is ∙ sym here)).0)

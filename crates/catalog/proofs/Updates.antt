@@ -1,30 +1,24 @@
 -- An entry with another record in its place.
-use Rattle.std.proofs.Common.{◌≡◌, ◌⊎◌, ℕ, ◌<◌, ◌≤◌, ◌+◌, ◌*◌, Bool, true, false, List, [], length, refl, sym, ◌∙◌, ap, subst, arith}
-use Rattle.std.specs.Prelude.{slice_index_or, IsTrue, T, Some, None, Option}
+use Rattle.std.proofs.Common.{◌≡◌, ℕ, ◌<◌, List, [], length, ◌∙◌, ap}
+use Rattle.std.specs.Prelude.{slice_index_or, Some}
 use Rattle.std.specs.Option.{option_map}
 use Rattle.std.specs.declared.cmp.Ordering.TheVariants.{Equal}
 use Rattle.btree_node.specs.Keys.{IsCatalogKey, catalog_cmp}
 use Rattle.btree_node.specs.Levels.{Pair}
-use Rattle.btree_node.specs.Store.{Store, HasRoom}
+use Rattle.btree_node.specs.Store.{Store}
 use Rattle.btree_node.specs.Tree.{IsTree, pairs_of}
 use Rattle.btree_edit.specs.Answers.{AnswersRemove}
-use Rattle.btree_edit.specs.Sorted.{ReplacesPair, ChangesPair}
-use Rattle.btree_edit.specs.Desk.{HasKey, HoldsPair}
-use Rattle.btree_edit.specs.Editing.{CostsAtMost}
-use Rattle.btree_edit.specs.Reading.{ReadsNodes}
-use Rattle.btree_edit.specs.Swapping.{HasValueOf}
-use Rattle.btree_edit.specs.declared.desk.Desk.{Desk}
-use Rattle.btree_edit.proofs.Doing.{does_read, does_both}
+use Rattle.btree_edit.specs.Sorted.{ReplacesPair}
 use Rattle.btree_edit.specs.declared.edits.Removed.{Removed}
 use Rattle.btree_edit.specs.declared.edits.Removed.TheVariants as removed
-use Rattle.cat_records.specs.Records.{catalog_of, catalog_bytes, is_catalog}
+use Rattle.cat_records.specs.Records.{catalog_of}
 use Rattle.cat_records.specs.declared.record.CatRecord.{CatRecord}
-use Rattle.hfs_volume.specs.Changes.{Swaps, Spells}
+use Rattle.hfs_volume.specs.Changes.{Spells}
 use Rattle.hfs_volume.specs.Entries.{AreSpelled}
 use Rattle.hfs_volume.specs.Records.{Placed, placed_of, placed_in, record_at}
 use Rattle.catalog.specs.Pairs.{IsKeyOf}
-use Rattle.catalog.specs.Entries.{AnswersRemoval, Updating, UpdatesEntry}
-use Rattle.catalog.proofs.Places.{no_record_no_key, no_key_no_record, is_under, tree_ascends, tied_is_found}
+use Rattle.catalog.specs.Entries.{AnswersRemoval, Updating}
+use Rattle.catalog.proofs.Places.{no_record_no_key, no_key_no_record, tree_ascends, tied_is_found}
 use Rattle.catalog.proofs.Standing.{record_at-key, tied_stands, changed_swaps}
 
 pub removal_answer : (parent : ℕ) (name key : List ℕ) (store : Store) (answer : Removed) → IsKeyOf parent name key → AnswersRemove catalog_cmp key store answer
@@ -62,29 +56,3 @@ updating_of parent name key value rec store new removed.Done tree spelled is spe
       is_other = record { stands = own_key pair value rec (value_is (record { parent = parent; name = name; value = rec }) key value spells.stands); spelled = spells.spelled };
       swapped = changed_swaps key value (pairs_of store) new replaces;
     }
-
--- ---- over the search before
-
-pub has_value : (s read : Store) (desk : Desk) (key value : List ℕ) → IsTrue read.tells → pairs_of read ≡ pairs_of s → catalog_cmp desk.held.key key ≡ Equal → (k : ℕ) → HoldsPair s desk k
-    → ((k : ℕ) → k < length (pairs_of s) → catalog_cmp (slice_index_or (pairs_of s) k ([], [])).0 key ≡ Equal → length (slice_index_or (pairs_of s) k ([], [])).1 ≡ length value)
-    → HasValueOf catalog_cmp key (length value) read
-has_value s read desk key value tells same ties k holds long =
-    let tied = sym (ap (λ l. catalog_cmp l key) holds.key) ∙ ties in
-    record {
-      tells = tells;
-      place = k;
-      inside = subst (λ (l : List Pair). k < length l) (sym same) holds.inside;
-      equal = subst (λ (l : List Pair). catalog_cmp (slice_index_or l k ([], [])).0 key ≡ Equal) (sym same) tied;
-      long = subst (λ (l : List Pair). length (slice_index_or l k ([], [])).1 ≡ length value) (sym same) (long k holds.inside tied);
-    }
-
-pub answer_read : (s read : Store) (key : List ℕ) (answer : Removed) → pairs_of read ≡ pairs_of s → AnswersRemove catalog_cmp key read answer → AnswersRemove catalog_cmp key s answer
-answer_read s read key removed.Absent same answers = λ has. answers (subst (λ l. HasKey catalog_cmp key l) (sym same) has)
-answer_read s read key removed.Done same answers = subst (λ l. HasKey catalog_cmp key l) same answers
-
--- the search, and one write
-pub read_and_written : (most : ℕ) (s read new : Store) → ReadsNodes most s read → s.faults ≤ read.faults → CostsAtMost 1 0 read new → CostsAtMost 1 0 s new
-read_and_written most s read new reads later costs = does_both 0 0 1 0 1 0 (does_read most reads later) costs (omega arith) (omega arith)
-
-pub room_read : (most : ℕ) (s read : Store) → ReadsNodes most s read → HasRoom 1 s → HasRoom 1 read
-room_read most s read reads room = omega (arith, room, reads.room.unwritten, reads.room.writes_left)

@@ -1,14 +1,11 @@
 //! Entries with another record in their place.
-ghost use Rattle.std.specs.Prelude.{◌≡◌, ◌≤◌, ◌<◌, ◌+◌, ℕ, [], false, Some, IsTrue, length, OnOk, IfOk, slice_index_or};
-ghost use Rattle.std.specs.declared.cmp.Ordering.TheVariants.{Equal};
+ghost use Rattle.std.specs.Prelude.{◌≡◌, ◌≤◌, false, Some, IsTrue, length, OnOk, IfOk};
 ghost use Rattle.btree_node.specs.Keys.{IsCatalogKey, catalog_cmp};
-ghost use Rattle.btree_node.specs.Store.{HasCause, HasRoom, SameStore};
+ghost use Rattle.btree_node.specs.Store.{HasRoom, SameStore};
 ghost use Rattle.btree_node.specs.Tree.{IsTree, pairs_of};
-ghost use Rattle.btree_edit.specs.Answers.{AnswersRemove};
 ghost use Rattle.btree_edit.specs.Causes.{HasTroubleCause};
 ghost use Rattle.btree_edit.specs.Desk.{IsDeskOf};
 ghost use Rattle.btree_edit.specs.Editing.{CostsAtMost};
-ghost use Rattle.btree_edit.specs.Sorted.{ReplacesPair};
 ghost use Rattle.cat_records.specs.Fits.{FitsRecord};
 ghost use Rattle.hfs_volume.specs.Entries.{AreSpelled};
 ghost use Rattle.hfs_volume.specs.Records.{Placed, placed_in, record_at, is_thread};
@@ -16,10 +13,10 @@ ghost use Rattle.catalog.specs.Rooms.{TakesUpdates, UpdatesAtMost};
 ghost use Rattle.catalog.specs.Entries.{AnswersRemoval, Updating, IsOfKind};
 
 use crate::pair::record_pair;
-use btree_edit::{Desk, Found, Removed, find, replace};
+use btree_edit::{Desk, Removed, swap};
 use btree_node::{CatalogOrder, NodeStore};
 use cat_records::CatRecord;
-use hx_bytes::{Failed, Trouble, Units};
+use hx_bytes::{Trouble, Units};
 use std::alloc::Global;
 
 /// Gives an entry another record, of its kind and CNID, and so of its length: its leaf alone is written.
@@ -58,43 +55,6 @@ pub fn update<N: NodeStore>(
     ensures below { N.follows store.old store.new }
 {
     let pair = record_pair(alloc, parent, name, rec)?;
-    let answer = swap_value(store, desk, pair.key.as_slice(), pair.value.as_slice())?;
+    let answer = swap::<N, CatalogOrder>(store, desk, pair.key.as_slice(), pair.value.as_slice())?;
     Ok(answer)
-}
-
-/// Gives the pair with a key a value of the length of the old one.
-fn swap_value<N: NodeStore>(
-    store: &mut N,
-    desk: &mut Desk,
-    key: &[u8],
-    value: &[u8],
-) -> Result<Removed, Failed>
-    requires desk { IsDeskOf (N.state store.old).shape.node_size desk.old }
-    requires size { 4096 ≤ (N.state store.old).shape.node_size }
-    requires tree { IsTrue (N.state store.old).tells → IsTree IsCatalogKey catalog_cmp (N.state store.old) }
-    requires key { IsCatalogKey key.now }
-    requires short { length key.now + length value.now ≤ 766 }
-    requires long { IsTrue (N.state store.old).tells → (k : ℕ) → k < length (pairs_of (N.state store.old)) → catalog_cmp (slice_index_or (pairs_of (N.state store.old)) k ([], [])).0 key.now ≡ Equal
-        → length (slice_index_or (pairs_of (N.state store.old)) k ([], [])).1 ≡ length value.now }
-    requires room { IsTrue (N.state store.old).tells → HasRoom 1 (N.state store.old) }
-    ensures answer { IsTrue (N.state store.old).tells → IfOk result (λ answer. AnswersRemove catalog_cmp key.now (N.state store.old) answer) }
-    ensures pairs { IsTrue (N.state store.old).tells → IfOk result (λ answer. ReplacesPair catalog_cmp key.now value.now (pairs_of (N.state store.old)) (pairs_of (N.state store.new)) answer) }
-    ensures tree { IsTrue (N.state store.old).tells → OnOk result (IsTree IsCatalogKey catalog_cmp (N.state store.new)) }
-    ensures takes { IsTrue (N.state store.old).tells → CostsAtMost 1 0 (N.state store.old) (N.state store.new) }
-    ensures shape { IsTrue (N.state store.old).tells → (N.state store.new).shape ≡ (N.state store.old).shape }
-    ensures header { IsTrue (N.state store.old).tells → (N.state store.old).header ≡ (N.state store.old).shape → OnOk result ((N.state store.new).header ≡ (N.state store.new).shape) }
-    ensures edits { OnOk result (TakesUpdates 0 1 516 (N.state store.old) (N.state store.new)) }
-    ensures most { UpdatesAtMost 0 1 516 (N.state store.old) (N.state store.new) }
-    ensures desk { IsDeskOf (N.state store.old).shape.node_size desk.new }
-    ensures same { SameStore (N.state store.old) (N.state store.new) }
-    ensures cause { HasCause (N.state store.old).faults (N.state store.new).faults result }
-    ensures below { N.follows store.old store.new }
-{
-    match find::<N, CatalogOrder>(store, desk, key)? {
-        Found::Absent => Ok(Removed::Absent),
-        Found::At { .. } => {
-            let answer = replace::<N, CatalogOrder>(store, desk, key, value)?;
-            Ok(answer)
-        }
-    }
 }

@@ -1,20 +1,7 @@
-use Rattle.std.proofs.Common.{◌≡◌, ◌≤◌, ◌+◌, ◌++◌, length, OnOk, ap, sym, ◌∙◌, subst, arith}
+use Rattle.std.proofs.Common.{◌≤◌, ◌+◌, length, OnOk, ap, ◌∙◌, subst, arith}
 use Rattle.std.proofs.lemmas.List.{length-append}
-use Rattle.btree_edit.specs.Halves.{record_of}
 use Rattle.btree_edit.specs.Sorted.{ChangesPair, EditsTree}
-use Rattle.btree_edit.specs.Swapping.{HasRecord, SwapsRecord}
-use Rattle.btree_edit.proofs.Swaps.{record_short}
 use Rattle.btree_edit.proofs.replacing.give_value.Goals as goal
-
-pub returns-then-same-clause-swaps : goal.returns-then-same-clause-swaps
-returns-then-same-clause-swaps g c = λ size tells has.
-    let s = g.N.NodeStore.state c.args.store.now in
-    let bytes = c.args.desk.now.held.key ++ c.args.value.now in
-    let short = record_short s c.args.node c.args.index (length bytes) has in
-    let first_is : record_of c.put_value.new.desk.first ≡ bytes =
-    c.put_value.ensures.first (omega (arith, short, length-append c.args.desk.now.held.key c.args.value.now, c.requires.desk.first)) in
-    subst (λ b. OnOk c.swap_value.result (SwapsRecord c.args.node c.args.index b s (g.N.NodeStore.state c.swap_value.new.store))) first_is
-    (c.swap_value.ensures.swaps tells (subst (λ b. HasRecord s c.args.node c.args.index (length b)) (sym first_is) has))
 
 pub returns-clause-changes : goal.returns-clause-changes
 returns-clause-changes g c = λ other tells wide short stored.

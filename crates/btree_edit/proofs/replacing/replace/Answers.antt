@@ -6,6 +6,7 @@ use Rattle.std.proofs.lemmas.List.Elements.{All-same}
 use Rattle.btree_node.specs.Levels.{Pair}
 use Rattle.btree_node.specs.Store.{HasRoom}
 use Rattle.btree_node.specs.Tree.{pairs_of}
+use Rattle.btree_edit.specs.Desk.{KeepsLeaf}
 use Rattle.btree_edit.specs.LevelEdit.{node_room}
 use Rattle.btree_edit.specs.Rising.{BoundsRoot, RootHasTwoChildren}
 use Rattle.btree_edit.specs.Sorted.{ChangesPair, EditsTree}
@@ -28,6 +29,9 @@ give_value-requires-clause-tree g c = λ told.
     let tells : IsTrue s.tells = subst (λ b. IsTrue b) reads.same.tells told in
     let small : m.shape.total ≤ 2 ^ 32 = omega (arith, reads.same.total, ap (λ h. h.total) c.shape-shape.ensures, c.total_of-total.ensures, c.total_of-total.type_inv) in
     tree_kept g.met.K.KeyOrder.key_length s m (c.requires.tree tells) small reads.shape (reads.tree tells).nodes (reads.tree tells).used reads.same.reserved
+
+pub give_value-requires-clause-leaf : goal.give_value-requires-clause-leaf
+give_value-requires-clause-leaf g c = subst (λ found. KeepsLeaf (g.N.NodeStore.state c.find.new.store) c.find.new.desk found) c.in-At.is c.in_ok-node.ensures.leaf
 
 pub fail-requires : goal.fail-requires
 fail-requires g c =
