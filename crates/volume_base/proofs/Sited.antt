@@ -16,7 +16,10 @@ use Rattle.hfs_volume.specs.Content.{VolumeState, volume_of, overflow_in_volume}
 use Rattle.hfs_volume.specs.Records.{is_empty}
 use Rattle.hfs_volume.specs.TreeOf.{tree_of}
 use Rattle.volume_base.specs.Lists.{lists_of}
-use Rattle.volume_base.specs.Making.{IsSite, free_place, making, site_in, site_under}
+use Rattle.catalog.specs.Pairs.{value_at}
+use Rattle.volume_base.specs.Making.{IsSite, free_place, making, site_in, site_under, untaken}
+use Rattle.volume_base.specs.Reaching.{folder_in, named}
+use Rattle.volume_base.specs.declared.reaching.Reached.{Reached}
 use Rattle.volume_base.specs.Standing.{HoldsTrees, IsSettled}
 use Rattle.volume_base.specs.declared.volume.Volume.{Volume}
 use Rattle.volume_base.proofs.Listed.{entries_are}
@@ -46,7 +49,25 @@ site_is pairs above name =
     ap (λ b. then_ (if b then Err refusal.Root else Ok (above ++ name ∷ [])) (λ some. site_under pairs (front some) (last_name some))) (not_root above name)
     ∙ (λ i. site_under pairs (front-last above name i) (last_name-last above name i))
 
+untaken_is : (n id : ℕ) (there : Result Reached Refusal) → untaken n there ≡ Ok id → n ≡ id
+untaken_is n id (Ok at) is = let never : Err refusal.Exists ≡ Ok id = is in cc never
+untaken_is n id (Err why) is = let same : Ok n ≡ Ok id = is in cc same
+
+-- where a name may be made under a path, the path reaches its folder
+pub folder_under : (pairs : List Pair) (above : List (List ℕ)) (name : List ℕ) (id : ℕ) → site_under pairs above name ≡ Ok id → folder_in pairs above ≡ Ok id
+folder_under pairs above name id = by (folder_in pairs above)
+  where
+    by : (r : Result ℕ Refusal) → then_ r (λ n. untaken n (named (value_at pairs n name))) ≡ Ok id → r ≡ Ok id
+    by (Ok n) is = ap Ok (untaken_is n id (named (value_at pairs n name)) is)
+    by (Err why) is = let never : Err why ≡ Ok id = is in cc never
+
 -- ---- over a settled volume
+
+site_allowed : (name : List ℕ) (said : Result ℕ Refusal) (at : Place) → SameSite name said (Ok at) → (said ≡ Ok at.folder) × (at ≡ free_place at.folder name)
+site_allowed name (Ok id) at same =
+    let number : id ≡ at.folder = sym (ap (λ (p : Place). p.folder) same) in
+    (ap Ok number, same ∙ ap (λ n. free_place n name) number)
+site_allowed name (Err why) at never = absurd never
 
 told_ok : (name : List ℕ) (id : ℕ) (r : Result Place Refusal) → SameSite name (Ok id) r → r ≡ Ok (free_place id name)
 told_ok name id (Ok at) same = ap Ok same
@@ -75,6 +96,19 @@ module _ (law : SoundHasPlainTree) (v : Volume) (content : Content) (holds : Hol
     -- the place that was told
     pub site_told : (id : ℕ) → said ≡ Ok id → to_make (tree_of content) path ≡ Ok (free_place id name)
     site_told id ok = told_ok name id (to_make (tree_of content) path) (subst (λ (r : Result ℕ Refusal). SameSite name r (to_make (tree_of content) path)) ok tells)
+
+    -- the folder of a place that may be made is reached by the path above its name
+    pub folder_allowed : (at : Place) → to_make (tree_of content) path ≡ Ok at → (folder_in (lists_of v content).catalog_pairs above ≡ Ok at.folder) × (at ≡ free_place at.folder name)
+    folder_allowed at is =
+        let it = site_allowed name said at (subst (λ (r : Result Place Refusal). SameSite name said r) is tells) in
+        (folder_under (lists_of v content).catalog_pairs above name at.folder (sym found ∙ it.0), it.1)
+
+    -- where something may be made, the folder that the path above reaches is the one that was told
+    pub site_reached : (at : Place) → to_make (tree_of content) path ≡ Ok at → (id : ℕ) → folder_in (lists_of v content).catalog_pairs above ≡ Ok id → said ≡ Ok id
+    site_reached at is id reached = found_is ∙ sym (folder_under (lists_of v content).catalog_pairs above name at.folder (sym found ∙ found_is)) ∙ reached
+      where
+        found_is : said ≡ Ok at.folder
+        found_is = (site_allowed name said at (subst (λ (r : Result Place Refusal). SameSite name said r) is tells)).0
 
     pub is_site : (id : ℕ) → said ≡ Ok id → IsSite (tree_of content) id name
     is_site id ok = record {

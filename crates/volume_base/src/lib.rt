@@ -67,5 +67,5 @@ pub use removing::Leaving;
 pub use room::{FreeBlocks, count_extents};
 pub use valuing::delete_value;
 pub use volume::{Kept, ROOT, Tree, Volume};
-pub use watching::Standing;
+pub use watching::{Standing, one_change};
 pub use weighing::{Edits, Weight, is_measured};

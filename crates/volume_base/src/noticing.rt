@@ -43,7 +43,7 @@ impl Volume {
         ensures cause { HasTroubleCause (P.SectorView.space space.old).faults (P.SectorView.space space.new).faults result }
     {
         sound_has_plain_tree();
-        match self.site(alloc, space, above, name)? {
+        match self.folder(alloc, space, above)? {
             Ok(id) => {
                 let next = self.header.next_catalog_id;
                 Ok(one_change(alloc, line, ChangeKind::Made, next, id, name)?)

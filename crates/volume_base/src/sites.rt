@@ -8,6 +8,7 @@ ghost use Rattle.hfs_language.specs.Written.{FitsPath};
 ghost use Rattle.volume_base.specs.Looking.{IsCatalogOver, ReadsTree, ReadsVolume};
 ghost use Rattle.volume_base.specs.Lists.{lists_of};
 ghost use Rattle.volume_base.specs.Making.{site_under, untaken};
+ghost use Rattle.volume_base.specs.Reaching.{folder_in};
 ghost use Rattle.volume_base.specs.Standing.{IsSettled, StandsOver};
 
 use crate::looking::lookup_record;
@@ -58,6 +59,33 @@ pub(crate) fn find_site<P: SectorSpace>(
 }
 
 impl Volume {
+    /// The CNID of the folder that a path reaches, or the first reason against it. `Memory` comes where memory is wanting, `Disk` where
+    /// a read failed.
+    pub fn folder<P: SectorSpace>(
+        &mut self,
+        alloc: Global,
+        space: &mut P,
+        path: &[Units],
+    ) -> Result<Result<u32, Refusal>, Trouble>
+        requires stands { StandsOver self.old (P.SectorView.space space.old) }
+        requires settled { IsTrue (P.SectorView.space space.old).tells → IsSettled self.old (P.SectorView.space space.old).content }
+        requires fits { FitsPath path.now }
+        ensures found { IsTrue (P.SectorView.space space.old).tells → IfOk result (λ said. said ≡ folder_in (lists_of self.old (P.SectorView.space space.old).content).catalog_pairs path.now) }
+        ensures reads { ReadsVolume self.old self.new (P.SectorView.space space.old) (P.SectorView.space space.new) }
+        ensures stands { StandsOver self.new (P.SectorView.space space.new) }
+        ensures settled { IsTrue (P.SectorView.space space.old).tells → IsSettled self.new (P.SectorView.space space.new).content }
+        ensures below { P.SectorView.follows space.old space.new }
+        ensures cause { HasTroubleCause (P.SectorView.space space.old).faults (P.SectorView.space space.new).faults result }
+    {
+        find_folder(
+            alloc,
+            &mut self.catalog.file,
+            &mut self.catalog.desk,
+            space,
+            path,
+        )
+    }
+
     /// The folder that a path reaches, if this name may be made in it; or the first reason against it.
     pub fn site<P: SectorSpace>(
         &mut self,

@@ -34,8 +34,8 @@ pub struct Standing {
     pub parent: u32,
 }
 
-/// One change, of a line with this number.
-pub(crate) fn one_change(
+/// One change, of a line with this number. `Err` comes where memory is wanting.
+pub fn one_change(
     alloc: Global,
     line: u64,
     kind: ChangeKind,

@@ -8,6 +8,7 @@ pub mod Deepening
 pub mod DroppedOne
 pub mod EditsFit
 pub mod EditsLeft
+pub mod Fine
 pub mod FirstBoth
 pub mod FirstMade
 pub mod LastFile

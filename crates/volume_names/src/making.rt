@@ -100,7 +100,7 @@ pub(crate) fn add_new<P: SectorSpace>(
 }
 
 /// Makes a folder or file of this name in the folder with this CNID.
-fn make_in<P: SectorSpace>(
+pub(crate) fn make_in<P: SectorSpace>(
     volume: &mut Volume,
     alloc: Global,
     space: &mut P,

@@ -15,12 +15,12 @@ ghost use Rattle.volume_step.specs.Loads.{IsWithinLoad};
 ghost use Rattle.volume_step.specs.Steps.{Affords, IsDoneOk, IsMet, KeepsJournal, StepsTo};
 
 use crate::outcome::Outcome;
-use hfs_language::Path;
+use hfs_language::{Path, Reply};
 use hx_bytes::Trouble;
 use sector_disk::SectorSpace;
 use std::alloc::Global;
 use volume_base::Volume;
-use volume_names::{create, fits_make, fits_move, mkdir, mv};
+use volume_names::{fits_make, fits_move, make_fine, mv};
 
 /// Makes a folder. Where the room that there is doesn't suffice, a commit comes first.
 pub(crate) fn make_folder<P: SectorSpace>(
@@ -48,12 +48,14 @@ pub(crate) fn make_folder<P: SectorSpace>(
     ensures below { P.SectorView.follows space.old space.new }
     ensures cause { HasTroubleCause (P.SectorView.space space.old).faults (P.SectorView.space space.new).faults result }
 {
-    let changes = volume.change_made(alloc, space, number, path)?;
     if !fits_make(volume, space) {
         return Ok(Outcome::CommitFirst);
     }
-    let reply = mkdir(volume, alloc, space, path)?;
-    Ok(Outcome::Answered { reply, changes })
+    let changes = make_fine(volume, alloc, space, number, path, true)?;
+    Ok(Outcome::Answered {
+        reply: Reply::Ok,
+        changes,
+    })
 }
 
 /// Makes an empty file. Where the room that there is doesn't suffice, a commit comes first.
@@ -82,12 +84,14 @@ pub(crate) fn make_file<P: SectorSpace>(
     ensures below { P.SectorView.follows space.old space.new }
     ensures cause { HasTroubleCause (P.SectorView.space space.old).faults (P.SectorView.space space.new).faults result }
 {
-    let changes = volume.change_made(alloc, space, number, path)?;
     if !fits_make(volume, space) {
         return Ok(Outcome::CommitFirst);
     }
-    let reply = create(volume, alloc, space, path)?;
-    Ok(Outcome::Answered { reply, changes })
+    let changes = make_fine(volume, alloc, space, number, path, false)?;
+    Ok(Outcome::Answered {
+        reply: Reply::Ok,
+        changes,
+    })
 }
 
 /// Moves a folder or file. Where the room that there is doesn't suffice, a commit comes first.
