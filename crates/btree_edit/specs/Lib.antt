@@ -8,6 +8,7 @@ pub mod Walking
 pub mod LevelEdit
 pub mod Climb
 pub mod Way
+pub mod Ended
 pub mod Rising
 pub mod Halves
 pub mod Writes

@@ -1,7 +1,11 @@
 //! An edit from the leaf of a key up to the root.
 ghost use Rattle.std.specs.Prelude.{◌≡◌, ◌≢◌, ◌≤◌, ◌<◌, ◌+◌, ◌*◌, ◌-◌, ◌^◌, ◌⊎◌, ◌∷◌, [], IsTrue, length, OnOk, IfOk};
+ghost use Rattle.btree_node.specs.Node.{IsNodeOf};
 ghost use Rattle.btree_node.specs.Store.{HasRoom, HasCause};
-ghost use Rattle.btree_edit.specs.Desk.{IsDeskOf};
+ghost use Rattle.btree_node.specs.Tree.{kind_at};
+ghost use Rattle.btree_edit.specs.Desk.{IsDeskOf, HoldsLeaf};
+ghost use Rattle.btree_edit.specs.Ended.{EndsAt};
+ghost use Rattle.btree_edit.specs.Reading.{ReadsNodes};
 ghost use Rattle.btree_edit.specs.Editing.{CostsAtMost};
 ghost use Rattle.btree_edit.specs.Halves.{record_of};
 ghost use Rattle.btree_edit.specs.LevelEdit.{records_on};
@@ -11,10 +15,35 @@ use crate::desk::Desk;
 use crate::levels::{NodePlace, edit_level};
 use crate::roots::{Propagated, finish_at_root, first_leaf, write_tree_header};
 use crate::search::{kind_at, read_node};
-use btree_node::{KeyOrder, NodeStore, TreeShape};
+use btree_node::{KeyOrder, Node, NodeStore, TreeShape};
 use hx_bytes::Failed;
 
-/// Changes the leaf at the end of the way, and then each level above as far as it is told. It takes at most `spare` nodes.
+/// Brings the node at a height of the way to the desk, where the leaf is already, and tells whether it is one of this height.
+fn bring_node<N: NodeStore>(
+    store: &mut N,
+    into: &mut Node,
+    number: u32,
+    height: u16,
+) -> Result<bool, Failed>
+    requires size { length into.old ≡ (N.state store.old).shape.node_size }
+    requires leaf { height ≡ 1 → HoldsLeaf (N.state store.old) into.old number }
+    requires is_leaf { height ≡ 1 → IsNodeOf (kind_at 1) 1 into.old }
+    ensures inside { IfOk result (λ yes. IsTrue yes → number < (N.state store.old).shape.total) }
+    ensures is_node { IfOk result (λ yes. IsTrue yes → IsNodeOf (kind_at height) height into.new) }
+    ensures value { IsTrue (N.state store.old).tells → IfOk result (λ yes. IsTrue yes → into.new ≡ (N.state store.old).nodes number) }
+    ensures sound { IsTrue (N.state store.old).tells → number < (N.state store.old).shape.total → IsNodeOf (kind_at height) height ((N.state store.old).nodes number) → height < 256 → IfOk result (λ yes. IsTrue yes) }
+    ensures size { length into.new ≡ length into.old }
+    ensures reads { ReadsNodes 1 (N.state store.old) (N.state store.new) }
+    ensures cause { HasCause (N.state store.old).faults (N.state store.new).faults result }
+    ensures below { N.follows store.old store.new }
+{
+    if height == 1 {
+        return Ok(true);
+    }
+    read_node(store, into, number, height)
+}
+
+/// Changes the leaf on the desk, at the end of the way, and then each level above as far as it is told. It takes at most `spare` nodes.
 fn propagate<N: NodeStore, K: KeyOrder>(
     store: &mut N,
     desk: &mut Desk,
@@ -25,6 +54,7 @@ fn propagate<N: NodeStore, K: KeyOrder>(
     spare: u32,
 ) -> Result<Propagated, Failed>
     requires desk { IsDeskOf (N.state store.old).shape.node_size desk.old }
+    requires there { EndsAt (N.state store.old) shape.old.depth desk.old.node desk.old.path }
     requires few { count ≤ 2 }
     requires depth { shape.old.depth ≤ 12 }
     requires room { HasRoom (4 * shape.old.depth) (N.state store.old) }
@@ -49,7 +79,7 @@ fn propagate<N: NodeStore, K: KeyOrder>(
     for done in 0..depth {
         let height = done + 1;
         let stop = desk.path[(depth - height) as usize];
-        if !read_node(store, &mut desk.node, stop.node, height)? {
+        if !bring_node(store, &mut desk.node, stop.node, height)? {
             return Ok(Propagated {
                 count: 1,
                 budget,
@@ -101,6 +131,7 @@ fn propagate_and_finish<N: NodeStore, K: KeyOrder>(
     spare: u32,
 ) -> Result<(), Failed>
     requires desk { IsDeskOf (N.state store.old).shape.node_size desk.old }
+    requires there { EndsAt (N.state store.old) shape.old.depth desk.old.node desk.old.path }
     requires few { count ≤ 2 }
     requires depth { shape.old.depth ≤ 12 }
     requires room { HasRoom (4 * shape.old.depth + 5) (N.state store.old) }
@@ -132,6 +163,7 @@ pub(crate) fn rebuild<N: NodeStore, K: KeyOrder>(
     records: u32,
 ) -> Result<(), Failed>
     requires desk { IsDeskOf (N.state store.old).shape.node_size desk.old }
+    requires there { EndsAt (N.state store.old) shape.old.depth desk.old.node desk.old.path }
     requires few { count ≤ 2 }
     requires depth { shape.old.depth ≤ 12 }
     requires room { HasRoom (4 * shape.old.depth + 6) (N.state store.old) }

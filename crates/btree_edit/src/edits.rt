@@ -9,7 +9,8 @@ ghost use Rattle.btree_edit.specs.Halves.{record_of};
 ghost use Rattle.btree_edit.specs.LevelEdit.{node_room};
 ghost use Rattle.btree_edit.specs.Rising.{BoundsRoot, RootHasTwoChildren, MakesTree, IsLeafRecord};
 ghost use Rattle.btree_edit.specs.Sorted.{AddsPair, DropsPair, ChangesPair, HoldsKeyOf, InsertsPair, RemovesPair, KeepsFreeNodes, EditsTree};
-ghost use Rattle.btree_edit.specs.Way.{stop_at, LeadsWay};
+ghost use Rattle.btree_edit.specs.Way.{LeadsWay};
+ghost use Rattle.btree_edit.specs.Ended.{EndsAt};
 ghost use Rattle.btree_edit.specs.Answers.{AnswersInsert, AnswersRemove};
 ghost use Rattle.btree_edit.specs.declared.edits.Inserted.TheVariants as Inserted;
 ghost use Rattle.btree_edit.specs.declared.edits.Removed.TheVariants as Removed;
@@ -93,7 +94,7 @@ fn add<N: NodeStore, K: KeyOrder>(
     requires key { K.is_key key.now }
     requires tree { IsTrue (N.state store.old).tells → IsTree K.is_key K.cmp (N.state store.old) }
     requires way { IsTrue (N.state store.old).tells → IsTrue has_way → LeadsWay K.cmp key.now (N.state store.old) desk.old.path }
-    requires leaf { IsTrue (N.state store.old).tells → IsTrue has_way → desk.old.node ≡ (N.state store.old).nodes (stop_at desk.old.path ((N.state store.old).shape.depth - 1)).node }
+    requires there { IsTrue has_way → EndsAt (N.state store.old) (N.state store.old).shape.depth desk.old.node desk.old.path }
     requires none { IsTrue (N.state store.old).tells → has_way ≡ false → 0 < (N.state store.old).shape.depth → length (items ((N.state store.old).nodes (N.state store.old).shape.root)) ≡ 0 }
     requires some { IsTrue has_way → 0 < (N.state store.old).shape.depth }
     requires records { (N.state store.old).shape.leaf_records < 2 ^ 32 - 1 }
@@ -202,7 +203,7 @@ fn drop_pair<N: NodeStore, K: KeyOrder>(
     requires key { K.is_key key.now }
     requires tree { IsTrue (N.state store.old).tells → IsTree K.is_key K.cmp (N.state store.old) }
     requires way { IsTrue (N.state store.old).tells → IsTrue has_way → LeadsWay K.cmp key.now (N.state store.old) desk.old.path }
-    requires leaf { IsTrue (N.state store.old).tells → IsTrue has_way → desk.old.node ≡ (N.state store.old).nodes (stop_at desk.old.path ((N.state store.old).shape.depth - 1)).node }
+    requires there { IsTrue has_way → EndsAt (N.state store.old) (N.state store.old).shape.depth desk.old.node desk.old.path }
     requires none { IsTrue (N.state store.old).tells → has_way ≡ false → 0 < (N.state store.old).shape.depth → length (items ((N.state store.old).nodes (N.state store.old).shape.root)) ≡ 0 }
     requires some { IsTrue has_way → 0 < (N.state store.old).shape.depth }
     requires most { IsTrue has_way → (N.state store.old).shape.depth ≤ 12 }

@@ -6,6 +6,7 @@ ghost use Rattle.btree_node.specs.Levels.{key_of};
 ghost use Rattle.btree_node.specs.Store.{HasCause};
 ghost use Rattle.btree_node.specs.Tree.{IsTree, IsTreeNode, pairs_of};
 ghost use Rattle.btree_edit.specs.Desk.{HasKey, IsDeskOf};
+ghost use Rattle.btree_edit.specs.Ended.{EndsAt};
 ghost use Rattle.btree_edit.specs.Reading.{ReadsNodes};
 ghost use Rattle.btree_edit.specs.Way.{stop_at, LeadsWay};
 
@@ -25,6 +26,7 @@ pub(crate) fn find_path<N: NodeStore, K: KeyOrder>(
     requires tree { IsTrue (N.state store.old).tells → IsTree K.is_key K.cmp (N.state store.old) }
     ensures way { IsTrue (N.state store.old).tells → IfOk result (λ yes. IsTrue yes → LeadsWay K.cmp key.now (N.state store.old) desk.new.path) }
     ensures leaf { IsTrue (N.state store.old).tells → IfOk result (λ yes. IsTrue yes → desk.new.node ≡ (N.state store.old).nodes (stop_at desk.new.path ((N.state store.old).shape.depth - 1)).node) }
+    ensures there { IfOk result (λ yes. IsTrue yes → EndsAt (N.state store.new) (N.state store.new).shape.depth desk.new.node desk.new.path) }
     // There is no way only where the root has no record.
     ensures none { IsTrue (N.state store.old).tells → IfOk result (λ yes. yes ≡ false → 0 < (N.state store.old).shape.depth → length (items ((N.state store.old).nodes (N.state store.old).shape.root)) ≡ 0) }
     ensures well_formed { IfOk result (λ yes. IsTrue yes → IsNode desk.new.node) }
@@ -104,7 +106,7 @@ pub(crate) fn trace<N: NodeStore, K: KeyOrder>(
     requires key { K.is_key key.now }
     requires tree { IsTrue (N.state store.old).tells → IsTree K.is_key K.cmp (N.state store.old) }
     ensures way { IsTrue (N.state store.old).tells → IfOk result (λ it. IsTrue it.has_way → LeadsWay K.cmp key.now (N.state store.old) desk.new.path) }
-    ensures leaf { IsTrue (N.state store.old).tells → IfOk result (λ it. IsTrue it.has_way → desk.new.node ≡ (N.state store.old).nodes (stop_at desk.new.path ((N.state store.old).shape.depth - 1)).node) }
+    ensures there { IfOk result (λ it. IsTrue it.has_way → EndsAt (N.state store.new) (N.state store.new).shape.depth desk.new.node desk.new.path) }
     // There is no way only where the root has no record.
     ensures none { IsTrue (N.state store.old).tells → IfOk result (λ it. it.has_way ≡ false → 0 < (N.state store.old).shape.depth → length (items ((N.state store.old).nodes (N.state store.old).shape.root)) ≡ 0) }
     ensures some { IfOk result (λ it. IsTrue it.has_way → 0 < (N.state store.old).shape.depth) }

@@ -4,7 +4,7 @@ use mir.Syntax.{w8}
 use mir.Val.{to_z, of_z}
 use Rattle.std.specs.Prelude.{IsTrue}
 use Rattle.btree_node.specs.Tree.{kind_at, IsTreeNode}
-use Rattle.btree_edit.specs.Desk.{IsDeskOf}
+use Rattle.btree_edit.specs.Desk.{IsDeskOf, HoldsLeaf}
 use Rattle.btree_edit.specs.LevelEdit.{records_on, CanEdit, LevelEdit}
 use Rattle.btree_edit.specs.Way.{stop_at}
 use Rattle.btree_edit.specs.declared.desk.PathStep.{PathStep}
@@ -28,6 +28,7 @@ loop-done-init g c =
       depth = refl;
       same_depth = refl;
       few = c.requires.few;
+      there = λ first. c.requires.there;
       path = refl;
       ascent = λ tells shape_is can.
           subst (λ n. IsAscent g.K.KeyOrder.is_key g.K.KeyOrder.cmp g.K.KeyOrder.MAX a a c.args.desk.now.path c.args.at c.args.removed (records_on c.args.count c.args.desk.now) c.args.spare c.args.shape.now c.args.desk.now 0 c.args.count c.args.removed c.args.spare n)
@@ -44,14 +45,22 @@ loop-done-init g c =
       below = g.met.N.NodeStore.follows_refl c.args.store.now;
     }
 
+pub bring_node-requires-clause-leaf : goal.bring_node-requires-clause-leaf
+bring_node-requires-clause-leaf g c = λ one.
+    let s = g.N.NodeStore.state c.loop-done.store in
+    subst (λ h. HoldsLeaf s c.loop-done.desk.node (stop_at c.loop-done.desk.path (c.args.shape.now.depth - h)).node) (sym one) (c.loop-done.invariant.there (omega (arith, one))).holds
+
+pub bring_node-requires-clause-is_leaf : goal.bring_node-requires-clause-is_leaf
+bring_node-requires-clause-is_leaf g c = λ one. (c.loop-done.invariant.there (omega (arith, one))).is_leaf
+
 pub loop-done-preserved : goal.loop-done-preserved
 loop-done-preserved g c =
     let a = g.N.NodeStore.state c.args.store.now in
     let s = g.N.NodeStore.state c.loop-done.store in
-    let m = g.N.NodeStore.state c.read_node.new.store in
+    let m = g.N.NodeStore.state c.bring_node.new.store in
     let t = g.N.NodeStore.state c.edit_level.new.store in
     let inv = c.loop-done.invariant in
-    let reads = c.read_node.ensures.reads in
+    let reads = c.bring_node.ensures.reads in
     let ok = c.in_ok-handed.ensures in
     let done_is = ok.done in
     let low : c.loop-done.done < c.args.shape.now.depth = c.loop-done-test.true in
@@ -60,6 +69,7 @@ loop-done-preserved g c =
       depth = c.edit_level.ensures.depth ∙ inv.depth;
       same_depth = inv.same_depth;
       few = ok.few;
+      there = λ first. absurd (omega (arith, first));
       path = c.edit_level.ensures.path ∙ inv.path;
       ascent = λ tells shape_is can.
           let low : c.loop-done.done < c.args.shape.now.depth = c.loop-done-test.true in
@@ -71,7 +81,7 @@ loop-done-preserved g c =
           let same_m = same_store_both inv.does.same reads.same in
           let asc = inv.ascent tells shape_is can in
           let asc_m = ascent_read g.K.KeyOrder.MAX g.met.K.KeyOrder.key_length g.met.K.KeyOrder.key_most a c.args.desk.now.path c.args.at c.args.removed (records_on c.args.count c.args.desk.now) c.args.spare can
-          s m c.loop-done.shape c.loop-done.desk (record c.loop-done.desk { node = c.read_node.new.into }) c.loop-done.done c.loop-done.next c.loop-done.gone c.loop-done.left c.loop-done.budget reads.shape nodes.nodes nodes.used reads.same.reserved refl asc in
+          s m c.loop-done.shape c.loop-done.desk (record c.loop-done.desk { node = c.bring_node.new.into }) c.loop-done.done c.loop-done.next c.loop-done.gone c.loop-done.left c.loop-done.budget reads.shape nodes.nodes nodes.used reads.same.reserved refl asc in
           let j_is : c.args.shape.now.depth - (c.loop-done.done + 1) + (c.loop-done.done + 1) ≡ a.shape.depth = omega arith in
           let stop : stop_at c.loop-done.desk.path (c.args.shape.now.depth - (c.loop-done.done + 1)) ≡ stop_at c.args.desk.now.path (c.args.shape.now.depth - (c.loop-done.done + 1)) =
           ap (λ (l : List PathStep). stop_at l (c.args.shape.now.depth - (c.loop-done.done + 1))) inv.path in
@@ -80,12 +90,12 @@ loop-done-preserved g c =
           λ some. c.place_at-place.ensures.above (λ e. absurd (omega arith)) ∙ ap (λ (x : PathStep). x.at) stop in
           let may : CanEdit m (a.shape.depth - (c.args.shape.now.depth - (c.loop-done.done + 1))) (stop_at c.args.desk.now.path (c.args.shape.now.depth - (c.loop-done.done + 1))).node c.place_at-place.result c.loop-done.gone (records_on c.loop-done.next c.loop-done.desk) c.loop-done.left =
           can_edit g.K.KeyOrder.MAX g.met.K.KeyOrder.key_length g.met.K.KeyOrder.key_most a c.args.desk.now.path c.args.at c.args.removed (records_on c.args.count c.args.desk.now) c.args.spare can
-          m same_m c.loop-done.shape (record c.loop-done.desk { node = c.read_node.new.into }) c.loop-done.done c.loop-done.next c.loop-done.gone c.loop-done.left c.loop-done.budget asc_m
+          m same_m c.loop-done.shape (record c.loop-done.desk { node = c.bring_node.new.into }) c.loop-done.done c.loop-done.next c.loop-done.gone c.loop-done.left c.loop-done.budget asc_m
           (c.args.shape.now.depth - (c.loop-done.done + 1)) j_is c.place_at-place.result p_leaf p_above in
           let height : a.shape.depth - (c.args.shape.now.depth - (c.loop-done.done + 1)) ≡ c.loop-done.done + 1 = omega arith in
-          let yes : c.in_ok-read_node.field-0 ≡ true = c.if-not-branch.false in
-          let into : c.read_node.new.into ≡ m.nodes (stop_at c.loop-done.desk.path (c.args.shape.now.depth - (c.loop-done.done + 1))).node =
-          c.in_ok-read_node.ensures.value tells_s yes ∙ sym (nodes.nodes (stop_at c.loop-done.desk.path (c.args.shape.now.depth - (c.loop-done.done + 1))).node) in
+          let yes : c.in_ok-bring_node.field-0 ≡ true = c.if-not-branch.false in
+          let into : c.bring_node.new.into ≡ m.nodes (stop_at c.loop-done.desk.path (c.args.shape.now.depth - (c.loop-done.done + 1))).node =
+          c.in_ok-bring_node.ensures.value tells_s yes ∙ sym (nodes.nodes (stop_at c.loop-done.desk.path (c.args.shape.now.depth - (c.loop-done.done + 1))).node) in
           let edit : LevelEdit m t (c.loop-done.done + 1) (stop_at c.loop-done.desk.path (c.args.shape.now.depth - (c.loop-done.done + 1))).node c.place_at-place.result c.loop-done.gone (records_on c.loop-done.next c.loop-done.desk)
           c.in_ok-handed.handed.count c.in_ok-handed.handed.changed c.edit_level.new.desk c.loop-done.shape c.edit_level.new.shape =
           ok.edit tells_m into (kind_kept c.kind_at.result (c.loop-done.done + 1) c.kind_at.ensures)
@@ -99,7 +109,7 @@ loop-done-preserved g c =
           c.in_ok-handed.handed.count c.in_ok-handed.handed.changed c.edit_level.new.desk c.loop-done.shape c.edit_level.new.shape) stop edit) in
           let spent : c.loop-done.left ≤ c.saturating_sub-left.result + 1 = omega (arith, c.saturating_sub-left.ensures) in
           ascent_step g.K.KeyOrder.MAX g.met.K.KeyOrder.key_length g.met.K.KeyOrder.key_most a c.args.desk.now.path c.args.at c.args.removed (records_on c.args.count c.args.desk.now) c.args.spare can
-          m same_m c.loop-done.shape (record c.loop-done.desk { node = c.read_node.new.into }) c.loop-done.done c.loop-done.next c.loop-done.gone c.loop-done.left c.loop-done.budget asc_m
+          m same_m c.loop-done.shape (record c.loop-done.desk { node = c.bring_node.new.into }) c.loop-done.done c.loop-done.next c.loop-done.gone c.loop-done.left c.loop-done.budget asc_m
           (c.args.shape.now.depth - (c.loop-done.done + 1)) j_is c.place_at-place.result p_leaf p_above
           t c.in_ok-handed.handed.count c.in_ok-handed.handed.changed c.edit_level.new.desk c.edit_level.new.shape c.saturating_sub-left.result edit2 spent (c.loop-done.budget - c.in_ok-handed.handed.cost) c.in_ok-handed.handed.cost (omega arith) ok.cost ok.thrift;
       desk = subst (λ n. IsDeskOf n c.edit_level.new.desk) (reads.same.node_size ∙ inv.does.same.node_size) c.edit_level.ensures.desk;
@@ -114,11 +124,11 @@ loop-done-preserved g c =
         left = omega (arith, inv.does.left, done_is.left, reads.room.unwritten, reads.room.writes_left);
         sectors = omega (arith, inv.does.sectors, done_is.sectors, reads.room.sectors, reads.room.sectors_left);
         free = omega (arith, inv.taken, ap (λ h. h.free) reads.shape, done_is.free, spent);
-        later = omega (arith, inv.does.later, c.read_node.ensures.cause.later, done_is.later);
+        later = omega (arith, inv.does.later, c.bring_node.ensures.cause.later, done_is.later);
         same = same_store_both inv.does.same (same_store_both reads.same done_is.same);
       };
       below = g.met.N.NodeStore.follows_trans c.args.store.now c.loop-done.store c.edit_level.new.store inv.below
-          (g.met.N.NodeStore.follows_trans c.loop-done.store c.read_node.new.store c.edit_level.new.store c.read_node.ensures.below c.edit_level.ensures.below);
+          (g.met.N.NodeStore.follows_trans c.loop-done.store c.bring_node.new.store c.edit_level.new.store c.bring_node.ensures.below c.edit_level.ensures.below);
     }
 
 pub returns-then-not-branch-clause-climbs : goal.returns-then-not-branch-clause-climbs
@@ -136,17 +146,17 @@ returns-then-not-branch-clause-climbs g c = λ tells shape_is can.
     way_node g.K.KeyOrder.MAX g.met.K.KeyOrder.key_length g.met.K.KeyOrder.key_most a c.args.desk.now.path c.args.at c.args.removed (records_on c.args.count c.args.desk.now) c.args.spare can
     s c.loop-done.shape c.loop-done.desk c.loop-done.done c.loop-done.next c.loop-done.gone c.loop-done.left c.loop-done.budget asc (c.args.shape.now.depth - (c.loop-done.done + 1)) j_is in
     let there : IsTreeNode s (c.loop-done.done + 1) (stop_at c.loop-done.desk.path (c.args.shape.now.depth - (c.loop-done.done + 1))).node = subst (λ (x : PathStep). IsTreeNode s (c.loop-done.done + 1) x.node) (sym stop) node in
-    let yes : c.in_ok-read_node.field-0 ≡ true = c.in_ok-read_node.ensures.sound (inv.does.same.tells ∙ tells) there.inside there.kind (omega (arith, c.requires.depth)) in
+    let yes : c.in_ok-bring_node.field-0 ≡ true = c.in_ok-bring_node.ensures.sound (inv.does.same.tells ∙ tells) there.inside there.kind (omega (arith, c.requires.depth)) in
     absurd (true≢false (sym yes ∙ c.if-not-branch.true))
 
 pub returns-then-not-handed-clause-climbs : goal.returns-then-not-handed-clause-climbs
 returns-then-not-handed-clause-climbs g c = λ tells shape_is can.
     let a = g.N.NodeStore.state c.args.store.now in
     let s = g.N.NodeStore.state c.loop-done.store in
-    let m = g.N.NodeStore.state c.read_node.new.store in
+    let m = g.N.NodeStore.state c.bring_node.new.store in
     let t = g.N.NodeStore.state c.edit_level.new.store in
     let inv = c.loop-done.invariant in
-    let reads = c.read_node.ensures.reads in
+    let reads = c.bring_node.ensures.reads in
     let ok = c.in_ok-handed.ensures in
     let low : c.loop-done.done < c.args.shape.now.depth = c.loop-done-test.true in
     let tells_s : IsTrue s.tells = inv.does.same.tells ∙ tells in
@@ -157,7 +167,7 @@ returns-then-not-handed-clause-climbs g c = λ tells shape_is can.
     let same_m = same_store_both inv.does.same reads.same in
     let asc = inv.ascent tells shape_is can in
     let asc_m = ascent_read g.K.KeyOrder.MAX g.met.K.KeyOrder.key_length g.met.K.KeyOrder.key_most a c.args.desk.now.path c.args.at c.args.removed (records_on c.args.count c.args.desk.now) c.args.spare can
-    s m c.loop-done.shape c.loop-done.desk (record c.loop-done.desk { node = c.read_node.new.into }) c.loop-done.done c.loop-done.next c.loop-done.gone c.loop-done.left c.loop-done.budget reads.shape nodes.nodes nodes.used reads.same.reserved refl asc in
+    s m c.loop-done.shape c.loop-done.desk (record c.loop-done.desk { node = c.bring_node.new.into }) c.loop-done.done c.loop-done.next c.loop-done.gone c.loop-done.left c.loop-done.budget reads.shape nodes.nodes nodes.used reads.same.reserved refl asc in
     let j_is : c.args.shape.now.depth - (c.loop-done.done + 1) + (c.loop-done.done + 1) ≡ a.shape.depth = omega arith in
     let stop : stop_at c.loop-done.desk.path (c.args.shape.now.depth - (c.loop-done.done + 1)) ≡ stop_at c.args.desk.now.path (c.args.shape.now.depth - (c.loop-done.done + 1)) =
     ap (λ (l : List PathStep). stop_at l (c.args.shape.now.depth - (c.loop-done.done + 1))) inv.path in
@@ -166,12 +176,12 @@ returns-then-not-handed-clause-climbs g c = λ tells shape_is can.
     λ some. c.place_at-place.ensures.above (λ e. absurd (omega arith)) ∙ ap (λ (x : PathStep). x.at) stop in
     let may : CanEdit m (a.shape.depth - (c.args.shape.now.depth - (c.loop-done.done + 1))) (stop_at c.args.desk.now.path (c.args.shape.now.depth - (c.loop-done.done + 1))).node c.place_at-place.result c.loop-done.gone (records_on c.loop-done.next c.loop-done.desk) c.loop-done.left =
     can_edit g.K.KeyOrder.MAX g.met.K.KeyOrder.key_length g.met.K.KeyOrder.key_most a c.args.desk.now.path c.args.at c.args.removed (records_on c.args.count c.args.desk.now) c.args.spare can
-    m same_m c.loop-done.shape (record c.loop-done.desk { node = c.read_node.new.into }) c.loop-done.done c.loop-done.next c.loop-done.gone c.loop-done.left c.loop-done.budget asc_m
+    m same_m c.loop-done.shape (record c.loop-done.desk { node = c.bring_node.new.into }) c.loop-done.done c.loop-done.next c.loop-done.gone c.loop-done.left c.loop-done.budget asc_m
     (c.args.shape.now.depth - (c.loop-done.done + 1)) j_is c.place_at-place.result p_leaf p_above in
     let height : a.shape.depth - (c.args.shape.now.depth - (c.loop-done.done + 1)) ≡ c.loop-done.done + 1 = omega arith in
-    let yes : c.in_ok-read_node.field-0 ≡ true = c.if-not-branch.false in
-    let into : c.read_node.new.into ≡ m.nodes (stop_at c.loop-done.desk.path (c.args.shape.now.depth - (c.loop-done.done + 1))).node =
-    c.in_ok-read_node.ensures.value tells_s yes ∙ sym (nodes.nodes (stop_at c.loop-done.desk.path (c.args.shape.now.depth - (c.loop-done.done + 1))).node) in
+    let yes : c.in_ok-bring_node.field-0 ≡ true = c.if-not-branch.false in
+    let into : c.bring_node.new.into ≡ m.nodes (stop_at c.loop-done.desk.path (c.args.shape.now.depth - (c.loop-done.done + 1))).node =
+    c.in_ok-bring_node.ensures.value tells_s yes ∙ sym (nodes.nodes (stop_at c.loop-done.desk.path (c.args.shape.now.depth - (c.loop-done.done + 1))).node) in
     let edit : LevelEdit m t (c.loop-done.done + 1) (stop_at c.loop-done.desk.path (c.args.shape.now.depth - (c.loop-done.done + 1))).node c.place_at-place.result c.loop-done.gone (records_on c.loop-done.next c.loop-done.desk)
     c.in_ok-handed.handed.count c.in_ok-handed.handed.changed c.edit_level.new.desk c.loop-done.shape c.edit_level.new.shape =
     ok.edit tells_m into (kind_kept c.kind_at.result (c.loop-done.done + 1) c.kind_at.ensures)
@@ -185,7 +195,7 @@ returns-then-not-handed-clause-climbs g c = λ tells shape_is can.
     c.in_ok-handed.handed.count c.in_ok-handed.handed.changed c.edit_level.new.desk c.loop-done.shape c.edit_level.new.shape) stop edit) in
     let spent : c.loop-done.left ≤ c.saturating_sub-left.result + 1 = omega (arith, c.saturating_sub-left.ensures) in
     ascent_stop g.K.KeyOrder.MAX g.met.K.KeyOrder.key_length g.met.K.KeyOrder.key_most a c.args.desk.now.path c.args.at c.args.removed (records_on c.args.count c.args.desk.now) c.args.spare can
-    m same_m c.loop-done.shape (record c.loop-done.desk { node = c.read_node.new.into }) c.loop-done.done c.loop-done.next c.loop-done.gone c.loop-done.left c.loop-done.budget asc_m
+    m same_m c.loop-done.shape (record c.loop-done.desk { node = c.bring_node.new.into }) c.loop-done.done c.loop-done.next c.loop-done.gone c.loop-done.left c.loop-done.budget asc_m
     (c.args.shape.now.depth - (c.loop-done.done + 1)) j_is c.place_at-place.result p_leaf p_above
     t c.in_ok-handed.handed.count c.in_ok-handed.handed.changed c.edit_level.new.desk c.edit_level.new.shape c.saturating_sub-left.result edit2 spent (c.loop-done.budget - c.in_ok-handed.handed.cost) c.in_ok-handed.handed.cost (omega arith) ok.cost ok.thrift c.if-not-handed.true
 
@@ -201,9 +211,9 @@ returns-clause-climbs g c = λ tells shape_is can.
 pub returns-in_err-handed-clause-below : goal.returns-in_err-handed-clause-below
 returns-in_err-handed-clause-below g c =
     g.met.N.NodeStore.follows_trans c.args.store.now c.loop-done.store c.edit_level.new.store c.loop-done.invariant.below
-    (g.met.N.NodeStore.follows_trans c.loop-done.store c.read_node.new.store c.edit_level.new.store c.read_node.ensures.below c.edit_level.ensures.below)
+    (g.met.N.NodeStore.follows_trans c.loop-done.store c.bring_node.new.store c.edit_level.new.store c.bring_node.ensures.below c.edit_level.ensures.below)
 
 pub returns-then-not-handed-clause-below : goal.returns-then-not-handed-clause-below
 returns-then-not-handed-clause-below g c =
     g.met.N.NodeStore.follows_trans c.args.store.now c.loop-done.store c.edit_level.new.store c.loop-done.invariant.below
-    (g.met.N.NodeStore.follows_trans c.loop-done.store c.read_node.new.store c.edit_level.new.store c.read_node.ensures.below c.edit_level.ensures.below)
+    (g.met.N.NodeStore.follows_trans c.loop-done.store c.bring_node.new.store c.edit_level.new.store c.bring_node.ensures.below c.edit_level.ensures.below)

@@ -2,6 +2,7 @@ use Rattle.std.proofs.Common.{◌≡◌, ◌≤◌, ◌+◌, ◌*◌}
 use Rattle.std.specs.Prelude.{IsTrue}
 use Rattle.btree_edit.specs.Desk.{IsDeskOf}
 use Rattle.btree_edit.specs.Editing.{CostsAtMost}
+use Rattle.btree_edit.specs.Ended.{EndsAt}
 use Rattle.btree_edit.specs.LevelEdit.{records_on}
 use Rattle.btree_edit.specs.Rising.{CanClimb}
 use Rattle.btree_edit.proofs.Ascent.{IsAscent}
@@ -12,6 +13,7 @@ invariant-loop-done g l = let before = g.N.NodeStore.state l.fn.store in let now
   depth : l.shape.depth ≡ l.fn.shape.depth;
   same_depth : l.depth ≡ l.fn.shape.depth;
   few : l.next ≤ 2;
+  there : l.done ≡ 0 → EndsAt now l.fn.shape.depth l.desk.node l.desk.path;
   path : l.desk.path ≡ l.fn.desk.path;
   ascent : IsTrue before.tells → l.fn.shape ≡ before.shape
       → CanClimb g.K.KeyOrder.is_key g.K.KeyOrder.cmp g.K.KeyOrder.MAX before l.fn.desk.path l.fn.at l.fn.removed (records_on l.fn.count l.fn.desk) l.fn.spare

@@ -6,6 +6,7 @@ use Rattle.btree_edit.specs.Desk.{HasKey}
 use Rattle.btree_edit.specs.Halves.{record_of}
 use Rattle.btree_edit.specs.LevelEdit.{node_room, records_on}
 use Rattle.btree_edit.specs.Rising.{leaves_edited, CanClimb, IsLeafRecord}
+use Rattle.btree_edit.specs.Ended.{EndsAt}
 use Rattle.btree_edit.specs.Way.{stop_at, LeadsWay}
 use Rattle.btree_edit.specs.Sorted.{AddsPair}
 use Rattle.btree_edit.proofs.Pairs.{key_of_joined}
@@ -60,6 +61,10 @@ returns-then-not-has_way-clause-adds g c = λ tells wide key short absent.
     (λ is. first_pair g.K.KeyOrder.is_key g.K.KeyOrder.cmp g.met.K.KeyOrder.key_length c.args.key.now c.args.desk.now.first.key c.args.desk.now.first.value is_key key (pairs_of m) (pairs_of t)
     (same_pairs ∙ bare_pairs s tree none) (is ∙ ap (λ l. map pair_of (l ∷ [])) kept)) makes))
     (c.restart_empty.ensures.tree (reads.same.tells ∙ tells) tree_m (omega (arith, some, ap (λ h. h.depth) reads.shape)) none_m is_record)
+
+pub rebuild-requires-clause-there : goal.rebuild-requires-clause-there
+rebuild-requires-clause-there g c =
+    subst (λ d. EndsAt (g.N.NodeStore.state c.args.store.now) d c.args.desk.now.node c.args.desk.now.path) (ap (λ h. h.depth) (sym c.shape-shape.ensures)) (c.requires.there c.if-not-has_way.false)
 
 pub returns-clause-adds : goal.returns-clause-adds
 returns-clause-adds g c = λ tells wide key short absent.

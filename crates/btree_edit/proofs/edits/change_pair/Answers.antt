@@ -4,6 +4,7 @@ use Rattle.btree_node.specs.Tree.{pairs_of}
 use Rattle.btree_edit.specs.Desk.{HasKey}
 use Rattle.btree_edit.specs.LevelEdit.{node_room, records_on}
 use Rattle.btree_edit.specs.Rising.{leaves_edited, CanClimb}
+use Rattle.btree_edit.specs.Ended.{EndsAt}
 use Rattle.btree_edit.specs.Way.{stop_at, LeadsWay}
 use Rattle.btree_edit.specs.Sorted.{ChangesPair, HoldsKeyOf}
 use Rattle.btree_edit.specs.Halves.{record_of}
@@ -30,6 +31,11 @@ returns-then-at-eq0-clause-changes g c = λ tells wide holds short.
     (c.in_ok-find_path.ensures.way tells c.if-not-branch.false) has in
     let deep : c.shape-shape.result.depth ≡ s.shape.depth = ap (λ h. h.depth) c.shape-shape.ensures in
     absurd (omega (arith, some, c.if-at-eq0.true, ap (λ d. (stop_at c.find_path.new.desk.path (d - 1)).at) deep))
+
+pub rebuild-requires-clause-there : goal.rebuild-requires-clause-there
+rebuild-requires-clause-there g c =
+    subst (λ d. EndsAt (g.N.NodeStore.state c.find_path.new.store) d c.find_path.new.desk.node c.find_path.new.desk.path) (ap (λ h. h.depth) (c.find_path.ensures.reads.shape ∙ sym c.shape-shape.ensures))
+    (c.in_ok-find_path.ensures.there c.if-not-branch.false)
 
 pub returns-clause-changes : goal.returns-clause-changes
 returns-clause-changes g c = λ tells wide holds short.

@@ -4,6 +4,7 @@ use Rattle.btree_node.specs.Tree.{pairs_of}
 use Rattle.btree_edit.specs.Desk.{HasKey}
 use Rattle.btree_edit.specs.LevelEdit.{node_room}
 use Rattle.btree_edit.specs.Rising.{leaves_edited, AreOfOneLength, CanClimb}
+use Rattle.btree_edit.specs.Ended.{EndsAt}
 use Rattle.btree_edit.specs.Way.{stop_at, LeadsWay}
 use Rattle.btree_edit.specs.Sorted.{DropsPair}
 use Rattle.btree_edit.proofs.PairEdits.{way_read, can_remove, drops, count_dropped, found_some}
@@ -26,6 +27,10 @@ returns-then-at-eq0-clause-drops g c = λ tells wide has.
     (c.requires.way tells c.if-not-has_way.false) has in
     let deep : c.shape-shape.result.depth ≡ s.shape.depth = ap (λ h. h.depth) c.shape-shape.ensures in
     absurd (omega (arith, some, c.if-at-eq0.true, ap (λ d. (stop_at c.args.desk.now.path (d - 1)).at) deep))
+
+pub rebuild-requires-clause-there : goal.rebuild-requires-clause-there
+rebuild-requires-clause-there g c =
+    subst (λ d. EndsAt (g.N.NodeStore.state c.args.store.now) d c.args.desk.now.node c.args.desk.now.path) (ap (λ h. h.depth) (sym c.shape-shape.ensures)) (c.requires.there c.if-not-has_way.false)
 
 pub returns-clause-drops : goal.returns-clause-drops
 returns-clause-drops g c = λ tells wide has.

@@ -13,6 +13,9 @@ use Rattle.btree_edit.proofs.PairEdits.{way_read}
 use Rattle.btree_edit.proofs.Values.{values_added}
 use Rattle.btree_edit.proofs.edits.insert.Goals as goal
 
+pub add-requires-clause-there : goal.add-requires-clause-there
+add-requires-clause-there g c = c.in_ok-traced.ensures.there
+
 pub add-requires-clause-tree : goal.add-requires-clause-tree
 add-requires-clause-tree g c = λ tells_m.
     let tells : IsTrue (g.N.NodeStore.state c.args.store.now).tells = sym c.trace.ensures.reads.same.tells ∙ tells_m in

@@ -13,6 +13,9 @@ use Rattle.btree_edit.proofs.PairEdits.{way_read}
 use Rattle.btree_edit.proofs.Values.{values_dropped}
 use Rattle.btree_edit.proofs.edits.remove.Goals as goal
 
+pub drop_pair-requires-clause-there : goal.drop_pair-requires-clause-there
+drop_pair-requires-clause-there g c = c.in_ok-traced.ensures.there
+
 pub drop_pair-requires-clause-tree : goal.drop_pair-requires-clause-tree
 drop_pair-requires-clause-tree g c = λ tells_m.
     let tells : IsTrue (g.N.NodeStore.state c.args.store.now).tells = sym c.trace.ensures.reads.same.tells ∙ tells_m in

@@ -1,10 +1,12 @@
 use Rattle.std.proofs.Common.{◌≡◌, ◌<◌, ◌-◌, ◌+◌, length, set, ap, sym, subst, ◌∙◌, arith, refl, inl, inr, true}
 use Rattle.std.proofs.lemmas.Bool.{true≢false}
-use Rattle.std.proofs.lemmas.List.{length-set}
+use Rattle.std.proofs.lemmas.List.{length-set, get_or-set_same}
 use Rattle.btree_node.specs.Node.{items}
 use Rattle.btree_node.specs.Tree.{IsTreeNode}
 use Rattle.btree_edit.specs.Reading.{HasNoKey, IsLead, IsPlace}
-use Rattle.btree_edit.specs.Way.{LeadsWay}
+use Rattle.btree_edit.specs.Desk.{HoldsLeaf}
+use Rattle.btree_edit.specs.Way.{stop_at, LeadsWay}
+use Rattle.btree_edit.specs.declared.desk.PathStep.{PathStep}
 use Rattle.btree_edit.proofs.Descent.{leads_root, leads_root_front, leads_node, leads_keys}
 use Rattle.btree_edit.proofs.Repeated.{reads_none, reads_both, still_node}
 use Rattle.btree_edit.proofs.Ways.{IsOnWay, on_root, on_step, on_leaf, bare_root}
@@ -132,6 +134,29 @@ returns-clause-way g c = λ tells yes_is.
     subst (λ i. LeadsWay g.K.KeyOrder.cmp c.args.key.now s (set c.loop-level.desk.path i (record { node = c.loop-level.node; at = c.in-Some-place.at }))) there
     (on_leaf g.K.KeyOrder.is_key g.K.KeyOrder.cmp g.met.K.KeyOrder.total g.met.K.KeyOrder.key_length s t.levels t.ordered c.args.key.now c.loop-level.desk.path c.loop-level.level c.loop-level.node (before.way tells)
     (record { node = c.loop-level.node; at = c.in-Some-place.at }) (omega (arith, before.desk.path, before.most)) refl last place)
+
+pub returns-clause-there : goal.returns-clause-there
+returns-clause-there g c = λ yes_is.
+    let s = g.N.NodeStore.state c.args.store.now in
+    let t = g.N.NodeStore.state c.read_node-2.new.store in
+    let before = c.loop-level.invariant in
+    let reads = c.read_node-2.ensures.reads in
+    let yes : c.in_ok-read_node-2.field-0 ≡ true = c.if-not-branch-2.false in
+    let deep : c.shape-shape.result.depth ≡ s.shape.depth = ap (λ h. h.depth) c.shape-shape.ensures in
+    let last : c.shape-shape.result.depth - 1 ≡ t.shape.depth - 1 = omega (arith, deep, ap (λ h. h.depth) reads.shape, ap (λ h. h.depth) before.reads.shape) in
+    let stop : stop_at (set c.loop-level.desk.path (c.shape-shape.result.depth - 1) (record { node = c.loop-level.node; at = c.in-Some-place.at })) (t.shape.depth - 1) ≡ record { node = c.loop-level.node; at = c.in-Some-place.at } =
+    ap (λ i. stop_at (set c.loop-level.desk.path (c.shape-shape.result.depth - 1) (record { node = c.loop-level.node; at = c.in-Some-place.at })) i) (sym last)
+    ∙ get_or-set_same c.loop-level.desk.path (c.shape-shape.result.depth - 1) (record { node = c.loop-level.node; at = c.in-Some-place.at }) (record { node = 0; at = 0 }) (omega (arith, deep, before.desk.path, before.most, before.some)) in
+    record {
+      holds = subst (λ (x : PathStep). HoldsLeaf t c.read_node-2.new.into x.node) (sym stop) (record {
+        inside = omega (arith, c.in_ok-read_node-2.ensures.inside yes, reads.same.total);
+        well_formed = (c.in_ok-read_node-2.ensures.is_node yes).well_formed;
+        value = λ tells_now.
+            let tells = sym reads.same.tells ∙ tells_now in
+            c.in_ok-read_node-2.ensures.value tells yes ∙ sym ((reads.tree tells).nodes c.loop-level.node);
+      });
+      is_leaf = c.in_ok-read_node-2.ensures.is_node yes;
+    }
 
 pub returns-in_err-read_node-clause-reads : goal.returns-in_err-read_node-clause-reads
 returns-in_err-read_node-clause-reads g c =

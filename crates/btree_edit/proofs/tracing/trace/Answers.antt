@@ -16,6 +16,9 @@ returns-then-not-branch-clause-absent g c = λ tells no has.
 pub returns-clause-way : goal.returns-clause-way
 returns-clause-way g c = λ tells yes. c.in_ok-find_path.ensures.way tells c.if-not-branch.false
 
+pub returns-clause-there : goal.returns-clause-there
+returns-clause-there g c = λ yes. c.in_ok-find_path.ensures.there c.if-not-branch.false
+
 pub returns-clause-found : goal.returns-clause-found
 returns-clause-found g c = λ tells yes.
     let s = g.N.NodeStore.state c.args.store.now in
