@@ -7,12 +7,12 @@ pub mod Items
 pub mod Inserting
 pub mod Removing
 pub mod Packing
+pub mod Pairs
 pub mod Descending
 pub mod Replacing
 pub mod Overwriting
 pub mod Descriptor
 pub mod Units
-pub mod UnitOrder
 pub mod Levels
 pub mod Ranks
 pub mod Flags

@@ -1,8 +1,9 @@
 -- Numbers of two bytes each, from a place on.
-use Rattle.std.proofs.Common.{◌≡◌, ◌≢◌, ℕ, suc, ◌+◌, ◌*◌, ◌<◌, ◌≤◌, List, [], ◌∷◌, length, drop, get_or, refl, sym, ◌∙◌, ap, arith, length-drop, true, false}
+use Rattle.std.proofs.Common.{◌≡◌, ◌≢◌, ℕ, suc, ◌+◌, ◌*◌, ◌/◌, ◌<◌, ◌≤◌, List, [], ◌∷◌, length, drop, get_or, refl, sym, ◌∙◌, ap, arith, length-drop, true, false}
 use Rattle.std.proofs.Math.Seq.{drop-cons}
 use Rattle.std.specs.Cmp.Lexicographic.{slice_cmp}
-use Rattle.std.specs.Ordering.{nat_cmp, ordering_then, is_ne}
+use Rattle.std.specs.Ordering.{MatchOrdering, nat_cmp, ordering_then, is_ne}
+use Rattle.std.specs.Prelude.{min}
 use Rattle.std.specs.declared.cmp.Ordering.{Ordering}
 use Rattle.std.specs.declared.cmp.Ordering.TheVariants.{Less, Equal, Greater}
 use Rattle.hx_bytes.specs.Field.{big_at}
@@ -60,6 +61,13 @@ units_shorter a b at first second = sym (ap (λ l. slice_cmp nat_cmp l (units (d
 
 pub units_both : (a b : List ℕ) (at : ℕ) → length a < at + 2 → length b < at + 2 → Equal ≡ slice_cmp nat_cmp (units (drop at a)) (units (drop at b))
 units_both a b at first second = sym (ap (λ l. slice_cmp nat_cmp l (units (drop at b))) (units_end a at first) ∙ ap (λ l. slice_cmp nat_cmp [] l) (units_end b at second))
+
+-- behind the last units of the shorter list their numbers decide
+pub units_last : (a b : List ℕ) (i : ℕ) (r : Ordering) → i ≤ length a / 2 → i ≤ length b / 2 → min (length a / 2) (length b / 2) ≤ i → MatchOrdering r (length a / 2 < length b / 2) (length a / 2 ≡ length b / 2) (length b / 2 < length a / 2)
+    → r ≡ slice_cmp nat_cmp (units (drop (2 * i) a)) (units (drop (2 * i) b))
+units_last a b i Less first second past h = let less : length a / 2 < length b / 2 = h in units_shorter a b (2 * i) (omega arith) (omega arith)
+units_last a b i Equal first second past h = let same : length a / 2 ≡ length b / 2 = h in units_both a b (2 * i) (omega arith) (omega arith)
+units_last a b i Greater first second past h = let more : length b / 2 < length a / 2 = h in units_longer a b (2 * i) (omega arith) (omega arith)
 
 pub unlike : (order : Ordering) → is_ne order ≡ true → order ≢ Equal
 unlike Less ne e = cc

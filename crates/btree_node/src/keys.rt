@@ -181,32 +181,21 @@ impl KeyOrder for AttrOrder {
     }
 }
 
-/// Compares numbers of two bytes each, one by one. Their bytes stand in the same order.
+/// The order of the first numbers of two bytes each that differ, or else that of how many there are. Names are short, so each pair is
+/// looked at by itself.
 fn compare_units(a: &[u8], b: &[u8]) -> Ordering
     ensures { result ≡ slice_cmp nat_cmp (units a.now) (units b.now) }
 {
-    let first = whole_units(a);
-    let second = whole_units(b);
-    compare_bytes(first, second)
-}
-
-/// The order of the first bytes that differ, or else that of the lengths. Keys are short, so each pair is looked at by itself.
-fn compare_bytes(a: &[u8], b: &[u8]) -> Ordering
-    ensures { result ≡ slice_cmp nat_cmp a.now b.now }
-{
-    let both = a.len().min(b.len());
+    let (first, _half) = a.as_chunks::<2>();
+    let (second, _half) = b.as_chunks::<2>();
+    let both = first.len().min(second.len());
     for i in 0..both {
-        let order = a[i].cmp(&b[i]);
+        let unit = read_be16(&first[i], 0);
+        let other = read_be16(&second[i], 0);
+        let order = unit.cmp(&other);
         if order.is_ne() {
             return order;
         }
     }
-    a.len().cmp(&b.len())
-}
-
-/// The bytes without half a number at the end.
-fn whole_units(bytes: &[u8]) -> &[u8]
-    ensures { result.now ≡ take (2 * (length bytes.now / 2)) bytes.now }
-{
-    &bytes[..2 * (bytes.len() / 2)]
+    first.len().cmp(&second.len())
 }

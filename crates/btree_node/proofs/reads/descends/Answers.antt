@@ -1,6 +1,7 @@
 use Rattle.std.proofs.Common.{◌≡◌, ◌*◌, ◌/◌, List, ℕ, [], length, get_or, ◌∙◌, ap, arith}
 use Rattle.hx_bytes.specs.Field.{big_at}
-use Rattle.btree_node.proofs.Descending.{number_in, descend_more}
+use Rattle.btree_node.proofs.Descending.{descend_more}
+use Rattle.btree_node.proofs.Pairs.{number_in}
 use Rattle.btree_node.proofs.reads.descends.Goals as goal
 
 pub loop-bytes-preserved : goal.loop-bytes-preserved
