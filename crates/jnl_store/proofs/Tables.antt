@@ -168,3 +168,12 @@ missing puts sectors places memory a b c at k is r =
 pub inserted_all : {T E : Type 0} (r : Result T E) (new old : List ℕ) (i x : ℕ) → IsOk r → new ≡ (if is_ok r then insert old i x else old) → new ≡ insert old i x
 inserted_all (Ok t) new old i x ok is = is
 inserted_all (Err e) new old i x ok is = absurd (cc ok)
+
+-- the same of the lists as the calls leave them
+pub table_pushed : (puts : List Put) (sectors places : List ℕ) (memory a b c d e f i : ℕ) (put : Put) (new_puts : List Put) (new_sectors new_places : List ℕ) → new_puts ≡ puts ++ put ∷ [] → new_sectors ≡ insert sectors i put.at → new_places ≡ insert places i (length puts)
+    → IsTable puts sectors places memory a b c → names puts put.at ≡ false → length puts < memory → i ≤ length sectors → ((k : ℕ) → k < i → get_or sectors k 0 < put.at) → ((k : ℕ) → i ≤ k → k < length sectors → put.at < get_or sectors k 0) → a ≤ d → b ≤ e → c ≤ f
+    → IsTable new_puts new_sectors new_places memory d e f
+table_pushed puts sectors places memory a b c d e f i put new_puts new_sectors new_places puts_are sectors_are places_are is other some within low high more_puts more_sectors more_places =
+    subst (λ (l : List Put). IsTable l new_sectors new_places memory d e f) (sym puts_are)
+    (subst (λ (l : List ℕ). IsTable (puts ++ put ∷ []) l new_places memory d e f) (sym sectors_are)
+    (subst (λ (l : List ℕ). IsTable (puts ++ put ∷ []) (insert sectors i put.at) l memory d e f) (sym places_are) (table-push puts sectors places memory a b c d e f i put is other some within low high more_puts more_sectors more_places)))

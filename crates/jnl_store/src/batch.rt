@@ -122,8 +122,7 @@ impl Batch {
         ensures live { self.new.live ≡ self.old.live }
         ensures most { self.new.most ≡ self.old.most }
     {
-        let put = Put { at, bytes: *from };
-        self.puts.put(&put);
+        self.puts.put(at, from);
     }
 
     /// Finds memory for so many sectors more, and keeps what was put so far.

@@ -1,5 +1,5 @@
 //! Slots that keep sectors of a content, so that they are read without a device.
-ghost use Rattle.std.specs.Prelude.{◌≡◌, ◌<◌, ◌≤◌, ◌+◌, ℕ, Bool, IsTrue, IfOk, IfSome, MatchOption, OnOk, Option, None, Some, if◌then◌else◌, length, replicate, slice_index_or};
+ghost use Rattle.std.specs.Prelude.{◌≡◌, ◌<◌, ◌≤◌, ◌+◌, ◌^◌, ℕ, Bool, IsTrue, IfOk, IfSome, MatchOption, OnOk, Option, None, Some, if◌then◌else◌, length, replicate, slice_index_or};
 ghost use Rattle.jnl_store.specs.Cache.{AreRead, AreSlots, EachBecomes, EachReread, IsKept, IsRead, IsReread, KeepsRun, OthersStand, holds, slot_of, slot_with, slots_with, undone_name, undone_slot, with_slot};
 ghost use Rattle.sector_disk.specs.Cause.{HasCause};
 ghost use Rattle.sector_disk.specs.Disk.{OnlyReads, content};
@@ -86,6 +86,9 @@ impl Cache {
         if count - first < many {
             return None;
         }
+        if u64::MAX - at < many as u64 {
+            return None;
+        }
         if !are_named(&self.names[first..first + many], at) {
             return None;
         }
@@ -142,27 +145,22 @@ impl Cache {
 
 // Whether the slots name the sectors from this one on.
 fn are_named(names: &[Option<u64>], at: u64) -> bool
+    requires { at + length names.now < 2 ^ 64 }
     ensures { IsTrue result → (k : ℕ) → k < length names.now → slice_index_or names.now k None ≡ Some (at + k) }
 {
     for i in 0..names.len() {
-        if !is_named(names[i], at, i as u64) {
+        if !is_of(names[i], at + i as u64) {
             return false;
         }
     }
     true
 }
 
-// Whether a slot names the sector so many behind this one.
-fn is_named(name: Option<u64>, at: u64, behind: u64) -> bool
-    ensures { IsTrue result → name ≡ Some (at + behind) }
+fn is_of(name: Option<u64>, at: u64) -> bool
+    ensures { IsTrue result → name ≡ Some at }
 {
     match name {
-        Some(name) => {
-            if name < at {
-                return false;
-            }
-            name - at == behind
-        }
+        Some(name) => name == at,
         None => false,
     }
 }

@@ -110,24 +110,24 @@ impl PutTable {
     }
 
     /// Puts a sector, for which there is memory.
-    pub fn put(&mut self, put: &Put)
-        requires { (length self.old.items < self.old.memory) ⊎ IsTrue (names self.old.items put.now.at) }
-        ensures content { (c : Content) → overlay self.new.items c ≡ slice_set (overlay self.old.items c) put.now.at put.now.bytes }
-        ensures names { (s : ℕ) → names self.new.items s ≡ (s == put.now.at || names self.old.items s) }
-        ensures count { length self.new.items ≡ (if names self.old.items put.now.at then length self.old.items else length self.old.items + 1) }
+    pub fn put(&mut self, at: u64, from: &Sector)
+        requires { (length self.old.items < self.old.memory) ⊎ IsTrue (names self.old.items at) }
+        ensures content { (c : Content) → overlay self.new.items c ≡ slice_set (overlay self.old.items c) at from.now }
+        ensures names { (s : ℕ) → names self.new.items s ≡ (s == at || names self.old.items s) }
+        ensures count { length self.new.items ≡ (if names self.old.items at then length self.old.items else length self.old.items + 1) }
         ensures memory { self.new.memory ≡ self.old.memory }
     {
-        match search_near(&self.sectors, self.near, put.at) {
+        match search_near(&self.sectors, self.near, at) {
             Ok(k) => {
                 let place = self.places[k];
-                self.puts[place] = *put;
+                self.puts[place] = Put { at, bytes: *from };
                 self.near = k;
             }
             Err(k) => {
                 let place = self.puts.len();
-                let _sector = self.sectors.insert(k, put.at);
+                let _sector = self.sectors.insert(k, at);
                 let _place = self.places.insert(k, place);
-                let _put = self.puts.push(*put);
+                let _put = self.puts.push(Put { at, bytes: *from });
                 self.near = k;
             }
         }

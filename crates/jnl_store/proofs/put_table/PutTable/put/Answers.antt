@@ -1,20 +1,20 @@
-use Rattle.std.proofs.Common.{◌≡◌, ◌∷◌, ◌++◌, [], ◌<◌, ◌==◌, false, ◌||◌, ℕ, List, length, sym, ◌∙◌, ap, subst, set, arith}
-use Rattle.std.specs.Prelude.{Ok, Err, vec_capacity}
+use Rattle.std.proofs.Common.{◌≡◌, ◌<◌, ◌==◌, false, ◌||◌, ℕ, List, length, sym, ◌∙◌, ap, subst, set, arith}
+use Rattle.std.specs.Prelude.{Ok, Err}
 use Rattle.std.specs.List.{insert}
 use Rattle.std.specs.Ordering.{nat_cmp}
 use Rattle.std.specs.List.Sorted.{IsBinarySearchResult}
 use Rattle.jnl_store.specs.Batch.{has, names}
 use Rattle.jnl_store.specs.Overlay.{overlay}
-use Rattle.jnl_store.specs.Table.{IsTable, Tabled}
+use Rattle.jnl_store.specs.Table.{Tabled}
 use Rattle.jnl_store.specs.declared.puts.Put.{Put}
 use Rattle.jnl_store.proofs.Batches.{counted_push, counted_set, has-inside, names-push, names-set, overlay-push, overlay-set, pushed, room_left, same_names}
-use Rattle.jnl_store.proofs.Tables.{inserted_all, located, missing, table-push, table-set}
+use Rattle.jnl_store.proofs.Tables.{inserted_all, located, missing, table_pushed, table-set}
 use Rattle.jnl_store.proofs.put_table.PutTable.put.Goals as goal
 
 pub index_mut-requires : goal.index_mut-requires
 index_mut-requires c =
     let i = c.self.inside in
-    let at = c.args.put.now.at in
+    let at = c.args.at in
     let r = subst (λ (l : List ℕ). IsBinarySearchResult (λ y. nat_cmp y at) l (Ok c.in-Ok.k)) c.deref.ensures.value c.in-Ok.ensures.position in
     let h = located i.puts.items i.sectors.items i.places.items _ _ _ _ at c.in-Ok.k c.index-place.result.now c.self.invariant r c.index-place.ensures in
     omega (arith, has-inside i.puts.items c.index-place.result.now at h, i.puts.ok.0)
@@ -22,45 +22,45 @@ index_mut-requires c =
 pub invariant_of-self : goal.invariant_of-self
 invariant_of-self c =
     let i = c.self.inside in
-    let at = c.args.put.now.at in
+    let at = c.args.at in
     let r = subst (λ (l : List ℕ). IsBinarySearchResult (λ y. nat_cmp y at) l (Ok c.in-Ok.k)) c.deref.ensures.value c.in-Ok.ensures.position in
     let h = located i.puts.items i.sectors.items i.places.items _ _ _ _ at c.in-Ok.k c.index-place.result.now c.self.invariant r c.index-place.ensures in
-    table-set i.puts.items i.sectors.items i.places.items _ _ _ _ c.index-place.result.now c.args.put.now c.self.invariant h
+    table-set i.puts.items i.sectors.items i.places.items _ _ _ _ c.index-place.result.now _ c.self.invariant h
 
 pub returns-in-Ok-clause-content : goal.returns-in-Ok-clause-content
 returns-in-Ok-clause-content c content =
     let i = c.self.inside in
-    let at = c.args.put.now.at in
+    let at = c.args.at in
     let e : i.puts.items ≡ c.args.self.now.items = ap (λ (t : Tabled). t.items) c.self.view_is in
     let r = subst (λ (l : List ℕ). IsBinarySearchResult (λ y. nat_cmp y at) l (Ok c.in-Ok.k)) c.deref.ensures.value c.in-Ok.ensures.position in
     let h = located i.puts.items i.sectors.items i.places.items _ _ _ _ at c.in-Ok.k c.index-place.result.now c.self.invariant r c.index-place.ensures in
-    overlay-set i.puts.items c.index-place.result.now c.args.put.now content c.self.invariant.once h
-    ∙ ap (λ (l : List Put). set (overlay l content) at c.args.put.now.bytes) e
+    overlay-set i.puts.items c.index-place.result.now _ content c.self.invariant.once h
+    ∙ ap (λ (l : List Put). set (overlay l content) at c.args.from.now) e
 
 pub returns-in-Ok-clause-names : goal.returns-in-Ok-clause-names
 returns-in-Ok-clause-names c s =
     let i = c.self.inside in
-    let at = c.args.put.now.at in
+    let at = c.args.at in
     let e : i.puts.items ≡ c.args.self.now.items = ap (λ (t : Tabled). t.items) c.self.view_is in
     let r = subst (λ (l : List ℕ). IsBinarySearchResult (λ y. nat_cmp y at) l (Ok c.in-Ok.k)) c.deref.ensures.value c.in-Ok.ensures.position in
     let h = located i.puts.items i.sectors.items i.places.items _ _ _ _ at c.in-Ok.k c.index-place.result.now c.self.invariant r c.index-place.ensures in
-    names-set i.puts.items c.index-place.result.now c.args.put.now s h
+    names-set i.puts.items c.index-place.result.now _ s h
     ∙ same_names i.puts.items c.index-place.result.now at s h
     ∙ ap (λ (l : List Put). s == at || names l s) e
 
 pub returns-in-Ok-clause-count : goal.returns-in-Ok-clause-count
 returns-in-Ok-clause-count c =
     let i = c.self.inside in
-    let at = c.args.put.now.at in
+    let at = c.args.at in
     let e : i.puts.items ≡ c.args.self.now.items = ap (λ (t : Tabled). t.items) c.self.view_is in
     let r = subst (λ (l : List ℕ). IsBinarySearchResult (λ y. nat_cmp y at) l (Ok c.in-Ok.k)) c.deref.ensures.value c.in-Ok.ensures.position in
     let h = located i.puts.items i.sectors.items i.places.items _ _ _ _ at c.in-Ok.k c.index-place.result.now c.self.invariant r c.index-place.ensures in
-    counted_set i.puts.items c.args.self.now.items c.index-place.result.now at c.args.put.now e (subst (λ (l : List Put). has l c.index-place.result.now at) e h)
+    counted_set i.puts.items c.args.self.now.items c.index-place.result.now at _ e (subst (λ (l : List Put). has l c.index-place.result.now at) e h)
 
 pub invariant_of-self-in-Err : goal.invariant_of-self-in-Err
 invariant_of-self-in-Err c =
     let i = c.self.inside in
-    let at = c.args.put.now.at in
+    let at = c.args.at in
     let k = c.in-Err.k in
     let e : i.puts.items ≡ c.args.self.now.items = ap (λ (t : Tabled). t.items) c.self.view_is in
     let t = c.self.invariant in
@@ -76,16 +76,12 @@ invariant_of-self-in-Err c =
     let sectors_are = inserted_all c.insert-sector.result _ i.sectors.items k at (a.succeeds (omega (arith, some, t.as_many, i.sectors.ok.0, t.enough_sectors))) a.items in
     let places_are = inserted_all c.insert-place.result _ i.places.items k c.len-place.result (b.succeeds (omega (arith, some, t.beside, i.places.ok.0, t.enough_places))) b.items in
     let place_is : c.len-place.result ≡ length i.puts.items = omega (arith, c.len-place.ensures, i.puts.ok.0) in
-    let P : List Put → List ℕ → List ℕ → Type 0 = λ x y z. IsTable x y z i.memory (vec_capacity c.push-put.new.self) (vec_capacity c.insert-sector.new.self) (vec_capacity c.insert-place.new.self) in
-    let is = table-push i.puts.items i.sectors.items i.places.items i.memory _ _ _ _ _ _ k c.args.put.now t m.none some m.within m.low m.high p.capacity a.capacity b.capacity in
-    subst (λ (l : List Put). P l c.insert-sector.new.self.items c.insert-place.new.self.items) (sym puts_are)
-    (subst (λ (l : List ℕ). P (i.puts.items ++ c.args.put.now ∷ []) l c.insert-place.new.self.items) (sym sectors_are)
-    (subst (λ (l : List ℕ). P (i.puts.items ++ c.args.put.now ∷ []) (insert i.sectors.items k at) l) (sym (places_are ∙ ap (λ n. insert i.places.items k n) place_is)) is))
+    table_pushed i.puts.items i.sectors.items i.places.items i.memory _ _ _ _ _ _ k _ _ _ _ puts_are sectors_are (places_are ∙ ap (λ n. insert i.places.items k n) place_is) t m.none some m.within m.low m.high p.capacity a.capacity b.capacity
 
 pub returns-in-Err-clause-content : goal.returns-in-Err-clause-content
 returns-in-Err-clause-content c content =
     let i = c.self.inside in
-    let at = c.args.put.now.at in
+    let at = c.args.at in
     let k = c.in-Err.k in
     let e : i.puts.items ≡ c.args.self.now.items = ap (λ (t : Tabled). t.items) c.self.view_is in
     let t = c.self.invariant in
@@ -96,12 +92,12 @@ returns-in-Err-clause-content c content =
     let some : length i.puts.items < i.memory = omega (arith, room_left c.args.self.now.items at c.args.self.now.memory c.requires other, ap (λ (l : List Put). length l) e, m_memory) in
     let p = c.push-put.ensures in
     ap (λ (l : List Put). overlay l content) (pushed c.push-put.result _ _ _ (p.succeeds (omega (arith, some, i.puts.ok.0, t.enough))) p.items)
-    ∙ overlay-push i.puts.items c.args.put.now content ∙ ap (λ (l : List Put). set (overlay l content) at c.args.put.now.bytes) e
+    ∙ overlay-push i.puts.items _ content ∙ ap (λ (l : List Put). set (overlay l content) at c.args.from.now) e
 
 pub returns-in-Err-clause-names : goal.returns-in-Err-clause-names
 returns-in-Err-clause-names c s =
     let i = c.self.inside in
-    let at = c.args.put.now.at in
+    let at = c.args.at in
     let k = c.in-Err.k in
     let e : i.puts.items ≡ c.args.self.now.items = ap (λ (t : Tabled). t.items) c.self.view_is in
     let t = c.self.invariant in
@@ -112,12 +108,12 @@ returns-in-Err-clause-names c s =
     let some : length i.puts.items < i.memory = omega (arith, room_left c.args.self.now.items at c.args.self.now.memory c.requires other, ap (λ (l : List Put). length l) e, m_memory) in
     let p = c.push-put.ensures in
     ap (λ (l : List Put). names l s) (pushed c.push-put.result _ _ _ (p.succeeds (omega (arith, some, i.puts.ok.0, t.enough))) p.items)
-    ∙ names-push i.puts.items c.args.put.now s ∙ ap (λ (l : List Put). s == at || names l s) e
+    ∙ names-push i.puts.items _ s ∙ ap (λ (l : List Put). s == at || names l s) e
 
 pub returns-in-Err-clause-count : goal.returns-in-Err-clause-count
 returns-in-Err-clause-count c =
     let i = c.self.inside in
-    let at = c.args.put.now.at in
+    let at = c.args.at in
     let k = c.in-Err.k in
     let e : i.puts.items ≡ c.args.self.now.items = ap (λ (t : Tabled). t.items) c.self.view_is in
     let t = c.self.invariant in
@@ -127,4 +123,4 @@ returns-in-Err-clause-count c =
     let other : names c.args.self.now.items at ≡ false = ap (λ (l : List Put). names l at) (sym e) ∙ m.none in
     let some : length i.puts.items < i.memory = omega (arith, room_left c.args.self.now.items at c.args.self.now.memory c.requires other, ap (λ (l : List Put). length l) e, m_memory) in
     let p = c.push-put.ensures in
-    counted_push i.puts.items c.args.self.now.items _ at c.args.put.now e other (pushed c.push-put.result _ _ _ (p.succeeds (omega (arith, some, i.puts.ok.0, t.enough))) p.items)
+    counted_push i.puts.items c.args.self.now.items _ at _ e other (pushed c.push-put.result _ _ _ (p.succeeds (omega (arith, some, i.puts.ok.0, t.enough))) p.items)
