@@ -1,16 +1,16 @@
 -- What watchers are told of `mkdir`, `create` and `mv`.
-use Rattle.std.proofs.Common.{◌≡◌, ℕ, Bool, true, false, List, [], ◌∷◌, length, refl, sym, ◌∙◌, ap, subst, arith}
+use Rattle.std.proofs.Common.{◌≡◌, ℕ, Bool, true, false, List, refl, sym, ◌∙◌, ap}
 use Rattle.std.specs.Prelude.{◌||◌, is_some, Result, Ok, Err, if◌then◌else◌}
 use Rattle.std.proofs.lemmas.Bool.{true≢false}
 use Rattle.sector_disk.specs.Lists.{Content}
 use Rattle.hfs_language.specs.Written.{FitsPath}
 use Rattle.hfs_language.specs.declared.refusal.Refusal.{Refusal}
 use Rattle.hfs_language.specs.declared.refusal.Refusal.TheVariants as refusal
-use Rattle.hfs_model.specs.Step.{Place, is_below, is_private_path, is_root, place, reached, then_, to_make, to_mv, unless}
+use Rattle.hfs_model.specs.Step.{Place, is_below, is_private_path, is_root, place, reached, then_, to_mv, unless}
 use Rattle.hfs_model.specs.declared.plain.PlainEntry.{PlainEntry}
 use Rattle.hfs_model.specs.declared.plain.PlainTree.{PlainTree}
 use Rattle.hfs_volume.specs.Books.{SoundHasPlainTree}
-use Rattle.hfs_volume.specs.Content.{VolumeState, volume_of}
+use Rattle.hfs_volume.specs.Content.{VolumeState}
 use Rattle.hfs_volume.specs.TreeOf.{tree_in, tree_of}
 use Rattle.volume_base.specs.Lists.{lists_of}
 use Rattle.volume_base.specs.Making.{free_place, path_to}
@@ -31,12 +31,7 @@ same_told r x y one other = ap (value_or x) (sym one ∙ other)
 pub not_told : {X : Type 0} (r : Result X Refusal) (why : Refusal) (x : X) → r ≡ Err why → r ≡ Ok x → ⊥
 not_told r why x err ok = let never : Err why ≡ Ok x = sym err ∙ ok in cc never
 
--- the root is no new name
-pub made_some : (tree : PlainTree) (path : List (List ℕ)) (at : Place) → length path ≡ 0 → to_make tree path ≡ Ok at → ⊥
-made_some tree [] at none is = let never : Err refusal.Root ≡ Ok at = is in cc never
-made_some tree (name ∷ path) at none is = omega (arith, none)
-
--- and isn't moved, nor moved to
+-- the root isn't moved, nor moved to
 pub moved_some : (tree : PlainTree) (from to : List (List ℕ)) (pair : PlainEntry × Place) → (is_root from || is_root to) ≡ true → to_mv tree from to ≡ Ok pair → ⊥
 moved_some tree from to pair root is =
     not_told (to_mv tree from to) refusal.Root pair

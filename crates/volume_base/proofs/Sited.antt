@@ -97,12 +97,6 @@ module _ (law : SoundHasPlainTree) (v : Volume) (content : Content) (holds : Hol
     pub site_told : (id : ℕ) → said ≡ Ok id → to_make (tree_of content) path ≡ Ok (free_place id name)
     site_told id ok = told_ok name id (to_make (tree_of content) path) (subst (λ (r : Result ℕ Refusal). SameSite name r (to_make (tree_of content) path)) ok tells)
 
-    -- the folder of a place that may be made is reached by the path above its name
-    pub folder_allowed : (at : Place) → to_make (tree_of content) path ≡ Ok at → (folder_in (lists_of v content).catalog_pairs above ≡ Ok at.folder) × (at ≡ free_place at.folder name)
-    folder_allowed at is =
-        let it = site_allowed name said at (subst (λ (r : Result Place Refusal). SameSite name said r) is tells) in
-        (folder_under (lists_of v content).catalog_pairs above name at.folder (sym found ∙ it.0), it.1)
-
     -- where something may be made, the folder that the path above reaches is the one that was told
     pub site_reached : (at : Place) → to_make (tree_of content) path ≡ Ok at → (id : ℕ) → folder_in (lists_of v content).catalog_pairs above ≡ Ok id → said ≡ Ok id
     site_reached at is id reached = found_is ∙ sym (folder_under (lists_of v content).catalog_pairs above name at.folder (sym found ∙ found_is)) ∙ reached

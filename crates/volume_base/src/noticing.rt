@@ -1,11 +1,11 @@
-//! What commands that make or move a name change, for watchers.
+//! What commands that move a name or give another one change, for watchers.
 ghost use Rattle.std.specs.Prelude.{◌≡◌, false, Ok, IsTrue, IfOk};
 ghost use Rattle.btree_edit.specs.Causes.{HasTroubleCause};
 ghost use Rattle.hfs_language.specs.Written.{FitsPath};
 ghost use Rattle.hfs_language.specs.declared.reply.ChangeKind.TheVariants as change;
-ghost use Rattle.hfs_model.specs.Step.{Place, is_private_path, to_make};
+ghost use Rattle.hfs_model.specs.Step.{Place, is_private_path};
 ghost use Rattle.hfs_model.specs.declared.plain.PlainEntry.{PlainEntry};
-ghost use Rattle.volume_runs.specs.Told.{of_made, of_pair};
+ghost use Rattle.volume_runs.specs.Told.{of_pair};
 ghost use Rattle.hfs_volume.specs.TreeOf.{tree_of};
 ghost use Rattle.volume_base.specs.Linking.{MayLink};
 ghost use Rattle.volume_base.specs.Looking.{ReadsVolume};
@@ -22,63 +22,6 @@ use sector_disk::SectorSpace;
 use std::alloc::Global;
 
 impl Volume {
-    /// What it changes to make something of this name under a path.
-    fn change_new<P: SectorSpace>(
-        &mut self,
-        alloc: Global,
-        space: &mut P,
-        line: u64,
-        above: &[Units],
-        name: &Units,
-    ) -> Result<Changes, Trouble>
-        requires stands { StandsOver self.old (P.SectorView.space space.old) }
-        requires settled { IsTrue (P.SectorView.space space.old).tells → IsSettled self.old (P.SectorView.space space.old).content }
-        requires fits { FitsPath (path_to above.now name.now) }
-        ensures told { IsTrue (P.SectorView.space space.old).tells → is_private_path (path_to above.now name.now) ≡ false → (at : Place) → to_make (tree_of (P.SectorView.space space.old).content) (path_to above.now name.now) ≡ Ok at
-            → IfOk result (λ changes. changes ≡ of_made line (tree_of (P.SectorView.space space.old).content) (Ok at)) }
-        ensures reads { ReadsVolume self.old self.new (P.SectorView.space space.old) (P.SectorView.space space.new) }
-        ensures stands { StandsOver self.new (P.SectorView.space space.new) }
-        ensures settled { IsTrue (P.SectorView.space space.old).tells → IsSettled self.new (P.SectorView.space space.new).content }
-        ensures below { P.SectorView.follows space.old space.new }
-        ensures cause { HasTroubleCause (P.SectorView.space space.old).faults (P.SectorView.space space.new).faults result }
-    {
-        sound_has_plain_tree();
-        match self.folder(alloc, space, above)? {
-            Ok(id) => {
-                let next = self.header.next_catalog_id;
-                Ok(one_change(alloc, line, ChangeKind::Made, next, id, name)?)
-            }
-            Err(_why) => Ok(Changes::new(alloc)),
-        }
-    }
-
-    /// What `mkdir` or `create` changes: something is made where the path says, with the CNID that comes next. It is read before
-    /// the command is done. `Memory` comes where memory is wanting, `Disk` where a read failed.
-    pub fn change_made<P: SectorSpace>(
-        &mut self,
-        alloc: Global,
-        space: &mut P,
-        line: u64,
-        path: &Path,
-    ) -> Result<Changes, Trouble>
-        requires stands { StandsOver self.old (P.SectorView.space space.old) }
-        requires settled { IsTrue (P.SectorView.space space.old).tells → IsSettled self.old (P.SectorView.space space.old).content }
-        requires fits { FitsPath path.now }
-        // Where something may be made there, it is what watchers are told of it.
-        ensures told { IsTrue (P.SectorView.space space.old).tells → is_private_path path.now ≡ false → (at : Place) → to_make (tree_of (P.SectorView.space space.old).content) path.now ≡ Ok at
-            → IfOk result (λ changes. changes ≡ of_made line (tree_of (P.SectorView.space space.old).content) (Ok at)) }
-        ensures reads { ReadsVolume self.old self.new (P.SectorView.space space.old) (P.SectorView.space space.new) }
-        ensures stands { StandsOver self.new (P.SectorView.space space.new) }
-        ensures settled { IsTrue (P.SectorView.space space.old).tells → IsSettled self.new (P.SectorView.space space.new).content }
-        ensures below { P.SectorView.follows space.old space.new }
-        ensures cause { HasTroubleCause (P.SectorView.space space.old).faults (P.SectorView.space space.new).faults result }
-    {
-        match path.as_slice().split_last() {
-            Some((name, above)) => self.change_new(alloc, space, line, above, name),
-            None => Ok(Changes::new(alloc)),
-        }
-    }
-
     /// What it changes to give what a path stands for a name under another path.
     fn change_way<P: SectorSpace>(
         &mut self,

@@ -8,8 +8,7 @@ ghost use Rattle.btree_file.specs.Standing.{numbers_of};
 ghost use Rattle.catalog.specs.Pairs.{value_at};
 ghost use Rattle.hfs_language.specs.Written.{FitsPath};
 ghost use Rattle.hfs_language.specs.declared.command.Command.TheVariants as command;
-ghost use Rattle.hfs_language.specs.declared.reply.Reply.TheVariants as reply;
-ghost use Rattle.hfs_model.specs.Step.{is_private_path, is_refusal, made, step_line};
+ghost use Rattle.hfs_model.specs.Step.{made, refuses, step_line, to_make};
 ghost use Rattle.hfs_volume.specs.Changes.{with_numbers};
 ghost use Rattle.hfs_volume.specs.Commands.{MakesEntry, with_made};
 ghost use Rattle.hfs_volume.specs.Content.{volume_of};
@@ -26,16 +25,17 @@ ghost use Rattle.volume_base.specs.Room.{capacity_of};
 ghost use Rattle.volume_base.specs.Service.{IsInService};
 ghost use Rattle.volume_base.specs.Standing.{IsSettled, StandsOver, own_sectors};
 ghost use Rattle.volume_base.specs.Touching.{Touches};
+ghost use Rattle.volume_runs.specs.Told.{of_made};
 
 use crate::changing::add;
 use crate::new_entries::{new_record, with_made};
-use hfs_language::{Path, Refusal, Reply};
+use hfs_language::{ChangeKind, Changes, Path};
 use hfs_volume::{create_does_its_step, mkdir_does_its_step, sound_has_plain_tree};
 use hx_bytes::{Trouble, Units};
 use sector_disk::SectorSpace;
 use std::alloc::Global;
 use tree_weights::{edits_have_room, edits_take_their_load};
-use volume_base::{Volume, is_private_path};
+use volume_base::{Volume, one_change};
 
 /// Counts a new folder or file in the header, which gives it the next CNID, and puts the header.
 pub(crate) fn draw<P: SectorSpace>(volume: &mut Volume, space: &mut P, folder: bool)
@@ -100,7 +100,7 @@ pub(crate) fn add_new<P: SectorSpace>(
 }
 
 /// Makes a folder or file of this name in the folder with this CNID.
-pub(crate) fn make_in<P: SectorSpace>(
+fn make_in<P: SectorSpace>(
     volume: &mut Volume,
     alloc: Global,
     space: &mut P,
@@ -136,25 +136,25 @@ pub(crate) fn make_in<P: SectorSpace>(
     volume.touch(alloc, space, id, 1, 0)
 }
 
-/// Makes a folder or file of this name under a path, or tells the first reason against it.
+/// Makes a folder or file of this name under a path, where nothing stands against it, and says what it changed.
 fn make_under<P: SectorSpace>(
     volume: &mut Volume,
     alloc: Global,
     space: &mut P,
+    line: u64,
     above: &[Units],
     name: &Units,
     folder: bool,
-) -> Result<Reply, Trouble>
+) -> Result<Changes, Trouble>
     requires stands { StandsOver volume.old (P.SectorView.space space.old) }
     requires settled { IsTrue (P.SectorView.space space.old).tells → IsSettled volume.old (P.SectorView.space space.old).content }
     requires fits { FitsPath (path_to above.now name.now) }
-    requires not_own { is_private_path (path_to above.now name.now) ≡ false }
+    requires fine { IsTrue (P.SectorView.space space.old).tells → refuses (tree_of (P.SectorView.space space.old).content) (Ok (making folder (path_to above.now name.now))) ≡ false }
     requires room { HasRoomToMake volume.old (P.SectorView.space space.old) }
-    ensures reply { IsTrue (P.SectorView.space space.old).tells → IfOk result (λ reply. reply ≡ (step_line (tree_of (P.SectorView.space space.old).content) (Ok (making folder (path_to above.now name.now)))).0) }
+    ensures told { IsTrue (P.SectorView.space space.old).tells → IfOk result (λ changes. changes ≡ of_made line (tree_of (P.SectorView.space space.old).content) (to_make (tree_of (P.SectorView.space space.old).content) (path_to above.now name.now))) }
     ensures tree { IsTrue (P.SectorView.space space.old).tells → OnOk result (tree_of (P.SectorView.space space.new).content ≡ (step_line (tree_of (P.SectorView.space space.old).content) (Ok (making folder (path_to above.now name.now)))).1) }
-    ensures refused { IsTrue (P.SectorView.space space.old).tells → IfOk result (λ reply. is_refusal reply ≡ true → (P.SectorView.space space.new).content ≡ (P.SectorView.space space.old).content) }
-    ensures entry { IsTrue (P.SectorView.space space.old).tells → IfOk result (λ said. said ≡ reply.Ok → HasNew folder (path_to above.now name.now) volume.old.header (lists_of volume.new (P.SectorView.space space.new).content).catalog_pairs) }
-    ensures lists { IsTrue (P.SectorView.space space.old).tells → IfOk result (λ said. said ≡ reply.Ok → Makes folder (path_to above.now name.now) (P.SectorView.space space.old).content (P.SectorView.space space.new).content) }
+    ensures entry { IsTrue (P.SectorView.space space.old).tells → OnOk result (HasNew folder (path_to above.now name.now) volume.old.header (lists_of volume.new (P.SectorView.space space.new).content).catalog_pairs) }
+    ensures lists { IsTrue (P.SectorView.space space.old).tells → OnOk result (Makes folder (path_to above.now name.now) (P.SectorView.space space.old).content (P.SectorView.space space.new).content) }
     ensures stands { OnOk result (StandsOver volume.new (P.SectorView.space space.new)) }
     ensures settled { IsTrue (P.SectorView.space space.old).tells → OnOk result (IsSettled volume.new (P.SectorView.space space.new).content) }
     ensures service { IsInService volume.new (P.SectorView.space space.new) }
@@ -165,32 +165,34 @@ fn make_under<P: SectorSpace>(
     ensures cause { HasTroubleCause (P.SectorView.space space.old).faults (P.SectorView.space space.new).faults result }
 {
     sound_has_plain_tree();
-    match volume.site(alloc, space, above, name)? {
+    let next = volume.header.next_catalog_id;
+    match volume.folder(alloc, space, above)? {
         Ok(id) => {
             make_in(volume, alloc, space, id, name, folder)?;
-            Ok(Reply::Ok)
+            Ok(one_change(alloc, line, ChangeKind::Made, next, id, name)?)
         }
-        Err(why) => Ok(Reply::No(why)),
+        Err(_why) => Err(Trouble::Memory),
     }
 }
 
-/// Makes a folder or file at a path, or tells the first reason against it.
+/// Makes a folder or file at a path, where nothing stands against it, and says what it changed.
 fn make<P: SectorSpace>(
     volume: &mut Volume,
     alloc: Global,
     space: &mut P,
+    line: u64,
     path: &Path,
     folder: bool,
-) -> Result<Reply, Trouble>
+) -> Result<Changes, Trouble>
     requires stands { StandsOver volume.old (P.SectorView.space space.old) }
     requires settled { IsTrue (P.SectorView.space space.old).tells → IsSettled volume.old (P.SectorView.space space.old).content }
     requires fits { FitsPath path.now }
+    requires fine { IsTrue (P.SectorView.space space.old).tells → refuses (tree_of (P.SectorView.space space.old).content) (Ok (making folder path.now)) ≡ false }
     requires room { HasRoomToMake volume.old (P.SectorView.space space.old) }
-    ensures reply { IsTrue (P.SectorView.space space.old).tells → IfOk result (λ reply. reply ≡ (step_line (tree_of (P.SectorView.space space.old).content) (Ok (making folder path.now))).0) }
+    ensures told { IsTrue (P.SectorView.space space.old).tells → IfOk result (λ changes. changes ≡ of_made line (tree_of (P.SectorView.space space.old).content) (to_make (tree_of (P.SectorView.space space.old).content) path.now)) }
     ensures tree { IsTrue (P.SectorView.space space.old).tells → OnOk result (tree_of (P.SectorView.space space.new).content ≡ (step_line (tree_of (P.SectorView.space space.old).content) (Ok (making folder path.now))).1) }
-    ensures refused { IsTrue (P.SectorView.space space.old).tells → IfOk result (λ reply. is_refusal reply ≡ true → (P.SectorView.space space.new).content ≡ (P.SectorView.space space.old).content) }
-    ensures entry { IsTrue (P.SectorView.space space.old).tells → IfOk result (λ said. said ≡ reply.Ok → HasNew folder path.now volume.old.header (lists_of volume.new (P.SectorView.space space.new).content).catalog_pairs) }
-    ensures lists { IsTrue (P.SectorView.space space.old).tells → IfOk result (λ said. said ≡ reply.Ok → Makes folder path.now (P.SectorView.space space.old).content (P.SectorView.space space.new).content) }
+    ensures entry { IsTrue (P.SectorView.space space.old).tells → OnOk result (HasNew folder path.now volume.old.header (lists_of volume.new (P.SectorView.space space.new).content).catalog_pairs) }
+    ensures lists { IsTrue (P.SectorView.space space.old).tells → OnOk result (Makes folder path.now (P.SectorView.space space.old).content (P.SectorView.space space.new).content) }
     ensures stands { OnOk result (StandsOver volume.new (P.SectorView.space space.new)) }
     ensures settled { IsTrue (P.SectorView.space space.old).tells → OnOk result (IsSettled volume.new (P.SectorView.space space.new).content) }
     ensures service { IsInService volume.new (P.SectorView.space space.new) }
@@ -200,37 +202,35 @@ fn make<P: SectorSpace>(
     ensures below { P.SectorView.follows space.old space.new }
     ensures cause { HasTroubleCause (P.SectorView.space space.old).faults (P.SectorView.space space.new).faults result }
 {
-    if is_private_path(path) {
-        return Ok(Reply::No(Refusal::Private));
-    }
     match path.as_slice().split_last() {
-        Some((name, above)) => make_under(volume, alloc, space, above, name, folder),
-        None => Ok(Reply::No(Refusal::Root)),
+        Some((name, above)) => make_under(volume, alloc, space, line, above, name, folder),
+        None => Err(Trouble::Memory),
     }
 }
 
-/// `mkdir`: makes a folder at a path, with mode 0755, in a folder that is there; or tells the first reason against it. A
-/// path that begins with a name of the volume's own is refused. A refused command changes nothing. `Memory` comes where
-/// memory is wanting, `Disk` where a read failed.
+/// `mkdir`, against which nothing stands: makes a folder at a path, with mode 0755, in a folder that is there, and says what it changed, for
+/// watchers. `Memory` comes where memory is wanting, and may come where the command is refused; `Disk` where a read failed.
 pub fn mkdir<P: SectorSpace>(
     volume: &mut Volume,
     alloc: Global,
     space: &mut P,
+    line: u64,
     path: &Path,
-) -> Result<Reply, Trouble>
+) -> Result<Changes, Trouble>
     requires stands { StandsOver volume.old (P.SectorView.space space.old) }
     requires settled { IsTrue (P.SectorView.space space.old).tells → IsSettled volume.old (P.SectorView.space space.old).content }
     requires fits { FitsPath path.now }
+    // The step doesn't refuse it.
+    requires fine { IsTrue (P.SectorView.space space.old).tells → refuses (tree_of (P.SectorView.space space.old).content) (Ok (command.Mkdir path.now)) ≡ false }
     // There is a CNID for it, and room for what it puts; the catalog needn't grow before.
     requires room { HasRoomToMake volume.old (P.SectorView.space space.old) }
-    // Told, reply and tree are those of the plain tree's step.
-    ensures reply { IsTrue (P.SectorView.space space.old).tells → IfOk result (λ reply. reply ≡ (step_line (tree_of (P.SectorView.space space.old).content) (Ok (command.Mkdir path.now))).0) }
+    // Told, it is what watchers are told of it, and the tree is that of the plain tree's step.
+    ensures told { IsTrue (P.SectorView.space space.old).tells → IfOk result (λ changes. changes ≡ of_made line (tree_of (P.SectorView.space space.old).content) (to_make (tree_of (P.SectorView.space space.old).content) path.now)) }
     ensures tree { IsTrue (P.SectorView.space space.old).tells → OnOk result (tree_of (P.SectorView.space space.new).content ≡ (step_line (tree_of (P.SectorView.space space.old).content) (Ok (command.Mkdir path.now))).1) }
-    ensures refused { IsTrue (P.SectorView.space space.old).tells → IfOk result (λ reply. is_refusal reply ≡ true → (P.SectorView.space space.new).content ≡ (P.SectorView.space space.old).content) }
-    // Behind `Ok` its record stands in the catalog, as new ones are.
-    ensures entry { IsTrue (P.SectorView.space space.old).tells → IfOk result (λ said. said ≡ reply.Ok → HasNew true path.now volume.old.header (lists_of volume.new (P.SectorView.space space.new).content).catalog_pairs) }
+    // Its record stands in the catalog, as new ones are.
+    ensures entry { IsTrue (P.SectorView.space space.old).tells → OnOk result (HasNew true path.now volume.old.header (lists_of volume.new (P.SectorView.space space.new).content).catalog_pairs) }
     // The content's lists have its entry with its thread, one entry more in the folder above, and the header's numbers; nothing else of them is changed.
-    ensures lists { IsTrue (P.SectorView.space space.old).tells → IfOk result (λ said. said ≡ reply.Ok → Makes true path.now (P.SectorView.space space.old).content (P.SectorView.space space.new).content) }
+    ensures lists { IsTrue (P.SectorView.space space.old).tells → OnOk result (Makes true path.now (P.SectorView.space space.old).content (P.SectorView.space space.new).content) }
     ensures stands { OnOk result (StandsOver volume.new (P.SectorView.space space.new)) }
     ensures settled { IsTrue (P.SectorView.space space.old).tells → OnOk result (IsSettled volume.new (P.SectorView.space space.new).content) }
     ensures service { IsInService volume.new (P.SectorView.space space.new) }
@@ -245,31 +245,32 @@ pub fn mkdir<P: SectorSpace>(
     ensures below { P.SectorView.follows space.old space.new }
     ensures cause { HasTroubleCause (P.SectorView.space space.old).faults (P.SectorView.space space.new).faults result }
 {
-    make(volume, alloc, space, path, true)
+    make(volume, alloc, space, line, path, true)
 }
 
-/// `create`: makes an empty file at a path, with mode 0644, in a folder that is there; or tells the first reason against
-/// it. A path that begins with a name of the volume's own is refused. A refused command changes nothing. `Memory` comes
-/// where memory is wanting, `Disk` where a read failed.
+/// `create`, against which nothing stands: makes an empty file at a path, with mode 0644, in a folder that is there, and says what it changed,
+/// for watchers. `Memory` comes where memory is wanting, and may come where the command is refused; `Disk` where a read failed.
 pub fn create<P: SectorSpace>(
     volume: &mut Volume,
     alloc: Global,
     space: &mut P,
+    line: u64,
     path: &Path,
-) -> Result<Reply, Trouble>
+) -> Result<Changes, Trouble>
     requires stands { StandsOver volume.old (P.SectorView.space space.old) }
     requires settled { IsTrue (P.SectorView.space space.old).tells → IsSettled volume.old (P.SectorView.space space.old).content }
     requires fits { FitsPath path.now }
+    // The step doesn't refuse it.
+    requires fine { IsTrue (P.SectorView.space space.old).tells → refuses (tree_of (P.SectorView.space space.old).content) (Ok (command.Create path.now)) ≡ false }
     // There is a CNID for it, and room for what it puts; the catalog needn't grow before.
     requires room { HasRoomToMake volume.old (P.SectorView.space space.old) }
-    // Told, reply and tree are those of the plain tree's step.
-    ensures reply { IsTrue (P.SectorView.space space.old).tells → IfOk result (λ reply. reply ≡ (step_line (tree_of (P.SectorView.space space.old).content) (Ok (command.Create path.now))).0) }
+    // Told, it is what watchers are told of it, and the tree is that of the plain tree's step.
+    ensures told { IsTrue (P.SectorView.space space.old).tells → IfOk result (λ changes. changes ≡ of_made line (tree_of (P.SectorView.space space.old).content) (to_make (tree_of (P.SectorView.space space.old).content) path.now)) }
     ensures tree { IsTrue (P.SectorView.space space.old).tells → OnOk result (tree_of (P.SectorView.space space.new).content ≡ (step_line (tree_of (P.SectorView.space space.old).content) (Ok (command.Create path.now))).1) }
-    ensures refused { IsTrue (P.SectorView.space space.old).tells → IfOk result (λ reply. is_refusal reply ≡ true → (P.SectorView.space space.new).content ≡ (P.SectorView.space space.old).content) }
-    // Behind `Ok` its record stands in the catalog, as new ones are.
-    ensures entry { IsTrue (P.SectorView.space space.old).tells → IfOk result (λ said. said ≡ reply.Ok → HasNew false path.now volume.old.header (lists_of volume.new (P.SectorView.space space.new).content).catalog_pairs) }
+    // Its record stands in the catalog, as new ones are.
+    ensures entry { IsTrue (P.SectorView.space space.old).tells → OnOk result (HasNew false path.now volume.old.header (lists_of volume.new (P.SectorView.space space.new).content).catalog_pairs) }
     // The content's lists have its entry with its thread, one entry more in the folder above, and the header's numbers; nothing else of them is changed.
-    ensures lists { IsTrue (P.SectorView.space space.old).tells → IfOk result (λ said. said ≡ reply.Ok → Makes false path.now (P.SectorView.space space.old).content (P.SectorView.space space.new).content) }
+    ensures lists { IsTrue (P.SectorView.space space.old).tells → OnOk result (Makes false path.now (P.SectorView.space space.old).content (P.SectorView.space space.new).content) }
     ensures stands { OnOk result (StandsOver volume.new (P.SectorView.space space.new)) }
     ensures settled { IsTrue (P.SectorView.space space.old).tells → OnOk result (IsSettled volume.new (P.SectorView.space space.new).content) }
     ensures service { IsInService volume.new (P.SectorView.space space.new) }
@@ -284,5 +285,5 @@ pub fn create<P: SectorSpace>(
     ensures below { P.SectorView.follows space.old space.new }
     ensures cause { HasTroubleCause (P.SectorView.space space.old).faults (P.SectorView.space space.new).faults result }
 {
-    make(volume, alloc, space, path, false)
+    make(volume, alloc, space, line, path, false)
 }

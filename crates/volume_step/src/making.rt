@@ -20,7 +20,7 @@ use hx_bytes::Trouble;
 use sector_disk::SectorSpace;
 use std::alloc::Global;
 use volume_base::Volume;
-use volume_names::{fits_make, fits_move, make_fine, mv};
+use volume_names::{create, fits_make, fits_move, mkdir, mv};
 
 /// Makes a folder. Where the room that there is doesn't suffice, a commit comes first.
 pub(crate) fn make_folder<P: SectorSpace>(
@@ -51,7 +51,7 @@ pub(crate) fn make_folder<P: SectorSpace>(
     if !fits_make(volume, space) {
         return Ok(Outcome::CommitFirst);
     }
-    let changes = make_fine(volume, alloc, space, number, path, true)?;
+    let changes = mkdir(volume, alloc, space, number, path)?;
     Ok(Outcome::Answered {
         reply: Reply::Ok,
         changes,
@@ -87,7 +87,7 @@ pub(crate) fn make_file<P: SectorSpace>(
     if !fits_make(volume, space) {
         return Ok(Outcome::CommitFirst);
     }
-    let changes = make_fine(volume, alloc, space, number, path, false)?;
+    let changes = create(volume, alloc, space, number, path)?;
     Ok(Outcome::Answered {
         reply: Reply::Ok,
         changes,

@@ -1,40 +1,39 @@
-use Rattle.std.proofs.Common.{◌≡◌, ℕ, List, length, refl, sym, ◌∙◌, ap, subst}
+use Rattle.std.proofs.Common.{◌≡◌, false, ℕ, List, sym, ◌∙◌, subst}
 use Rattle.std.specs.Prelude.{IfOk, OnOk, Ok}
 use Rattle.hfs_language.specs.Written.{FitsPath}
-use Rattle.hfs_language.specs.declared.reply.Reply.{Reply}
-use Rattle.hfs_language.specs.declared.reply.Reply.TheVariants as reply
-use Rattle.hfs_model.specs.Step.{is_private_path, step_line}
+use Rattle.hfs_language.specs.declared.reply.Change.{Change}
+use Rattle.hfs_model.specs.Step.{refuses, step_line, to_make}
 use Rattle.hfs_volume.specs.TreeOf.{tree_of}
+use Rattle.volume_runs.specs.Told.{of_made}
 use Rattle.volume_base.specs.Lists.{lists_of}
-use Rattle.volume_names.specs.Making.{HasNew, Makes}
 use Rattle.volume_base.specs.Making.{making}
-use Rattle.volume_base.proofs.Commanding.{touches_none}
-use Rattle.volume_base.proofs.Sited.{private_line, root_line}
 use Rattle.volume_base.proofs.Besides.{blocks_none}
+use Rattle.volume_base.proofs.Commanding.{touches_none}
+use Rattle.volume_names.specs.Making.{HasNew, Makes}
 use Rattle.volume_names.proofs.making.make.Goals as goal
 
 pub make_under-requires-clause-fits : goal.make_under-requires-clause-fits
 make_under-requires-clause-fits g c = subst FitsPath (sym (sym c.in-Some.ensures.cases.0 ∙ c.as_slice.ensures)) c.requires.fits
 
-pub make_under-requires-clause-not_own : goal.make_under-requires-clause-not_own
-make_under-requires-clause-not_own g c = ap is_private_path (sym c.in-Some.ensures.cases.0 ∙ c.as_slice.ensures) ∙ sym c.is_private_path.ensures ∙ c.if-is_private_path.false
+pub make_under-requires-clause-fine : goal.make_under-requires-clause-fine
+make_under-requires-clause-fine g c tells = subst (λ (p : List (List ℕ)). refuses (tree_of (g.P.SectorView.space c.args.space.now).content) (Ok (making c.args.folder p)) ≡ false) (sym (sym c.in-Some.ensures.cases.0 ∙ c.as_slice.ensures)) (c.requires.fine tells)
 
-pub returns-in-Some-clause-reply : goal.returns-in-Some-clause-reply
-returns-in-Some-clause-reply g c tells =
-    subst (λ (p : List (List ℕ)). IfOk c.make_under.result (λ (reply : Reply). reply ≡ (step_line (tree_of (g.P.SectorView.space c.args.space.now).content) (Ok (making c.args.folder p))).0)) (sym c.in-Some.ensures.cases.0 ∙ c.as_slice.ensures) (c.make_under.ensures.reply tells)
+pub returns-in-Some-clause-told : goal.returns-in-Some-clause-told
+returns-in-Some-clause-told g c tells =
+    subst (λ (p : List (List ℕ)). IfOk c.make_under.result (λ (changes : List Change). changes ≡ of_made c.args.line (tree_of (g.P.SectorView.space c.args.space.now).content) (to_make (tree_of (g.P.SectorView.space c.args.space.now).content) p))) (sym c.in-Some.ensures.cases.0 ∙ c.as_slice.ensures) (c.make_under.ensures.told tells)
 
 pub returns-in-Some-clause-tree : goal.returns-in-Some-clause-tree
 returns-in-Some-clause-tree g c tells =
     subst (λ (p : List (List ℕ)). OnOk c.make_under.result (tree_of (g.P.SectorView.space c.make_under.new.space).content ≡ (step_line (tree_of (g.P.SectorView.space c.args.space.now).content) (Ok (making c.args.folder p))).1)) (sym c.in-Some.ensures.cases.0 ∙ c.as_slice.ensures) (c.make_under.ensures.tree tells)
 
-pub returns-in-None-clause-reply : goal.returns-in-None-clause-reply
-returns-in-None-clause-reply g c tells = (root_line (tree_of (g.P.SectorView.space c.args.space.now).content) c.args.path.now c.args.folder (ap (λ (p : List (List ℕ)). length p) (sym c.as_slice.ensures) ∙ c.in-None.ensures.cases)).0
+pub returns-in-Some-clause-lists : goal.returns-in-Some-clause-lists
+returns-in-Some-clause-lists g c tells =
+    subst (λ (p : List (List ℕ)). OnOk c.make_under.result (Makes c.args.folder p (g.P.SectorView.space c.args.space.now).content (g.P.SectorView.space c.make_under.new.space).content)) (sym c.in-Some.ensures.cases.0 ∙ c.as_slice.ensures) (c.make_under.ensures.lists tells)
 
-pub returns-in-None-clause-tree : goal.returns-in-None-clause-tree
-returns-in-None-clause-tree g c tells = (root_line (tree_of (g.P.SectorView.space c.args.space.now).content) c.args.path.now c.args.folder (ap (λ (p : List (List ℕ)). length p) (sym c.as_slice.ensures) ∙ c.in-None.ensures.cases)).1
-
-pub returns-in-None-clause-refused : goal.returns-in-None-clause-refused
-returns-in-None-clause-refused g c tells is = refl
+pub returns-in-Some-clause-entry : goal.returns-in-Some-clause-entry
+returns-in-Some-clause-entry g c tells =
+    subst (λ (p : List (List ℕ)). OnOk c.make_under.result (HasNew c.args.folder p c.args.volume.now.header (lists_of c.make_under.new.volume (g.P.SectorView.space c.make_under.new.space).content).catalog_pairs))
+    (sym c.in-Some.ensures.cases.0 ∙ c.as_slice.ensures) (c.make_under.ensures.entry tells)
 
 pub returns-in-None-clause-touches : goal.returns-in-None-clause-touches
 returns-in-None-clause-touches g c committed = touches_none committed _ (g.P.SectorView.space c.args.space.now)
@@ -42,45 +41,5 @@ returns-in-None-clause-touches g c committed = touches_none committed _ (g.P.Sec
 pub returns-in-None-clause-service : goal.returns-in-None-clause-service
 returns-in-None-clause-service g c = c.requires.stands.service
 
-pub returns-then-is_private_path-clause-reply : goal.returns-then-is_private_path-clause-reply
-returns-then-is_private_path-clause-reply g c tells = (private_line (tree_of (g.P.SectorView.space c.args.space.now).content) c.args.path.now c.args.folder (sym c.is_private_path.ensures ∙ c.if-is_private_path.true)).0
-
-pub returns-then-is_private_path-clause-tree : goal.returns-then-is_private_path-clause-tree
-returns-then-is_private_path-clause-tree g c tells = (private_line (tree_of (g.P.SectorView.space c.args.space.now).content) c.args.path.now c.args.folder (sym c.is_private_path.ensures ∙ c.if-is_private_path.true)).1
-
-pub returns-then-is_private_path-clause-refused : goal.returns-then-is_private_path-clause-refused
-returns-then-is_private_path-clause-refused g c tells is = refl
-
-pub returns-then-is_private_path-clause-touches : goal.returns-then-is_private_path-clause-touches
-returns-then-is_private_path-clause-touches g c committed = touches_none committed _ (g.P.SectorView.space c.args.space.now)
-
-pub returns-then-is_private_path-clause-service : goal.returns-then-is_private_path-clause-service
-returns-then-is_private_path-clause-service g c = c.requires.stands.service
-
-pub returns-in-Some-clause-entry : goal.returns-in-Some-clause-entry
-returns-in-Some-clause-entry g c tells =
-    subst (λ (p : List (List ℕ)). IfOk c.make_under.result (λ (said : Reply). said ≡ reply.Ok → HasNew c.args.folder p c.args.volume.now.header (lists_of c.make_under.new.volume (g.P.SectorView.space c.make_under.new.space).content).catalog_pairs))
-    (sym c.in-Some.ensures.cases.0 ∙ c.as_slice.ensures) (c.make_under.ensures.entry tells)
-
-pub returns-in-None-clause-entry : goal.returns-in-None-clause-entry
-returns-in-None-clause-entry g c tells is = absurd (cc is)
-
-pub returns-then-is_private_path-clause-entry : goal.returns-then-is_private_path-clause-entry
-returns-then-is_private_path-clause-entry g c tells is = absurd (cc is)
-
-pub returns-in-Some-clause-lists : goal.returns-in-Some-clause-lists
-returns-in-Some-clause-lists g c tells =
-    subst (λ (p : List (List ℕ)). IfOk c.make_under.result (λ (said : Reply). said ≡ reply.Ok → Makes c.args.folder p (g.P.SectorView.space c.args.space.now).content (g.P.SectorView.space c.make_under.new.space).content))
-    (sym c.in-Some.ensures.cases.0 ∙ c.as_slice.ensures) (c.make_under.ensures.lists tells)
-
-pub returns-in-None-clause-lists : goal.returns-in-None-clause-lists
-returns-in-None-clause-lists g c tells is = absurd (cc is)
-
-pub returns-then-is_private_path-clause-lists : goal.returns-then-is_private_path-clause-lists
-returns-then-is_private_path-clause-lists g c tells is = absurd (cc is)
-
 pub returns-in-None-clause-blocks : goal.returns-in-None-clause-blocks
 returns-in-None-clause-blocks g c = blocks_none c.args.volume.now
-
-pub returns-then-is_private_path-clause-blocks : goal.returns-then-is_private_path-clause-blocks
-returns-then-is_private_path-clause-blocks g c = blocks_none c.args.volume.now

@@ -14,21 +14,21 @@ use Rattle.volume_step.proofs.making.make_file.Goals as goal
 
 pub returns-clause-answered : goal.returns-clause-answered
 returns-clause-answered g c tells =
-    create_steps (capacity_of c.args.volume.now) c.args.number c.args.path.now (g.P.SectorView.space c.args.space.now).content (g.P.SectorView.space c.make_fine.new.space).content
+    create_steps (capacity_of c.args.volume.now) c.args.number c.args.path.now (g.P.SectorView.space c.args.space.now).content (g.P.SectorView.space c.create.new.space).content
     (sound_here c.args.volume.now (g.P.SectorView.space c.args.space.now) (c.requires.stands.stands tells) (c.requires.settled tells))
-    (sound_here c.make_fine.new.volume (g.P.SectorView.space c.make_fine.new.space) (c.in_ok-changes.ensures.stands.stands ((c.make_fine.ensures.touches (g.P.SectorView.space c.args.space.now).content).same.tells ∙ tells)) (c.in_ok-changes.ensures.settled tells))
+    (sound_here c.create.new.volume (g.P.SectorView.space c.create.new.space) (c.in_ok-changes.ensures.stands.stands ((c.create.ensures.touches (g.P.SectorView.space c.args.space.now).content).same.tells ∙ tells)) (c.in_ok-changes.ensures.settled tells))
     reply.Ok (c.requires.affords tells) (sym (line_ok (tree_of (g.P.SectorView.space c.args.space.now).content) (command.Create c.args.path.now) refl (c.requires.affords tells).no_refusal)) (c.in_ok-changes.ensures.tree tells) (λ fine. c.in_ok-changes.ensures.lists tells) c.in_ok-changes.changes
     (λ not_own at is. c.in_ok-changes.ensures.told tells ∙ ap (of_made c.args.number (tree_of (g.P.SectorView.space c.args.space.now).content)) is)
 
 pub returns-clause-place : goal.returns-clause-place
 returns-clause-place g c tells =
-    create_place (capacity_of c.args.volume.now) c.args.number c.args.path.now (g.P.SectorView.space c.args.space.now).content (g.P.SectorView.space c.make_fine.new.space).content
+    create_place (capacity_of c.args.volume.now) c.args.number c.args.path.now (g.P.SectorView.space c.args.space.now).content (g.P.SectorView.space c.create.new.space).content
     (sound_here c.args.volume.now (g.P.SectorView.space c.args.space.now) (c.requires.stands.stands tells) (c.requires.settled tells))
-    (sound_here c.make_fine.new.volume (g.P.SectorView.space c.make_fine.new.space) (c.in_ok-changes.ensures.stands.stands ((c.make_fine.ensures.touches (g.P.SectorView.space c.args.space.now).content).same.tells ∙ tells)) (c.in_ok-changes.ensures.settled tells))
+    (sound_here c.create.new.volume (g.P.SectorView.space c.create.new.space) (c.in_ok-changes.ensures.stands.stands ((c.create.ensures.touches (g.P.SectorView.space c.args.space.now).content).same.tells ∙ tells)) (c.in_ok-changes.ensures.settled tells))
     reply.Ok (c.requires.affords tells) (sym (line_ok (tree_of (g.P.SectorView.space c.args.space.now).content) (command.Create c.args.path.now) refl (c.requires.affords tells).no_refusal)) (c.in_ok-changes.ensures.tree tells) (λ fine. c.in_ok-changes.ensures.lists tells)
 
 pub returns-clause-holds : goal.returns-clause-holds
-returns-clause-holds g c committed was = holds_kept committed c.args.volume.now c.make_fine.new.volume c.make_fine.ensures.blocks.map was
+returns-clause-holds g c committed was = holds_kept committed c.args.volume.now c.create.new.volume c.create.ensures.blocks.map was
 
 pub returns-clause-done : goal.returns-clause-done
 returns-clause-done g c tells met =
@@ -44,19 +44,19 @@ pub returns-then-not-fits_make-clause-loads : goal.returns-then-not-fits_make-cl
 returns-then-not-fits_make-clause-loads g c tells = within_none (command.Create c.args.path.now) c.args.volume.now (g.P.SectorView.space c.args.space.now) (g.P.SectorView.space c.args.space.now) (omega arith)
 
 pub returns-clause-capacity : goal.returns-clause-capacity
-returns-clause-capacity g c = c.make_fine.ensures.blocks.capacity
+returns-clause-capacity g c = c.create.ensures.blocks.capacity
 
 pub returns-clause-shrunk : goal.returns-clause-shrunk
-returns-clause-shrunk g c = c.make_fine.ensures.blocks.shrunk
+returns-clause-shrunk g c = c.create.ensures.blocks.shrunk
 
 pub returns-clause-loads : goal.returns-clause-loads
-returns-clause-loads g c tells = within_now (command.Create c.args.path.now) c.args.volume.now (g.P.SectorView.space c.args.space.now) (g.P.SectorView.space c.make_fine.new.space) refl refl (c.requires.affords tells) (c.make_fine.ensures.loads tells)
+returns-clause-loads g c tells = within_now (command.Create c.args.path.now) c.args.volume.now (g.P.SectorView.space c.args.space.now) (g.P.SectorView.space c.create.new.space) refl refl (c.requires.affords tells) (c.create.ensures.loads tells)
 
 pub returns-in_err-changes-clause-capacity : goal.returns-in_err-changes-clause-capacity
-returns-in_err-changes-clause-capacity g c = c.make_fine.ensures.blocks.capacity
+returns-in_err-changes-clause-capacity g c = c.create.ensures.blocks.capacity
 
 pub returns-in_err-changes-clause-shrunk : goal.returns-in_err-changes-clause-shrunk
-returns-in_err-changes-clause-shrunk g c = c.make_fine.ensures.blocks.shrunk
+returns-in_err-changes-clause-shrunk g c = c.create.ensures.blocks.shrunk
 
 pub returns-in_err-changes-clause-loads : goal.returns-in_err-changes-clause-loads
-returns-in_err-changes-clause-loads g c tells = within_now (command.Create c.args.path.now) c.args.volume.now (g.P.SectorView.space c.args.space.now) (g.P.SectorView.space c.make_fine.new.space) refl refl (c.requires.affords tells) (c.make_fine.ensures.loads tells)
+returns-in_err-changes-clause-loads g c tells = within_now (command.Create c.args.path.now) c.args.volume.now (g.P.SectorView.space c.args.space.now) (g.P.SectorView.space c.create.new.space) refl refl (c.requires.affords tells) (c.create.ensures.loads tells)
