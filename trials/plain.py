@@ -7,11 +7,12 @@
 A name is its UTF-16 code units as big-endian bytes, which stand in the order of the units. `df` is no question to a tree: its answer is None.
 """
 
+import codecs
 import functools
+import pickle
 import re
 import struct
 import unicodedata
-import urllib.parse
 
 LINE, READ, SIZE, GROWTH, LINKS, VALUE = 140000, 65536, 2**40, 1048576, 32767, 1700
 NAME, ATTRIBUTE_NAME = 255, 127
@@ -91,7 +92,7 @@ def print_value(value):
 @functools.lru_cache(maxsize=256)
 def read_value(word):
     """The bytes of a value that is spelled right."""
-    return urllib.parse.unquote_to_bytes(word[1:])
+    return codecs.escape_decode(word[1:].replace(b"\\", b"\\\\").replace(b"%", b"\\x"))[0]
 
 
 # ---- lines
@@ -167,6 +168,10 @@ class Plain:
     def __init__(self, next_id=18, has_private=False):
         self.root = Node(2, True)
         self.next, self.has_private, self.moment = next_id, has_private, 0
+
+    def copied(self):
+        """Another tree that is the same."""
+        return pickle.loads(pickle.dumps(self, pickle.HIGHEST_PROTOCOL))
 
     def answer(self, line, ahead=False):
         """The reply to a line; the tree is what it is behind it. With `ahead` the tree stays, and the call that changes it is given too."""
