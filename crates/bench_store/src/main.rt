@@ -10,7 +10,7 @@ mod mounted;
 mod task;
 mod volume;
 
-use file_rig::{FileRig, Image, Store};
+use file_rig::{FileRig, Image, Place, Store};
 use hx_bytes::OutOfMemory;
 use mounted::Mounted;
 use std::env;
@@ -98,10 +98,10 @@ fn run(rt: &HostRuntime, name: &str, task: &Task) -> Result<Option<Counts>, OutO
 }
 
 // Makes one transaction, and says whether it was committed.
-fn transact<K: Write + Drop>(
+fn transact<P: Place + Drop, K: Write + Drop>(
     rt: &HostRuntime,
     mounted: &mut Mounted,
-    disk: &mut FileRig<'_, K>,
+    disk: &mut FileRig<P, K>,
     task: &Task,
     number: u64,
 ) -> Result<bool, OutOfMemory> {

@@ -7,6 +7,7 @@ mod ahead;
 mod failure;
 mod gathered;
 mod image;
+mod look;
 mod place;
 mod rig;
 mod source;
@@ -15,6 +16,7 @@ mod streams;
 
 pub use failure::{Act, Failure, tell};
 pub use image::Image;
+pub use look::Look;
 pub use place::Place;
 pub use rig::FileRig;
 pub use source::StdinSource;

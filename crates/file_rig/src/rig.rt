@@ -1,16 +1,16 @@
-//! A disk that is an image, with a writer as its sink. It tells no content.
+//! A disk that is a place, with a writer as its sink. It tells no content.
 use crate::again::write_again;
 use crate::failure::Failure;
-use crate::image::Image;
+use crate::place::Place;
 use crate::store::Store;
 use hx_bytes::{Failed, Sector};
 use sector_disk::{Rig, SectorDisk};
 use std::io::{self, ErrorKind, Write};
 
-/// The sectors of an image, a sink, and what failed last of each.
+/// The sectors of a place, a sink, and what failed last of each.
 #[derive(Drop)]
-pub struct FileRig<'a, K: Write + Drop> {
-    store: Store<Image<'a>>,
+pub struct FileRig<P: Place + Drop, K: Write + Drop> {
+    store: Store<P>,
     sink: K,
     faults: u64,
     sink_faults: u64,
@@ -19,9 +19,9 @@ pub struct FileRig<'a, K: Write + Drop> {
     sink_failure: Option<io::Error>,
 }
 
-impl<'a, K: Write + Drop> FileRig<'a, K> {
+impl<P: Place + Drop, K: Write + Drop> FileRig<P, K> {
     /// Nothing was read, written or told yet.
-    pub fn new(store: Store<Image<'a>>, sink: K) -> FileRig<'a, K> {
+    pub fn new(store: Store<P>, sink: K) -> FileRig<P, K> {
         FileRig {
             store,
             sink,
@@ -33,7 +33,7 @@ impl<'a, K: Write + Drop> FileRig<'a, K> {
         }
     }
 
-    /// The last failure of the image.
+    /// The last failure of the place.
     pub fn failure(&self) -> Option<Failure> {
         self.failure
     }
@@ -44,7 +44,7 @@ impl<'a, K: Write + Drop> FileRig<'a, K> {
     }
 }
 
-impl<'a, K: Write + Drop> SectorDisk for FileRig<'a, K> {
+impl<P: Place + Drop, K: Write + Drop> SectorDisk for FileRig<P, K> {
     ghost use Rattle.file_rig.specs.Untold.{untold, untold_is_disk};
 
     ghost state = { λ rig. untold rig.store.sectors rig.faults rig.sink_faults rig.barriers };
@@ -101,7 +101,7 @@ impl<'a, K: Write + Drop> SectorDisk for FileRig<'a, K> {
     }
 }
 
-impl<'a, K: Write + Drop> Rig for FileRig<'a, K> {
+impl<P: Place + Drop, K: Write + Drop> Rig for FileRig<P, K> {
     fn tell(&mut self, bytes: &[u8]) -> Result<usize, Failed> {
         match write_again(&mut self.sink, bytes) {
             Ok(count) => {
