@@ -1,6 +1,13 @@
 //! What the system was asked for when it failed, and its reason.
 
-use std::io;
+use crate::identity::Identity;
+use crate::limit::{FileLimit, Limited};
+use crate::opening::is_stream;
+use crate::streams::Stream;
+use crate::waiting::Waiting;
+use std::fs;
+use std::io::{self, Write};
+use std::rt::Stderr;
 
 /// What the program was doing.
 #[derive(Clone, Copy, PartialEq, Eq, Debug, Drop)]
@@ -19,6 +26,8 @@ pub enum Act {
     Writing { first: u64, count: u64 },
     /// Making durable what was written.
     Flushing,
+    /// Keeping the image that was opened, as long as it is written.
+    Keeping,
 }
 
 /// An act and the system's reason.
@@ -43,23 +52,49 @@ impl Act {
     }
 }
 
-/// Tells on standard error what failed, in one sentence. Where standard error fails too, that is all.
-pub fn tell(rt: &impl Eprint, failure: &Failure, image: &str) {
+/// Tells on standard error what failed, in one sentence, unless standard error is the image. Where standard error fails too, that is all.
+pub fn tell(rt: &HostRuntime, failure: &Failure, image: &str) {
+    if let Ok(found) = fs::metadata(rt, image) {
+        if is_stream(rt, Stream::Error, Identity::of(&found)) {
+            return;
+        }
+    }
+    let mut sink = standard_error(rt);
     let error = failure.error;
     let _ = match failure.act {
-        Act::Opening => eprintln!(rt; "hfsx: opening {image}: {error}"),
-        Act::Locking => eprintln!(rt; "hfsx: locking {image}: {error}"),
-        Act::Measuring => eprintln!(rt; "hfsx: asking for the size of {image}: {error}"),
-        Act::Lengthening => eprintln!(rt; "hfsx: giving {image} its length: {error}"),
-        Act::Reading(at) => eprintln!(rt; "hfsx: reading sector {at} of {image}: {error}"),
+        Act::Opening => sink.write_fmt(format_args!("hfsx: opening {image}: {error}\n")),
+        Act::Locking => sink.write_fmt(format_args!("hfsx: locking {image}: {error}\n")),
+        Act::Measuring => sink.write_fmt(format_args!(
+            "hfsx: asking for the size of {image}: {error}\n"
+        )),
+        Act::Lengthening => sink.write_fmt(format_args!(
+            "hfsx: giving {image} its length: {error}\n"
+        )),
+        Act::Reading(at) => sink.write_fmt(format_args!(
+            "hfsx: reading sector {at} of {image}: {error}\n"
+        )),
         Act::Writing { first, count } => {
             if count == 1 {
-                eprintln!(rt; "hfsx: writing sector {first} of {image}: {error}")
+                sink.write_fmt(format_args!("hfsx: writing sector {first} of {image}: {error}\n"))
             } else {
                 let last = first.saturating_add(count).saturating_sub(1);
-                eprintln!(rt; "hfsx: writing sectors {first} to {last} of {image}: {error}")
+                sink.write_fmt(format_args!(
+                    "hfsx: writing sectors {first} to {last} of {image}: {error}\n"
+                ))
             }
         }
-        Act::Flushing => eprintln!(rt; "hfsx: making {image} durable: {error}"),
+        Act::Flushing => sink.write_fmt(format_args!("hfsx: making {image} durable: {error}\n")),
+        Act::Keeping => sink.write_fmt(format_args!("hfsx: keeping {image}: {error}\n")),
     };
+}
+
+/// Tells on standard error what failed of a standard stream. Where standard error fails too, that is all.
+pub fn tell_stream(rt: &HostRuntime, act: &str, error: io::Error) {
+    let _ = standard_error(rt).write_fmt(format_args!("hfsx: {act}: {error}\n"));
+}
+
+// Standard error, which is waited for, and written only where the system lets it have the bytes.
+fn standard_error(rt: &HostRuntime) -> Limited<'_, Waiting<'_, HostRuntime, Stderr>> {
+    let sink = Waiting::new(rt, rt.stderr());
+    Limited::new(rt, FileLimit::of_process(rt), Stream::Error, sink)
 }

@@ -1,25 +1,17 @@
-//! The file or block device of an image: opened, locked, measured, read and written.
+//! The file or block device of an image: opened, measured, read and written, and looked for as long as it is written.
 
 use crate::failure::{Act, Failure};
+use crate::identity::Identity;
+use crate::limit::FileLimit;
+use crate::opening::{Opened, Purpose, may_be_image, open};
 use crate::place::Place;
 use hx_bytes::Sector;
-use std::fs::{self, File, OpenOptions, TryLockError};
+use std::fs::{self, File};
 use std::io::{self, ErrorKind, Seek, SeekFrom};
-use std::os::unix::fs::{FileExt, FileTypeExt, MetadataExt};
+use std::os::unix::fs::{FileExt, FileTypeExt};
 
 /// The bytes of a sector.
 const SECTOR: u64 = 512;
-
-/// What an image is opened for.
-#[derive(Clone, Copy)]
-enum Purpose {
-    /// It is read alone. Others may read it at the same time.
-    Reading,
-    /// It is read and written.
-    Writing,
-    /// It is made if it is missing, read and written.
-    Making,
-}
 
 /// An image, or a file that is to become one.
 #[derive(Drop)]
@@ -32,24 +24,32 @@ pub enum Image<'a> {
         name: &'a str,
         sectors: u64,
     },
-    /// A file that is locked: against other processes, or where it is read alone against those that write it.
-    Open(File),
+    /// A file that is open and locked.
+    Open(OpenImage<'a>),
+}
+
+/// An image that is open: against other processes, or where it is read alone against those that write it.
+#[derive(Drop)]
+pub struct OpenImage<'a> {
+    rt: &'a HostRuntime,
+    name: &'a str,
+    opened: Opened,
+    sectors: u64,
+    limit: FileLimit,
 }
 
 impl<'a> Image<'a> {
     /// Opens a file or a block device that is there, and says how many whole sectors it has.
     pub fn open(rt: &'a HostRuntime, name: &'a str) -> Result<(Image<'a>, u64), Failure> {
-        let file = locked(rt, name, Purpose::Writing)?;
-        let sectors = sectors_of(&file)?;
-        Ok((Image::Open(file), sectors))
+        let opened = open(rt, name, Purpose::Writing)?;
+        measured(rt, name, opened)
     }
 
     /// Opens a file or a block device that is there to read it alone, and says how many whole sectors it has. It needn't be one that
     /// may be written.
     pub fn to_check(rt: &'a HostRuntime, name: &'a str) -> Result<(Image<'a>, u64), Failure> {
-        let file = locked(rt, name, Purpose::Reading)?;
-        let sectors = sectors_of(&file)?;
-        Ok((Image::Open(file), sectors))
+        let opened = open(rt, name, Purpose::Reading)?;
+        measured(rt, name, opened)
     }
 
     /// A file to be formatted with so many sectors, and how many it will have: a block device has the number that it has.
@@ -58,27 +58,137 @@ impl<'a> Image<'a> {
         name: &'a str,
         sectors: u64,
     ) -> Result<(Image<'a>, u64), Failure> {
-        match fs::metadata(rt, name) {
-            Ok(found) if found.file_type().is_block_device() => Image::open(rt, name),
-            _ => Ok((Image::Unmade { rt, name, sectors }, sectors)),
+        if let Ok(found) = fs::metadata(rt, name) {
+            may_be_image(rt, &found)?;
+            if found.file_type().is_block_device() {
+                return Image::open(rt, name);
+            }
         }
+        Ok((Image::Unmade { rt, name, sectors }, sectors))
     }
 
-    // The file, which is opened now where that was put off, or none.
-    fn file(&mut self) -> Result<Option<&File>, Failure> {
+    // The image, which is opened now where that was put off, or none.
+    fn file(&mut self) -> Result<Option<&OpenImage<'a>>, Failure> {
         if let Image::Unmade { rt, name, sectors } = self {
-            let file = locked(*rt, *name, Purpose::Making)?;
-            let length = sectors.checked_mul(SECTOR).unwrap_or(u64::MAX);
-            if let Err(error) = file.set_len(length) {
-                return Err(Act::Lengthening.failed(error));
-            }
-            *self = Image::Open(file);
+            *self = Image::Open(made(*rt, *name, *sectors)?);
         }
         match self {
-            Image::Open(file) => Ok(Some(file)),
+            Image::Open(image) => Ok(Some(image)),
             _ => Ok(None),
         }
     }
+}
+
+// An image of what was opened, and its number of sectors.
+fn measured<'a>(
+    rt: &'a HostRuntime,
+    name: &'a str,
+    opened: Opened,
+) -> Result<(Image<'a>, u64), Failure> {
+    let sectors = sectors_of(&opened.file)?;
+    let image = OpenImage {
+        rt,
+        name,
+        opened,
+        sectors,
+        limit: FileLimit::of_process(rt),
+    };
+    Ok((Image::Open(image), sectors))
+}
+
+// A file that is opened, or made, and gets this length.
+fn made<'a>(rt: &'a HostRuntime, name: &'a str, sectors: u64) -> Result<OpenImage<'a>, Failure> {
+    let opened = open(rt, name, Purpose::Making)?;
+    let limit = FileLimit::of_process(rt);
+    if let Err(error) = lengthen(&opened.file, sectors, limit) {
+        return Err(Act::Lengthening.failed(error));
+    }
+    Ok(OpenImage {
+        rt,
+        name,
+        opened,
+        sectors,
+        limit,
+    })
+}
+
+// Gives a file its length.
+fn lengthen(file: &File, sectors: u64, limit: FileLimit) -> io::Result<()> {
+    let length = sectors.checked_mul(SECTOR).unwrap_or(u64::MAX);
+    if length > file.metadata()?.len() {
+        limit.allows(length)?;
+    }
+    file.set_len(length)
+}
+
+impl<'a> OpenImage<'a> {
+    // Reads the sectors from one on.
+    fn read(&self, first: u64, into: &mut [Sector]) -> io::Result<()> {
+        self.opened
+            .file
+            .read_exact_at(into.as_flattened_mut(), first.wrapping_mul(SECTOR))
+    }
+
+    // Writes the sectors from one on. A file that became shorter isn't made longer again.
+    fn write(&self, first: u64, run: &[Sector]) -> Result<(), Failure> {
+        self.has_its_length()?;
+        match self.write_bytes(first.wrapping_mul(SECTOR), run.as_flattened()) {
+            Ok(()) => Ok(()),
+            Err(error) => {
+                let count = run.len() as u64;
+                Err(Act::Writing { first, count }.failed(error))
+            }
+        }
+    }
+
+    // Writes bytes at a place, if the system lets a file have so many.
+    fn write_bytes(&self, place: u64, bytes: &[u8]) -> io::Result<()> {
+        if matches!(self.opened.identity, Identity::File { .. }) {
+            self.limit.allows(place.saturating_add(bytes.len() as u64))?;
+        }
+        self.opened.file.write_all_at(bytes, place)
+    }
+
+    // Makes durable what was written, and sees that the image is still there.
+    fn flush(&self) -> Result<(), Failure> {
+        if let Err(error) = self.opened.file.sync_data() {
+            return Err(Act::Flushing.failed(error));
+        }
+        self.has_its_length()?;
+        self.has_its_name()
+    }
+
+    // Whether it has as many sectors as when it was opened.
+    fn has_its_length(&self) -> Result<(), Failure> {
+        if sectors_of(&self.opened.file)? < self.sectors {
+            return Err(lost("it became shorter"));
+        }
+        Ok(())
+    }
+
+    // Whether its name still names it.
+    fn has_its_name(&self) -> Result<(), Failure> {
+        match fs::metadata(self.rt, self.name) {
+            Ok(found) => {
+                if Identity::of(&found) == self.opened.identity {
+                    Ok(())
+                } else {
+                    Err(lost("its name was given to another file"))
+                }
+            }
+            Err(error) => {
+                if error.kind() == ErrorKind::NotFound {
+                    Err(lost("it was removed or renamed"))
+                } else {
+                    Err(Act::Keeping.failed(error))
+                }
+            }
+        }
+    }
+}
+
+fn lost(why: &str) -> Failure {
+    Act::Keeping.failed(io::Error::new(ErrorKind::NotFound, why))
 }
 
 impl<'a> Place for Image<'a> {
@@ -87,11 +197,8 @@ impl<'a> Place for Image<'a> {
     ghost state = { λ _. untold_place };
 
     fn read_run(&mut self, first: u64, into: &mut [Sector]) -> Result<(), Failure> {
-        if let Some(file) = self.file()? {
-            if let Err(error) = file.read_exact_at(
-                into.as_flattened_mut(),
-                first.wrapping_mul(SECTOR),
-            ) {
+        if let Some(image) = self.file()? {
+            if let Err(error) = image.read(first, into) {
                 return Err(Act::Reading(first).failed(error));
             }
         }
@@ -99,83 +206,18 @@ impl<'a> Place for Image<'a> {
     }
 
     fn write_run(&mut self, first: u64, run: &[Sector]) -> Result<(), Failure> {
-        if let Some(file) = self.file()? {
-            if let Err(error) = file.write_all_at(run.as_flattened(), first.wrapping_mul(SECTOR)) {
-                let count = run.len() as u64;
-                return Err(Act::Writing { first, count }.failed(error));
-            }
+        match self.file()? {
+            Some(image) => image.write(first, run),
+            None => Ok(()),
         }
-        Ok(())
     }
 
     fn flush(&mut self) -> Result<(), Failure> {
-        if let Some(file) = self.file()? {
-            if let Err(error) = file.sync_data() {
-                return Err(Act::Flushing.failed(error));
-            }
-        }
-        Ok(())
-    }
-}
-
-// The file or block device, locked as long as it is open: for this process alone, or where it is read alone for all that do no more.
-fn locked(rt: &HostRuntime, name: &str, purpose: Purpose) -> Result<File, Failure> {
-    let file = match ways(purpose).open(rt, name) {
-        Ok(file) => file,
-        Err(error) => return Err(Act::Opening.failed(error)),
-    };
-    may_be_image(rt, &file)?;
-    let lock = match purpose {
-        Purpose::Reading => file.try_lock_shared(),
-        Purpose::Writing | Purpose::Making => file.try_lock(),
-    };
-    match lock {
-        Ok(()) => Ok(file),
-        Err(TryLockError::WouldBlock) => {
-            let busy = io::Error::new(ErrorKind::ResourceBusy, "another process uses it");
-            Err(Act::Locking.failed(busy))
-        }
-        Err(TryLockError::Error(error)) => Err(Act::Locking.failed(error)),
-    }
-}
-
-// How a file is opened for this.
-fn ways(purpose: Purpose) -> OpenOptions {
-    let mut how = OpenOptions::new();
-    how.read(true);
-    match purpose {
-        Purpose::Reading => {}
-        Purpose::Writing => {
-            how.write(true);
-        }
-        Purpose::Making => {
-            how.write(true).create(true);
+        match self.file()? {
+            Some(image) => image.flush(),
+            None => Ok(()),
         }
     }
-    how
-}
-
-// Refuses what has no fixed sectors, and a standard stream, over which replies would be written.
-fn may_be_image(rt: &HostRuntime, file: &File) -> Result<(), Failure> {
-    let found = match file.metadata() {
-        Ok(found) => found,
-        Err(error) => return Err(Act::Measuring.failed(error)),
-    };
-    if !found.is_file() && !found.file_type().is_block_device() {
-        return Err(unfit("it is neither a file nor a block device"));
-    }
-    for stream in ["/proc/self/fd/0", "/proc/self/fd/1", "/proc/self/fd/2"] {
-        if let Ok(other) = fs::metadata(rt, stream) {
-            if other.dev() == found.dev() && other.ino() == found.ino() {
-                return Err(unfit("it is a standard stream of this program"));
-            }
-        }
-    }
-    Ok(())
-}
-
-fn unfit(why: &str) -> Failure {
-    Act::Opening.failed(io::Error::new(ErrorKind::InvalidInput, why))
 }
 
 // How many whole sectors a file has, or a block device, whose length its end tells.

@@ -1,13 +1,15 @@
-//! A store over sectors in memory, and reads that signals interrupt.
+//! A store over sectors in memory, streams that are interrupted or not ready, and tables of the system.
 ghost use Rattle.std.specs.Prelude.{◌≡◌, ◌<◌, IfOk};
 
 use crate::again::read_again;
 use crate::failure::{Act, Failure};
-use crate::{Place, Store};
+use crate::limit::most_of;
+use crate::streams::place_in;
+use crate::{Place, Store, Waiting};
 use hx_bytes::Sector;
 use std::alloc::{AllocError, Global};
 use std::cell::Cell;
-use std::io::{self, ErrorKind, Read};
+use std::io::{self, ErrorKind, Read, Write};
 use std::process::Abort;
 use std::test::Fail;
 
@@ -193,5 +195,73 @@ fn an_interrupted_read_is_made_again(rt: HostRuntime) -> Result<(), Fail> {
     let mut bytes = [0; 8];
     assert!(rt; matches!(read_again(&mut reader, &mut bytes), Ok(3)));
     assert_eq!(rt; reader.left, 0);
+    Ok(())
+}
+
+/// A stream that has nothing to give and no room, so many times.
+#[derive(Drop)]
+struct Busy {
+    left: u8,
+}
+
+impl Busy {
+    // Whether it is asked too soon.
+    fn is_early(&mut self) -> bool {
+        let early = self.left > 0;
+        self.left = self.left.saturating_sub(1);
+        early
+    }
+}
+
+impl Read for Busy {
+    fn read(&mut self, into: &mut [u8]) -> io::Result<usize> {
+        if self.is_early() {
+            return Err(io::Error::from(ErrorKind::WouldBlock));
+        }
+        Ok(into.len().min(3))
+    }
+}
+
+impl Write for Busy {
+    fn write(&mut self, bytes: &[u8]) -> io::Result<usize> {
+        if self.is_early() {
+            return Err(io::Error::from(ErrorKind::WouldBlock));
+        }
+        Ok(bytes.len().min(2))
+    }
+
+    fn flush(&mut self) -> io::Result<()> {
+        Ok(())
+    }
+}
+
+#[test]
+fn a_stream_that_would_block_is_waited_for(rt: HostRuntime) -> Result<(), Fail> {
+    let mut bytes = [0; 8];
+    let mut reader = Waiting::new(&rt, Busy { left: 3 });
+    assert!(rt; matches!(reader.read(&mut bytes), Ok(3)));
+    let mut writer = Waiting::new(&rt, Busy { left: 3 });
+    assert!(rt; matches!(writer.write(&bytes), Ok(2)));
+    Ok(())
+}
+
+#[test]
+fn the_systems_tables_are_read(rt: HostRuntime) -> Result<(), Fail> {
+    let limits =
+        "Limit                     Soft Limit           Hard Limit           Units     \nMax cpu time              unlimited            unlimited            seconds   \nMax file size             1024000              unlimited            bytes     \n";
+    assert_eq!(rt; most_of(limits), Some(1_024_000));
+    assert_eq!(rt;
+        most_of("Max file size             unlimited            unlimited            bytes     \n"),
+        None
+    );
+    assert_eq!(rt;
+        place_in("pos:\t77\nflags:\t0100001\nmnt_id:\t29\n", 900),
+        Some(77)
+    );
+    assert_eq!(rt;
+        place_in("pos:\t77\nflags:\t0102001\nmnt_id:\t29\n", 900),
+        Some(900)
+    );
+    assert_eq!(rt; place_in("", 900), None);
     Ok(())
 }
