@@ -6,11 +6,13 @@ pub mod Fresh
 pub mod HomeWritten
 pub mod Homed
 pub mod Listing
+pub mod MergeLaws
 pub mod OneSector
 pub mod Pendings
 pub mod Peeks
 pub mod ReadOn
 pub mod Repeated
+pub mod RunLaws
 pub mod Stages
 pub mod Stretches
 pub mod Texts

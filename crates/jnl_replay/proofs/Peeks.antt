@@ -14,10 +14,6 @@ use Rattle.jnl_format.specs.declared.blocks.Home.{Home}
 use Rattle.jnl_format.proofs.Mixing.{length-with_homes}
 use Rattle.std.proofs.Common.{append_assoc}
 use Rattle.std.proofs.lemmas.List.{append-nil}
-use Rattle.std.proofs.lemmas.Bool.Decides.{nat_tests}
-use Rattle.std.specs.Ordering.{nat_cmp, is_eq}
-use Rattle.std.specs.BTreeMap.{BTreeMap, get}
-use Rattle.std.specs.Map.{lookup}
 use Rattle.sector_disk.specs.Disk.{State}
 use Rattle.jnl_format.specs.declared.blocks.Volume.{Volume}
 use Rattle.jnl_replay.specs.Homing.{AreHomesOf}
@@ -95,22 +91,9 @@ pub indexed_end : (volume : Volume) (bytes : List ℕ) (c : Homes) (homes : List
 indexed_end volume bytes c homes place i none at =
     i.index at ∙ ap (λ (l : List Home). last_place l at) (sym (i.split ∙ ap (λ (l : List Home). i.done ++ l) none ∙ append-nil i.done))
 
-same_test : (a b : ℕ) → is_eq (nat_cmp a b) ≡ eqb a b
-same_test a b = grind (arith, nat_tests)
-
 placed_by : (long : ℕ) (b : Bool) (new : ℕ) (old : Option ℕ) (p : ℕ) → (old ≡ Some p → p + 512 ≤ long) → new + 512 ≤ long → cond b (Some new) old ≡ Some p → p + 512 ≤ long
 placed_by long true new old p all fits is = let e : new ≡ p = cc in omega (arith, e, fits)
 placed_by long false new old p all fits is = all is
 
--- one more key of a map
-pub put_later : (place now : ℕ → Option ℕ) (home : Home) → ((q : ℕ) → now q ≡ cond (is_eq (nat_cmp home.sector q)) (Some home.place) (place q)) → (at : ℕ) → now at ≡ later at (place at) home
-put_later place now home updates at = updates at ∙ ap (λ b. cond b (Some home.place) (place at)) (same_test home.sector at)
-
 pub still_placed : (long : ℕ) (place now : ℕ → Option ℕ) (home : Home) → ((at p : ℕ) → place at ≡ Some p → p + 512 ≤ long) → home.place + 512 ≤ long → ((at : ℕ) → now at ≡ later at (place at) home) → (at p : ℕ) → now at ≡ Some p → p + 512 ≤ long
 still_placed long place now home all new put at p is = placed_by long (eqb home.sector at) home.place (place at) p (all at p) new (sym (put at) ∙ is)
-
-pub no_place : (m : BTreeMap ℕ ℕ) → m.entries ≡ [] → (at : ℕ) → get nat_cmp m at ≡ None
-no_place m none at = ap (λ (es : List (ℕ × ℕ)). lookup (λ k. is_eq (nat_cmp at k)) es) none
-
-pub none_placed : (long : ℕ) (m : BTreeMap ℕ ℕ) → m.entries ≡ [] → (at p : ℕ) → get nat_cmp m at ≡ Some p → p + 512 ≤ long
-none_placed long m none at p is = absurd (let e = no_place m none at in cc)

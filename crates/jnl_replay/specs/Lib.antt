@@ -6,5 +6,6 @@ pub mod Pending
 pub mod Placed
 pub mod Plan
 pub mod Repeating
+pub mod Runs
 pub mod Text
 pub mod Viewing

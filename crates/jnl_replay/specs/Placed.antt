@@ -1,8 +1,8 @@
 -- Places that have a sector's bytes.
-use Rattle.std.specs.Prelude.{◌≡◌, ◌+◌, ◌≤◌, ℕ, Some}
-use Rattle.std.specs.Ordering.{nat_cmp}
-use Rattle.std.specs.BTreeMap.{BTreeMap, get}
+use Rattle.std.specs.Prelude.{◌≡◌, ◌+◌, ◌≤◌, ℕ, List, Some}
+use Rattle.jnl_replay.specs.Runs.{place_in_runs}
+use Rattle.jnl_replay.specs.declared.runs.Run.{Run}
 
 -- each place has 512 bytes of a text of this length
-abbrev pub ArePlaced : ℕ → BTreeMap ℕ ℕ → Type 0
-ArePlaced long index = (at place : ℕ) → get nat_cmp index at ≡ Some place → place + 512 ≤ long
+abbrev pub ArePlaced : ℕ → List Run → Type 0
+ArePlaced long runs = (at place : ℕ) → place_in_runs runs at ≡ Some place → place + 512 ≤ long

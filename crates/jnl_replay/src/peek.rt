@@ -10,12 +10,13 @@ ghost use Rattle.hx_bytes.specs.declared.faults.Trouble.TheVariants.{Disk};
 
 use crate::homes::Homes;
 use crate::index::Peek;
+use crate::merging::sort_runs;
 use crate::plan::Plan;
+use crate::runs::add_home;
 use crate::text::text_of;
 use hx_bytes::Trouble;
 use sector_disk::SectorDisk;
 use std::alloc::Global;
-use std::collections::BTreeMap;
 
 impl Peek {
     /// Indexes the sectors that the journal's lists name, the last block of each.
@@ -30,13 +31,11 @@ impl Peek {
         let sectors = disk.sectors();
         let text = text_of(plan, sectors);
         let mut homes = Homes::new(&text, sectors);
-        let mut index = BTreeMap::new(alloc);
+        let mut runs = Vec::new(alloc);
         while let Some(home) = homes.next(disk)? {
-            match index.insert(home.sector, home.place) {
-                Ok(_) => {}
-                Err(_) => return Err(Trouble::Memory),
-            }
+            add_home(&mut runs, &home)?;
         }
+        let index = sort_runs(alloc, &runs)?;
         Ok(Peek {
             text,
             sectors,

@@ -1,6 +1,4 @@
-use Rattle.std.proofs.Common.{◌≡◌, ◌-◌, List, IsTrue}
-use Rattle.std.specs.Ordering.{nat_cmp}
-use Rattle.std.specs.BTreeMap.{get}
+use Rattle.std.proofs.Common.{◌≡◌, ◌≤◌, ◌-◌, List, IsTrue}
 use Rattle.sector_disk.specs.Disk.{content}
 use Rattle.jnl_format.specs.declared.blocks.Home.{Home}
 use Rattle.jnl_format.specs.declared.blocks.Volume.{Volume}
@@ -8,20 +6,23 @@ use Rattle.jnl_replay.specs.Homing.{AreHomesOf}
 use Rattle.jnl_replay.specs.Placed.{ArePlaced}
 use Rattle.jnl_replay.specs.Pending.{IsCursor}
 use Rattle.sector_disk.specs.Disk.{OnlyReads}
+use Rattle.jnl_replay.specs.Runs.{place_in_runs, AreWhole}
 use Rattle.jnl_replay.specs.Text.{words}
 use Rattle.jnl_replay.proofs.Peeks.{Indexed}
 use Rattle.jnl_replay.proofs.index.Peek.new.Given as goal
 
-abbrev pub invariant-loop-index : goal.invariant-loop-index
-invariant-loop-index g l = record {
+abbrev pub invariant-loop-runs : goal.invariant-loop-runs
+invariant-loop-runs g l = record {
   reads : OnlyReads (g.D.SectorDisk.state l.initial.disk) (g.D.SectorDisk.state l.disk);
   cursor : IsCursor l.homes;
   text : l.homes.text ≡ l.text;
-  placed : ArePlaced l.text.length l.index;
+  few : l.homes.sectors ≤ 2147483648;
+  placed : ArePlaced l.text.length l.runs.items;
+  whole : AreWhole l.runs.items;
   value : IsTrue (g.D.SectorDisk.state l.initial.disk).tells → (volume : Volume) (homes : List Home)
       → AreHomesOf (g.D.SectorDisk.state l.initial.disk).sectors l.text (words l.text (content (g.D.SectorDisk.state l.initial.disk))) volume homes
-      → Indexed volume (words l.text (content (g.D.SectorDisk.state l.initial.disk))) l.homes homes (λ at. get nat_cmp l.index at);
+      → Indexed volume (words l.text (content (g.D.SectorDisk.state l.initial.disk))) l.homes homes (place_in_runs l.runs.items);
 }
 
-abbrev pub decreases-loop-index : goal.decreases-loop-index
-decreases-loop-index g l = l.text.length - l.homes.reached
+abbrev pub decreases-loop-runs : goal.decreases-loop-runs
+decreases-loop-runs g l = l.text.length - l.homes.reached
