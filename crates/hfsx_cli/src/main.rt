@@ -28,7 +28,7 @@ fn main(rt: HostRuntime) -> ExitCode {
         let _ = eprintln!(rt; "hfsx: opening /dev/null: {error}");
         return ExitCode::from(NO_IMAGE);
     }
-    match words(&rt) {
+    match given_words(&rt) {
         Ok(words) => ExitCode::from(work(&rt, &words)),
         Err(AllocError) => ExitCode::from(NO_MEMORY),
     }
@@ -43,7 +43,7 @@ struct Words {
 }
 
 // The words of the command line.
-fn words(rt: &HostRuntime) -> Result<Words, AllocError> {
+fn given_words(rt: &HostRuntime) -> Result<Words, AllocError> {
     let mut words = Words {
         list: Vec::new(rt.alloc()),
         are_text: true,
