@@ -32,6 +32,15 @@ def warn(root):
         print(f"build: bin/{os.path.basename(path)} is not proved: it is compiled with run-time checks, for a first look and for trials", file=sys.stderr)
 
 
+def link(root, program):
+    """Gives the unproved program the proved one's name, in a folder bin/unproved/ that a path may begin with."""
+    os.makedirs(f"{root}/bin/unproved", exist_ok=True)
+    to = f"{root}/bin/unproved/{program}"
+    if os.path.lexists(to):
+        os.remove(to)
+    os.symlink(f"../{program}-unproved", to)
+
+
 def take(room, to):
     """Gives the program that was compiled in this folder a second name, where it stands there by now."""
     for path in glob.glob(f"{room}/tmp/*/*/program"):
@@ -69,4 +78,5 @@ def compile(sources, program):
         shutil.copyfile(found, f"{made}.new")
         os.chmod(f"{made}.new", 0o755)
         os.replace(f"{made}.new", made)
+    link(sources.root, program)
     return time.monotonic() - start
