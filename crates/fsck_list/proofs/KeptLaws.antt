@@ -179,3 +179,25 @@ module _ (finding : Finding) (xs : List Finding) (at : ℕ) (kept : IsKept xs) (
 
   pub keeps_more : Keeps finding xs zs
   keeps_more = record { listed = inl here; still = still; from = came_from }
+
+-- a full list whose last finding comes before those of a rule from a place on
+pub full_before : (xs : List Finding) (rule place : ℕ) (none other : Finding) → IsKept xs → 100 ≤ length xs → IsBefore (get_or xs 99 none) (record { rule = rule; place = place; found = 0; wanted = 0 })
+    → other.rule ≡ rule → place ≤ other.place → IsListed xs other
+full_before xs rule place none other kept full last same_rule behind = inr (
+  omega (arith, kept.few, full),
+  λ more stands before. one_way other more before (ahead more stands),
+)
+  where
+    passes : (one : Finding) → IsBefore one (record { rule = rule; place = place; found = 0; wanted = 0 }) → IsBefore one other
+    passes one is = grind (arith, same_rule, behind)
+
+    last_ahead : (more : Finding) → IsBefore (get_or xs 99 more) other
+    last_ahead more = subst (λ (x : Finding). IsBefore x other) (get_or_default xs 99 none more (omega (arith, full))) (passes (get_or xs 99 none) last)
+
+    ahead : (more : Finding) → Contains xs more → IsBefore more other
+    ahead more stands = elim (cases_eq stands.0 99) [
+      | inl here ↦ between more other (get_or xs 99 more) other (sym stands.2 ∙ ap (λ n. get_or xs n more) here) refl (last_ahead more)
+      | inr earlier ↦
+          let low : stands.0 < 99 = omega (arith, earlier, stands.1, kept.few) in
+          goes_on more (get_or xs 99 more) other (between more (get_or xs 99 more) (get_or xs stands.0 more) (get_or xs 99 more) (sym stands.2) refl (kept.order stands.0 99 more low (omega (arith, full)))) (last_ahead more)
+    ]

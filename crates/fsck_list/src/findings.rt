@@ -1,7 +1,8 @@
 //! What a check finds, in order, the first hundred.
-ghost use Rattle.std.specs.Prelude.{◌≡◌, ◌≤◌, [], length, Contains, MatchOption, OnErr, OnOk};
+ghost use Rattle.std.specs.Prelude.{◌≡◌, ◌≤◌, [], length, Contains, IsTrue, MatchOption, OnErr, OnOk};
 ghost use Rattle.fsck_list.specs.Order.{IsInOrder, IsPlace};
-ghost use Rattle.fsck_list.specs.Kept.{Keeps};
+ghost use Rattle.fsck_list.specs.Kept.{IsListed, Keeps};
+ghost use Rattle.fsck_list.specs.declared.finding.Finding.{Finding as Listed};
 
 use crate::finding::Finding;
 use hx_bytes::OutOfMemory;
@@ -54,6 +55,22 @@ impl Findings {
         ensures few { length result.now ≤ 100 }
     {
         self.list.as_slice()
+    }
+
+    /// Whether as many as are kept come before all findings of a rule from a place on, so that none of those would be kept.
+    pub fn is_full_before(&self, rule: u8, place: u64) -> bool
+        ensures { IsTrue result → (other : Listed) → other.rule ≡ rule → place ≤ other.place → IsListed self.now other }
+    {
+        if self.list.len() < MOST {
+            return false;
+        }
+        let first = Finding {
+            rule,
+            place,
+            found: 0,
+            wanted: 0,
+        };
+        self.list[MOST - 1].is_before(&first)
     }
 
     /// Puts a finding in its place, and lets the last of more than a hundred go. One that stands there already isn't put again.

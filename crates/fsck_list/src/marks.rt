@@ -1,5 +1,5 @@
 //! Places that are marked, a bit for each.
-ghost use Rattle.std.specs.Prelude.{◌≡◌, ◌<◌, ◌^◌, ℕ, true, false, not, length, replicate, slice_index_or, slice_set, IfOk, if◌then◌else◌};
+ghost use Rattle.std.specs.Prelude.{◌≡◌, ◌⊎◌, ◌<◌, ◌≤◌, ◌^◌, ℕ, true, false, not, length, replicate, slice_index_or, slice_set, IfOk, if◌then◌else◌};
 ghost use Rattle.flag_rows.specs.Bits.{count_set};
 
 use flag_rows::Bits;
@@ -69,5 +69,27 @@ impl Marks {
         );
         self.count += 1;
         true
+    }
+
+    /// Marks the places from one up to another that come before the first of them that is marked already.
+    pub fn mark_stretch(&mut self, from: u64, to: u64)
+        ensures long { length self.new ≡ length self.old }
+        ensures sets { ((k : ℕ) → from ≤ k → k < to → slice_index_or self.old k false ≡ false) → (k : ℕ) → from ≤ k → k < to → k < length self.old → slice_index_or self.new k false ≡ true }
+        ensures stays { (k : ℕ) → slice_index_or self.old k false ≡ true → slice_index_or self.new k false ≡ true }
+        ensures keeps { (k : ℕ) → (k < from) ⊎ (to ≤ k) → slice_index_or self.new k false ≡ slice_index_or self.old k false }
+    {
+        let count = self.bits.len();
+        let end = to.min(count as u64) as usize;
+        if from >= end as u64 {
+            return;
+        }
+        let start = from as usize;
+        let stop = self.bits.first_before(start, end, true);
+        let extent = Extent {
+            start: start as u32,
+            count: (stop - start) as u32,
+        };
+        self.bits.fill(extent, true);
+        self.count += extent.count;
     }
 }
