@@ -3,3 +3,5 @@ pub mod Both
 pub mod Paths
 pub mod Plain
 pub mod PlainWrites
+pub mod OnePass
+pub mod Rooms

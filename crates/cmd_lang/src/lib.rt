@@ -6,13 +6,17 @@ mod fault;
 mod line;
 mod pairs;
 mod path;
+mod pieces;
 mod plain_write;
 mod print;
 mod refusal;
 mod reply;
+mod spelled;
 mod split;
+mod value;
 mod words;
 
 pub use fault::LineFault;
 pub use line::{MOST_BYTES, read_line};
 pub use reply::print_reply;
+pub use value::{push_value, read_value};

@@ -4,6 +4,7 @@ ghost use Rattle.std.specs.List.{flat_map, list_all};
 ghost use Rattle.std.specs.Fmt.{digit_glyph};
 ghost use Rattle.hfs_language.specs.Text as spec;
 
+use crate::pieces::push_pieces;
 use itoa::Buffer;
 use std::alloc::{AllocError, Global};
 
@@ -20,9 +21,17 @@ pub(crate) fn push_field(text: &mut Vec<u8>, number: u64) -> Result<(), AllocErr
 pub(crate) fn value_text(alloc: Global, value: &[u8]) -> Result<Vec<u8>, AllocError>
     ensures { IfOk result (λ text. text.items ≡ spec.value_text value.now) }
 {
-    let mut text = Vec::from_slice(alloc, b"=")?;
-    push_bytes(&mut text, value)?;
+    let mut text = Vec::new(alloc);
+    push_value_text(&mut text, value)?;
     Ok(text)
+}
+
+/// Appends a value, with `=` in front.
+pub(crate) fn push_value_text(text: &mut Vec<u8>, value: &[u8]) -> Result<(), AllocError>
+    ensures { OnOk result (text.new.items ≡ text.old.items ++ spec.value_text value.now) }
+{
+    text.extend_from_slice(b"=")?;
+    push_bytes(text, value)
 }
 
 /// Appends each byte as a value spells it.
@@ -32,10 +41,7 @@ pub(crate) fn push_bytes(text: &mut Vec<u8>, value: &[u8]) -> Result<(), AllocEr
     if are_plain(value) {
         return text.extend_from_slice(value);
     }
-    for byte in value {
-        push_byte(text, *byte)?;
-    }
-    Ok(())
+    push_pieces(text, value)
 }
 
 /// Whether each byte stands for itself in a value.
@@ -50,25 +56,15 @@ pub(crate) fn are_plain(bytes: &[u8]) -> bool
     plain
 }
 
-fn push_byte(text: &mut Vec<u8>, byte: u8) -> Result<(), AllocError>
-    ensures { OnOk result (text.new.items ≡ text.old.items ++ spec.byte_text byte) }
-{
-    if is_plain(byte) {
-        Ok(text.push(byte)?)
-    } else {
-        text.extend_from_slice(&[b'%', hex_digit(byte / 16 % 16), hex_digit(byte % 16)])
-    }
-}
-
 /// A byte that stands for itself in a value.
-fn is_plain(byte: u8) -> bool
+pub(crate) fn is_plain(byte: u8) -> bool
     ensures { result ≡ spec.is_plain byte }
 {
     byte >= 33 && byte <= 126 && byte != b'%'
 }
 
 /// An upper-case hexadecimal digit.
-fn hex_digit(value: u8) -> u8
+pub(crate) fn hex_digit(value: u8) -> u8
     requires { value < 16 }
     ensures { result ≡ digit_glyph true value }
 {

@@ -1,5 +1,5 @@
 //! The words of a line are read: numbers, modes, values, names and paths.
-ghost use Rattle.std.specs.Prelude.{◌≡◌, ◌≤◌, ◌∷◌, true, drop, length, decimal, bytes_eq, IfOk, IfSome};
+ghost use Rattle.std.specs.Prelude.{◌≡◌, ◌≤◌, ◌∷◌, Ok, true, drop, length, decimal, bytes_eq, IfOk, IfSome};
 ghost use Rattle.std.specs.List.{list_all};
 ghost use Rattle.std.specs.Str.Parse.{digits_value};
 ghost use Rattle.percent_encoding.specs.Percent.{percent_decode as unescaped};
@@ -9,6 +9,7 @@ ghost use Rattle.cmd_lang.specs.Reads.{Reads};
 
 use crate::LineFault;
 use crate::print::{are_plain, value_text};
+use crate::spelled::spelled_bytes;
 use hfs_language::Refusal;
 use hx_bytes::{Bytes, Units};
 use itoa::Buffer;
@@ -95,9 +96,39 @@ fn octal_value(digits: &[u8]) -> u16
 pub(crate) fn read_value(alloc: Global, word: &str) -> Result<Bytes, LineFault>
     ensures { Reads (spec.value_of word.now) result }
 {
-    match plain_bytes(word.as_bytes()) {
+    value_in(alloc, word.as_bytes())
+}
+
+/// The same of bytes.
+pub(crate) fn value_in(alloc: Global, text: &[u8]) -> Result<Bytes, LineFault>
+    ensures { Reads (spec.value_of text.now) result }
+{
+    match plain_bytes(text) {
         Some(value) => Ok(copied(alloc, value)?),
-        None => read_escaped(alloc, word),
+        None => read_spelled(alloc, text),
+    }
+}
+
+/// A value in one pass where it is one, and otherwise by its own rule.
+fn read_spelled(alloc: Global, text: &[u8]) -> Result<Bytes, LineFault>
+    ensures { Reads (spec.value_of text.now) result }
+{
+    match one_pass(alloc, text)? {
+        Some(value) => Ok(value),
+        None => read_escaped(alloc, text),
+    }
+}
+
+/// The value that a text is the text of, where it is that of one.
+fn one_pass(alloc: Global, text: &[u8]) -> Result<Option<Bytes>, AllocError>
+    ensures { IfOk result (λ found. IfSome found (λ value. spec.value_of text.now ≡ Ok value)) }
+{
+    match text {
+        [b'=', rest @ ..] => match spelled_bytes(alloc, rest)? {
+            Some(value) => Ok(Some(Bytes::from_vec(value))),
+            None => Ok(None),
+        },
+        _ => Ok(None),
     }
 }
 
@@ -124,10 +155,9 @@ pub(crate) fn copied(alloc: Global, value: &[u8]) -> Result<Bytes, AllocError>
 
 /// A value, each byte of which may be escaped.
 #[tactic(auto, unfolding(hfs_language::specs::Language::value_of))]
-fn read_escaped(alloc: Global, word: &str) -> Result<Bytes, LineFault>
-    ensures { Reads (spec.value_of word.now) result }
+fn read_escaped(alloc: Global, text: &[u8]) -> Result<Bytes, LineFault>
+    ensures { Reads (spec.value_of text.now) result }
 {
-    let text = word.as_bytes();
     let value = decoded(alloc, behind_first(text))?;
     if is_spelled(alloc, &value, text)? {
         Ok(Bytes::from_vec(value))
