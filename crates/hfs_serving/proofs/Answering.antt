@@ -14,17 +14,18 @@ use Rattle.jnl_replay.proofs.Repeated.{newest}
 use Rattle.jnl_store.specs.Spaces.{found}
 use Rattle.hfs_volume.specs.Aside.{AsideIsFree}
 use Rattle.hfs_volume.specs.Mount.{MountsTo}
-use Rattle.volume_runs.specs.Run.{Entry, lines_of, replies_of, shrunk_in, tree_after}
+use Rattle.hfs_volume.specs.Reclaim.{Tidies}
+use Rattle.volume_runs.specs.Run.{Entry, content_after, lines_of, replies_of, shrunk_in, tree_after}
 use Rattle.hfs_volume.specs.Sound.{IsSound}
 use Rattle.hfs_serving.specs.Beginning.{BeginsRun}
-use Rattle.hfs_serving.specs.Closing.{MayFinish}
-use Rattle.hfs_serving.specs.Ending.{AnswersRig, AnswersRun, AnswersStep, AnswersToTheLast, BeginsMore, EndsTaking, FinishesRun, IsFinal, IsPutAway, stop_in}
+use Rattle.hfs_serving.specs.Closing.{Finishes}
+use Rattle.hfs_serving.specs.Ending.{AnswersRig, AnswersRun, AnswersStep, AnswersToTheLast, BeginsMore, EndsAtRest, EndsTaking, FinishesRun, IsFinal, IsPutAway, stop_in}
 use Rattle.hfs_serving.specs.Going.{Knowing}
 use Rattle.hfs_serving.specs.Grounds.{anchor_of}
-use Rattle.hfs_serving.specs.Opening.{MayServe}
+use Rattle.hfs_serving.specs.Opening.{MayServe, Opens}
 use Rattle.hfs_serving.specs.Outside.{Outside, outside_of}
 use Rattle.hfs_serving.specs.Readying.{IsVersioned, mounted_plan}
-use Rattle.hfs_serving.specs.Runs.{Crashes, KeepsPlace, Serves, StandsAs}
+use Rattle.hfs_serving.specs.Runs.{Crashes, IsMarked, KeepsPlace, LeadsToRest, Serves, StandsAs}
 use Rattle.hfs_serving.specs.Stages.{Turns}
 use Rattle.hfs_language.specs.declared.reply.Change.{Change}
 use Rattle.hfs_serving.specs.Steps.{ServesStep, stop_of}
@@ -37,7 +38,8 @@ use Rattle.hfs_serving.proofs.Attached.{mount_serves}
 use Rattle.hfs_serving.proofs.Causes.{the_fault}
 use Rattle.hfs_serving.proofs.Grounding.{outside_by}
 use Rattle.hfs_serving.proofs.Lists.{replies_of-none, shrunk_in-none}
-use Rattle.hfs_serving.proofs.Mounting.{keeps_promises, promises_all}
+use Rattle.hfs_serving.proofs.Leading.{leads_to_rest, place_both, tidies_of}
+use Rattle.hfs_serving.proofs.Mounting.{found_in_run, keeps_promises, promises_all}
 use Rattle.hfs_serving.proofs.Promising.{finds_by}
 use Rattle.hfs_serving.proofs.Served.{finds_mounted}
 use Rattle.hfs_serving.proofs.Staging.{mark_stage_crashes}
@@ -91,6 +93,10 @@ handed_answers e f r P taken source source_new given same answers final =
 
 -- ---- joining
 
+-- a step ends at rest
+step_rests : (count capacity : ℕ) (shrunk : Option ℕ) (start : Content) (old : Outside) (texts : List (List ℕ)) (knows : Knowing) (space : Space) (new : Outside) (step : ServesStep count capacity knows start shrunk old texts space new) → EndsAtRest capacity shrunk start step.run new
+step_rests count capacity shrunk start old texts knows space new step = record { last = step.now; rests = step.rests; stood = step.now; marked = inl refl; place = step.rests.place; leaves = step.serves.rests }
+
 -- served to the end
 pub answers_ends : (capacity : ℕ) (shrunk : Option ℕ) (start : Content) (old : Outside) (texts : List (List ℕ)) (knows : Knowing) (space : Space) (new : Outside) → ServesStep (length texts) capacity knows start shrunk old texts space new → AnswersStep capacity start shrunk old texts new
 answers_ends capacity shrunk start old texts knows space new step = record {
@@ -98,33 +104,35 @@ answers_ends capacity shrunk start old texts knows space new step = record {
   crashes = serves_crashes capacity shrunk start old new step.run step.now step.serves;
   asked = step.asked ∙ take_all (length texts) texts (omega arith);
   told = step.serves.told;
+  rested = step_rests (length texts) capacity shrunk start old texts knows space new step;
 }
 
 -- the first of some lines were
 pub answers_front : (count capacity : ℕ) (shrunk : Option ℕ) (start : Content) (old : Outside) (texts : List (List ℕ)) (knows : Knowing) (space : Space) (new : Outside) → ServesStep count capacity knows start shrunk old texts space new → AnswersStep capacity start shrunk old (take count texts) new
 answers_front count capacity shrunk start old texts knows space new step =
-    record { run = step.run; crashes = serves_crashes capacity shrunk start old new step.run step.now step.serves; asked = step.asked; told = step.serves.told }
+    record { run = step.run; crashes = serves_crashes capacity shrunk start old new step.run step.now step.serves; asked = step.asked; told = step.serves.told; rested = step_rests count capacity shrunk start old texts knows space new step }
 
 pub front_heard : (heard : List Change) (count capacity : ℕ) (shrunk : Option ℕ) (start : Content) (old : Outside) (texts : List (List ℕ)) (knows : Knowing) (space : Space) (new : Outside) → ServesHeard 0 heard count capacity knows start shrunk old texts space new → AnswersHeard heard capacity start shrunk old (take count texts) new
 unfolding answers_front
 front_heard heard count capacity shrunk start old texts knows space new step = (answers_front count capacity shrunk start old texts knows space new step.0, step.1)
 
 -- the end behind the last batch
-pub answers_finish : (capacity : ℕ) (start : Content) (old mid new : Outside) (texts : List (List ℕ)) (knows : Knowing) (space : Space) (step : ServesStep (length texts) capacity knows start None old texts space mid) → MayFinish step.now mid new → AnswersStep capacity start None old texts new
-answers_finish capacity start old mid new texts knows space step may = record {
+pub answers_finish : (capacity : ℕ) (start : Content) (old mid new : Outside) (texts : List (List ℕ)) (knows : Knowing) (space : Space) (step : ServesStep (length texts) capacity knows start None old texts space mid) → Finishes step.now mid new → AnswersStep capacity start None old texts new
+answers_finish capacity start old mid new texts knows space step finishes = record {
   run = step.run;
   crashes =
       let no_more : length step.run + 0 ≡ length step.run = omega arith in
       subst (λ (n : ℕ). Crashes capacity None start old step.run n new) no_more
       (subst (λ (r : List Entry). Crashes capacity None start old r (length step.run + 0) new) (append-nil step.run)
-      (crashes_both capacity None start old mid new step.run [] step.now step.serves 0 (mark_stage_crashes capacity (shrunk_in None step.run) step.now may.ended mid new may.may may.marked may.place)));
+      (crashes_both capacity None start old mid new step.run [] step.now step.serves 0 (mark_stage_crashes capacity (shrunk_in None step.run) step.now finishes.ended mid new finishes.turns.may (inr (inr finishes.sets)) finishes.place)));
   asked = step.asked ∙ take_all (length texts) texts (omega arith);
-  told = may.may.told ∙ step.serves.told;
+  told = finishes.turns.may.told ∙ step.serves.told;
+  rested = record { last = step.now; rests = step.rests; stood = finishes.ended; marked = inr (inr finishes.sets); place = place_both start step.now finishes.ended step.rests.place finishes.place; leaves = finishes.turns.leaves };
 }
 
-pub all_heard : (heard : List Change) (capacity : ℕ) (start : Content) (old mid new : Outside) (texts : List (List ℕ)) (knows : Knowing) (space : Space) (step : ServesHeard 0 heard (length texts) capacity knows start None old texts space mid) → MayFinish step.0.now mid new → AnswersHeard heard capacity start None old texts new
+pub all_heard : (heard : List Change) (capacity : ℕ) (start : Content) (old mid new : Outside) (texts : List (List ℕ)) (knows : Knowing) (space : Space) (step : ServesHeard 0 heard (length texts) capacity knows start None old texts space mid) → Finishes step.0.now mid new → AnswersHeard heard capacity start None old texts new
 unfolding answers_finish
-all_heard heard capacity start old mid new texts knows space step may = (answers_finish capacity start old mid new texts knows space step.0 may, step.1)
+all_heard heard capacity start old mid new texts knows space step finishes = (answers_finish capacity start old mid new texts knows space step.0 finishes, step.1)
 
 -- seen by the plan of its start
 pub answers_seen : {heard : List Change} (capacity : ℕ) (start : Content) (plan plan_new : Plan) (before : Outside) (new : State) (texts : List (List ℕ)) → anchor_of plan_new ≡ anchor_of plan → AnswersHeard heard capacity start None before texts (outside_of plan_new new)
@@ -140,6 +148,16 @@ answers_joins capacity start now texts before mid after mounts step = record {
       subst (λ (n : ℕ). Crashes capacity None start before step.run n after) no_more
       (crashes_both capacity None start before mid after [] step.run now mounts (length step.run) (subst (λ (s : Option ℕ). Crashes capacity s now mid step.run (length step.run) after) (sym (shrunk_in-none None)) step.crashes));
   asked = step.asked;
+  rested =
+      let it = step.rested in
+      record {
+        last = it.last;
+        rests = leads_to_rest capacity None start [] step.run now mounts.leads None it.last (subst (λ (s : Option ℕ). LeadsToRest capacity s None now step.run it.last) (sym (shrunk_in-none None)) it.rests);
+        stood = it.stood;
+        marked = it.marked;
+        place = place_both start now it.stood mounts.leads.place it.place;
+        leaves = it.leaves;
+      };
   told = step.told ∙ ap (λ (l : List ℕ). l ++ replies_of step.run) (mounts.told ∙ ap (λ (l : List ℕ). before.told ++ l) replies_of-none ∙ append-nil before.told);
 }
 
@@ -179,6 +197,23 @@ taken_all : (source source_new : Stream) (texts : List (List ℕ)) (run : List E
 taken_all source source_new texts run asked has =
     record { taken = has.used; left = has.bytes; first = (has.first.0, has.first.1 ∙ ap (λ (l : List (List ℕ)). l ++ has.first.0) (sym asked)) }
 
+-- what a mount finds where housekeeping came to rest, it opens
+opens_rested : (law : AsideIsFree) (capacity : ℕ) (start : Content) (run : List Entry) (plan : Plan) → IsSound start → MayServe plan capacity start → (image last stood : Content) → LeadsToRest capacity None None start run last → IsMarked last stood → KeepsPlace start stood → StandsAs stood (found plan image) → Opens image capacity (found plan image)
+opens_rested law capacity start run plan sound may image last stood leads marked place stands =
+    let all : take (length run) run ≡ run = take_all (length run) run (omega arith) in
+    let tidied : Tidies capacity (shrunk_in None run) (content_after start run) last = tidies_of capacity (shrunk_in None run) None (content_after start run) last leads.rests in
+    (found_in_run law capacity start run leads.run_is sound plan may image (length run) (record {
+      count = length run;
+      many = omega arith;
+      some = omega arith;
+      tidy = last;
+      tidied = subst (λ (r : List Entry). Tidies capacity (shrunk_in None r) (content_after start r) last) (sym all) tidied;
+      stood = stood;
+      marked = marked;
+      place = place;
+      stands = stands;
+    })).0
+
 pub answers_rig : (law : AsideIsFree) (capacity : ℕ) (start : Content) (plan : Plan) (old new : State) (texts : List (List ℕ)) → ((image : Content) (told : List ℕ) → old.clock.left old.clock.moment image told → LeftNow old image told)
     → ((image : Content) → IsImage old.candidates image → StandsAs start (found plan image)) → IsSound start → MayServe plan capacity start → (source source_new : Stream) → (IsTrue source.tells → HasTaken [] source texts source_new)
     → AnswersStep capacity start None (outside_of plan old) texts (outside_of plan new) → AnswersRig capacity start old source texts new source_new
@@ -189,6 +224,10 @@ answers_rig law capacity start plan old new texts only_now starts sound may sour
       (promises_all law plan capacity start old new step.run (length step.run) step.crashes starts only_now sound may source source_new (λ tells. taken_all source source_new texts step.run step.asked (taken tells)));
   asked = step.asked;
   told = step.told;
+  rested = λ image is.
+      let it = step.rested in
+      let stands = it.leaves (found plan image) (image, is, refl) in
+      record { last = it.last; rests = it.rests.rests; stood = it.stood; marked = it.marked; recovered = found plan image; opens = opens_rested law capacity start step.run plan sound may image it.last it.stood it.rests it.marked it.place stands; stands = stands };
 }
 
 pub rig_heard : {heard : List Change} (law : AsideIsFree) (capacity : ℕ) (start : Content) (plan : Plan) (old new : State) (texts : List (List ℕ)) → ((image : Content) (told : List ℕ) → old.clock.left old.clock.moment image told → LeftNow old image told)
@@ -211,6 +250,7 @@ finishes_of capacity start old source texts new source_new is all away rig = rec
   keeps = rig.keeps;
   all = λ tells. rig.asked ∙ all tells;
   told = rig.told;
+  rested = rig.rested (content new) is;
   unmounted = record { mounts = all_known start rig.run (content new) (rig.keeps.knows (content new) is); away = away };
 }
 

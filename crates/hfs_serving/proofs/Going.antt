@@ -40,23 +40,27 @@ module _ (capacity : ℕ) (knows : Knowing) (committed now : Content) (shrunk : 
   left_line step.Answered other answers = absurd (cc other)
   left_line step.Again other answers = (answers.0, inl answers.1)
   left_line step.CommitFirst other answers = (answers.0, inr answers.1)
+  left_line step.Forgone other answers = absurd answers
 
   pub answered_line : (made : Step) → is_answered made ≡ true → AnswersTo made capacity knows committed now shrunk space number line before after → (said : ToTell) × (after ≡ joined before said) × Answered capacity knows committed now shrunk space number line said
   answered_line step.Answered is answers = answers
   answered_line step.Again is answers = absurd (cc is)
   answered_line step.CommitFirst is answers = absurd (cc is)
+  answered_line step.Forgone is answers = absurd answers
 
   -- a line that is left was only looked at
   pub waiting_line : (made : Step) (may_wait : Bool) → (wants_commit made && may_wait) ≡ true → AnswersTo made capacity knows committed now shrunk space number line before after → (after ≡ before) × Stays knows committed now shrunk space
   waiting_line step.Answered may_wait waits answers = absurd (cc waits)
   waiting_line step.Again may_wait waits answers = absurd (cc waits)
   waiting_line step.CommitFirst may_wait waits answers = answers
+  waiting_line step.Forgone may_wait waits answers = absurd answers
 
 -- which is left where it may
 pub may_be_left : (made : Step) (may_wait : Bool) → (wants_commit made && may_wait) ≡ true → may_wait ≡ true
 may_be_left step.Answered may_wait waits = absurd (cc waits)
 may_be_left step.Again may_wait waits = absurd (cc waits)
 may_be_left step.CommitFirst may_wait waits = waits
+may_be_left step.Forgone may_wait waits = absurd (cc waits)
 
 -- a run of no lines is one
 no_lines : (capacity : ℕ) (shrunk : Option ℕ) (start : Content) (run : List Entry) → lines_of run ≡ [] → IsRunFrom capacity shrunk start run
@@ -84,6 +88,14 @@ module _ (capacity : ℕ) (shrunk : Option ℕ) (committed now : Content) (old :
       known = stays.known;
     }
 
+    pub looks_tidy_last : (knows_new : Knowing) (new : Space) (after : Outside) (touches : Touches goes.last space mid new after) (stays : Stays knows_new goes.last goes.next shrunk new) → (looks_tidy knows_new new after touches stays).last ≡ goes.last
+    unfolding looks_tidy
+    looks_tidy_last knows_new new after touches stays = refl
+
+    pub looks_tidy_next : (knows_new : Knowing) (new : Space) (after : Outside) (touches : Touches goes.last space mid new after) (stays : Stays knows_new goes.last goes.next shrunk new) → (looks_tidy knows_new new after touches stays).next ≡ goes.next
+    unfolding looks_tidy
+    looks_tidy_next knows_new new after touches stays = refl
+
     -- a step of housekeeping
     tidied_step : (next : Content) → IsTidiedFor capacity shrunk asked goes.next next → TidiesFor capacity (shrunk_in shrunk []) asked goes.next next
     tidied_step next step = one_step goes.next next next (subst (λ (s : Option ℕ). IsTidiedFor capacity s asked goes.next next) (sym (shrunk_in-none shrunk)) step) (no_step next)
@@ -108,6 +120,14 @@ module _ (capacity : ℕ) (shrunk : Option ℕ) (committed now : Content) (old :
       heads = stays.heads;
       known = stays.known;
     }
+
+    pub commits_tidy_last : (knows_new : Knowing) (new : Space) (after : Outside) (commits : Commits space mid new after) (stays : Stays knows_new goes.next goes.next shrunk new) → (commits_tidy knows_new new after commits stays).last ≡ goes.next
+    unfolding commits_tidy
+    commits_tidy_last knows_new new after commits stays = refl
+
+    pub commits_tidy_next : (knows_new : Knowing) (new : Space) (after : Outside) (commits : Commits space mid new after) (stays : Stays knows_new goes.next goes.next shrunk new) → (commits_tidy knows_new new after commits stays).next ≡ goes.next
+    unfolding commits_tidy
+    commits_tidy_next knows_new new after commits stays = refl
 
     -- a fault in a call that put and spilled, or in a commit
     pub touch_stops_tidy : (new : Space) (after : Outside) → Touches goes.last space mid new after → StopsOn capacity committed now shrunk old [] after
@@ -229,6 +249,10 @@ module _ (capacity : ℕ) (shrunk : Option ℕ) (committed now : Content) (old :
           (for_any capacity (shrunk_in shrunk []) asked rested.tidy.next second.next (subst (λ (c : Content). TidiesFor capacity (shrunk_in shrunk []) None c second.next) (content_after-none rested.tidy.next) second.goes.leads.tidied)) second.goes.leads.place;
     }
 
+    pub rested_both_next : (knows_new : Knowing) (new : Space) (after : Outside) (second : GoesTidy capacity None knows_new rested.tidy.last rested.tidy.next shrunk mid new after) → (rested_both knows_new new after second).tidy.next ≡ second.next
+    unfolding rested_both tidy_both
+    rested_both_next knows_new new after second = refl
+
   -- a line was answered
   module _ (knows : Knowing) (space : Space) (mid : Outside) (line : List ℕ) (rested : GoesRested capacity (asked_in line) knows committed now shrunk old space mid) where
     pub rested_answers : (knows_new : Knowing) (number : ℕ) (said : ToTell) (new : Space) (after : Outside) → Touches rested.tidy.last space mid new after → Answered capacity knows_new rested.tidy.last rested.tidy.next shrunk new number line said
@@ -272,6 +296,10 @@ module _ (capacity : ℕ) (shrunk : Option ℕ) (committed now : Content) (old :
       pub first_looks : GoesTidy capacity None knows_new committed now shrunk old new after
       unfolding begins
       first_looks = looks_tidy capacity shrunk committed now old knows space old (begins capacity shrunk committed now old knows space stands) knows_new new after touches stays
+
+      pub first_looks_next : first_looks.next ≡ now
+      unfolding first_looks begins looks_tidy
+      first_looks_next = refl
 
       pub first_rests : IsAtRest capacity shrunk (volume_of now) → GoesRested capacity None knows_new committed now shrunk old new after
       unfolding begins looks_tidy
@@ -359,9 +387,6 @@ module _ (capacity : ℕ) (shrunk : Option ℕ) (committed now : Content) (old :
           (on_stops capacity shrunk committed now old knows number (take count lines) first.said space mid first.goes [] after second);
     }
 
-    pub commit_stops_lines : (after : Outside) → MayCommit space mid after → StopsLines capacity committed now shrunk old lines after
-    commit_stops_lines after may = record { count = count; stops = commit_stops_on capacity shrunk committed now old knows number (take count lines) first.said space mid first.goes after may }
-
     -- one more, or none
     pub lines_on : (knows_new : Knowing) (answered : Bool) (line : List ℕ) (after : ToTell) (new : Space) (end : Outside) (many : ℕ) → count ≤ length lines → take count lines ++ line_if answered line ≡ take many lines
         → ServesLine answered capacity knows_new first.goes.last first.goes.next (shrunk_in shrunk first.goes.more) mid (number + count) line middle after new end → ServesLines many capacity knows_new committed now shrunk old number lines before after new end
@@ -374,37 +399,37 @@ module _ (capacity : ℕ) (shrunk : Option ℕ) (committed now : Content) (old :
           (subst (λ (n : ℕ). GoesOn capacity knows_new first.goes.last first.goes.next (shrunk_in shrunk first.goes.more) mid n (line_if answered line) second.said new end) (numbers_on number count lines first.goes.more few first.goes.asked) second.goes));
     }
 
-    -- what they left was reclaimed
-    pub lines_rest : (knows_new : Knowing) (new : Space) (end : Outside) → count ≤ length lines → GoesTidy capacity None knows_new first.goes.last first.goes.next (shrunk_in shrunk first.goes.more) mid new end
-        → ServesLines count capacity knows_new committed now shrunk old number lines before middle new end
-    lines_rest knows_new new end few tidied =
-        lines_on knows_new false [] middle new end count few (append-nil (take count lines))
-        (record {
-          said = untold;
-          told = sym (joined_none middle);
-          goes = tidy_goes capacity (shrunk_in shrunk first.goes.more) first.goes.last first.goes.next mid knows_new new end tidied (number + count);
-        })
-
 -- ---- the end of a batch
 
-pub whole_batch : (capacity : ℕ) (shrunk : Option ℕ) (start : Content) (old : Outside) (knows : Knowing) (number : ℕ) (lines : List (List ℕ)) (said : ToTell) (space : Space) (mid : Outside) (goes : GoesOn capacity knows start start shrunk old number lines said space mid) (knows_new : Knowing) (new : Space) (after : Outside)
-    → Commits space mid new after → Stays knows_new goes.next goes.next (shrunk_in shrunk goes.more) new → GoesWhole capacity knows_new start shrunk old number lines said new after
-whole_batch capacity shrunk start old knows number lines said space mid goes knows_new new after commits stays = record {
-  run = goes.more;
-  now = goes.next;
-  goes = commit_goes_here capacity shrunk start start old goes.more goes.last goes.next space mid goes.goes new after commits;
-  heads = stays.heads;
-  known = stays.known;
-  asked = goes.asked;
-  told = goes.told;
-}
+-- behind the last line housekeeping came to rest, and all is committed
+module _ (count capacity : ℕ) (shrunk : Option ℕ) (start : Content) (old : Outside) (number : ℕ) (lines : List (List ℕ)) (before after : ToTell) (knows : Knowing) (space : Space) (mid : Outside) (first : ServesLines count capacity knows start start shrunk old number lines before after space mid)
+    (knows_mid : Knowing) (new : Space) (end : Outside) (second : GoesRested capacity None knows_mid first.goes.last first.goes.next (shrunk_in shrunk first.goes.more) mid new end) where
+  pub stands_rested : Stands knows_mid second.tidy.last second.tidy.next (shrunk_in shrunk first.goes.more) new end
+  stands_rested = stands_there capacity (shrunk_in shrunk first.goes.more) first.goes.last first.goes.next mid knows_mid new end second.tidy
 
--- the commit at the end
-pub lines_commit : (count capacity : ℕ) (shrunk : Option ℕ) (start : Content) (old : Outside) (number : ℕ) (lines : List (List ℕ)) (before after : ToTell) (knows : Knowing) (space : Space) (mid : Outside)
-    (first : ServesLines count capacity knows start start shrunk old number lines before after space mid) (knows_new : Knowing) (new : Space) (end : Outside) → Commits space mid new end → Stays knows_new first.goes.next first.goes.next (shrunk_in shrunk first.goes.more) new
-    → ServesBatch count capacity knows_new start shrunk old number lines before after new end
-lines_commit count capacity shrunk start old number lines before after knows space mid first knows_new new end commits stays = record {
-  said = first.said;
-  told = first.told;
-  whole = whole_batch capacity shrunk start old knows number (take count lines) first.said space mid first.goes knows_new new end commits stays;
-}
+  pub rested_stops : (out : Outside) → MayCommit new end out → StopsLines capacity start start shrunk old lines out
+  rested_stops out may =
+      lines_stop capacity shrunk start start old number lines before count knows after space mid first out
+      (commit_stops_tidy capacity (shrunk_in shrunk first.goes.more) first.goes.last first.goes.next mid knows_mid new end second.tidy out may)
+
+  pub batch_rests : (knows_new : Knowing) (last : Space) (out : Outside) → Commits new end last out → Stays knows_new second.tidy.next second.tidy.next (shrunk_in shrunk first.goes.more) last → ServesBatch count capacity knows_new start shrunk old number lines before after last out
+  batch_rests knows_new last out commits stays =
+      let more = first.goes.more in
+      let next = second.tidy.next in
+      let same : more ++ [] ≡ more = append-nil more in
+      record {
+        said = first.said;
+        told = first.told;
+        whole = record {
+          run = more ++ [];
+          now = next;
+          goes =
+              commit_goes_here capacity shrunk start start old (more ++ []) second.tidy.last next new end
+              (goes_both capacity shrunk start start old more [] first.goes.last first.goes.next space mid first.goes.goes second.tidy.last next new end second.tidy.goes) last out commits;
+          heads = stays.heads;
+          known = subst (λ (r : List Entry). knows_new next next (shrunk_in shrunk r)) (sym same) stays.known;
+          asked = ap (λ (r : List Entry). lines_of r) same ∙ first.goes.asked;
+          told = ap (λ (r : List Entry). said_of number r) same ∙ first.goes.told;
+          rests = leads_to_rest capacity shrunk start more [] first.goes.next first.goes.goes.leads None next second.rests;
+        };
+      }

@@ -16,7 +16,7 @@ use Rattle.hfs_serving.specs.Watching.{CrashesHeard, ServesHeard}
 use Rattle.hfs_language.specs.declared.reply.Change.{Change}
 use Rattle.volume_runs.specs.Told.{changes_in}
 use Rattle.hfs_serving.specs.Taking.{HasTaken}
-use Rattle.hfs_serving.proofs.Relabelling.{Holds, crashes_text, holds_take, relabel, relabel_changes, relabel_take, relabel_lines, relabel_replies, relabel_shrunk, serves_text}
+use Rattle.hfs_serving.proofs.Relabelling.{Holds, crashes_text, holds_take, relabel, relabel_changes, relabel_take, relabel_lines, relabel_replies, relabel_shrunk, rest_text, serves_text}
 use Rattle.line_source.specs.Batch.{AddsLines, held}
 use Rattle.line_source.specs.Input.{ahead, SplitsIntoLines, TakesLines}
 use Rattle.line_source.proofs.Cuts.{front_cut, takes_both, takes_none}
@@ -37,6 +37,7 @@ module _ (capacity : ℕ) (start : Content) (shrunk : Option ℕ) (old : Outside
         serves = serves_text capacity shrunk start step.run some holds old new step.now step.serves;
         stands = subst (λ (s : Option ℕ). Stands knows step.now step.now s space new) (sym (relabel_shrunk shrunk step.run some holds)) step.stands;
         asked = relabel_lines step.run some holds;
+        rests = rest_text capacity shrunk start step.run some holds step.now step.rests;
       }
 
   pub crash_texts : (new : Outside) → CrashesStep capacity start shrunk old (held most_bytes texts) new → CrashesStep capacity start shrunk old texts new
@@ -84,6 +85,7 @@ module _ (capacity : ℕ) (start : Content) (shrunk : Option ℕ) (old : Outside
     serves = step.serves;
     stands = step.stands;
     asked = step.asked ∙ sym (take-append-le count texts more inside);
+    rests = step.rests;
   }
 
   pub more_heard : (number : ℕ) (heard : List Change) (more : List (List ℕ)) (count : ℕ) (knows : Knowing) (space : Space) (new : Outside) → count ≤ length texts → ServesHeard number heard count capacity knows start shrunk old texts space new

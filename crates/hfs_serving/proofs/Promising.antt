@@ -58,6 +58,10 @@ has_all source source_new texts taken takes = record {
   first = front_cut takes.used taken source_new.left texts takes.cut;
 }
 
+-- nothing was taken of the source
+pub took_none : (taken : List ℕ) (source : Stream) → HasTaken taken source [] source
+took_none taken source = record { used = taken; bytes = refl; first = (lines taken, refl) }
+
 -- nothing was taken
 pub has_none : (source : Stream) → HasTaken [] source [] source
 has_none source = record { used = []; bytes = refl; first = (lines [], refl) }
@@ -142,7 +146,7 @@ finish_ends capacity start old mid new texts knows space source all step finishe
   run = step.run;
   asked = λ tells. step.asked ∙ take_all (length texts) texts (omega arith) ∙ all tells;
   now = step.now;
-  leads = step.serves.leads;
+  rests = step.rests;
   told = finishes.turns.may.told ∙ step.serves.told;
   ended = finishes.ended;
   sets = finishes.sets;

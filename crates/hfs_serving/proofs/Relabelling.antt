@@ -19,7 +19,7 @@ use Rattle.hfs_volume.specs.Reclaim.{Tidies}
 use Rattle.volume_runs.specs.Rest.{Rests, TidiesFor}
 use Rattle.volume_runs.specs.Run.{DoesLine, Entry, IsAnswered, IsRunFrom, IsServed, LacksMemory, LacksResource, asked_by, content_after, is_ok, lines_of, or_before, replies_of, reply_to, shrunk_after, shrunk_by, shrunk_in, spelled}
 use Rattle.hfs_serving.specs.Outside.{Outside}
-use Rattle.hfs_serving.specs.Runs.{Crashes, IsPrefix, Leads, Serves, StandsIn, Survives, SurvivesFrom}
+use Rattle.hfs_serving.specs.Runs.{Crashes, IsPrefix, Leads, LeadsToRest, Serves, StandsIn, Survives, SurvivesFrom}
 use Rattle.line_source.specs.Batch.{held}
 
 -- ---- one line
@@ -173,6 +173,15 @@ module _ (capacity : ℕ) (shrunk : Option ℕ) (start : Content) (run : List En
     tidied =
         subst (λ (s : Option ℕ). TidiesFor capacity s None (content_after start (relabel run texts)) now) (sym (relabel_shrunk shrunk run texts holds))
         (subst (λ (c : Content). TidiesFor capacity (shrunk_in shrunk run) None c now) (sym (relabel_content start run texts holds)) leads.tidied);
+    place = leads.place;
+  }
+
+  pub rest_text : (now : Content) → LeadsToRest capacity shrunk None start run now → LeadsToRest capacity shrunk None start (relabel run texts) now
+  rest_text now leads = record {
+    run_is = relabel_run capacity shrunk start run texts holds leads.run_is;
+    rests =
+        subst (λ (s : Option ℕ). Rests capacity s None (content_after start (relabel run texts)) now) (sym (relabel_shrunk shrunk run texts holds))
+        (subst (λ (c : Content). Rests capacity (shrunk_in shrunk run) None c now) (sym (relabel_content start run texts holds)) leads.rests);
     place = leads.place;
   }
 

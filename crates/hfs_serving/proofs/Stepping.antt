@@ -9,11 +9,11 @@ use Rattle.hfs_serving.specs.Runs.{IsPrefix}
 use Rattle.hfs_serving.specs.Watching.{CrashesHeard, HeardOf, ServesHeard}
 use Rattle.hfs_serving.specs.declared.volume.ToTell.{ToTell}
 use Rattle.hfs_serving.proofs.Saying.{changes_in-append, changes_in-none}
-use Rattle.std.specs.Prelude.{Option}
+use Rattle.std.specs.Prelude.{None, Option}
 use Rattle.sector_disk.specs.Space.{Space, AgreesOutside}
 use Rattle.jnl_format.specs.Keeping.{KeepsHeader}
 use Rattle.jnl_format.specs.Recovery.{Content, header_of_volume, journaling_version}
-use Rattle.hfs_volume.specs.Aside.{IsAside}
+use Rattle.hfs_volume.specs.Aside.{IsAside, IsFreeSector}
 use Rattle.volume_runs.specs.Run.{Entry, lines_of, replies_of, shrunk_in}
 use Rattle.hfs_serving.specs.Going.{Knowing, ServesBatch, Stands, StopsLines}
 use Rattle.hfs_serving.specs.Outside.{Outside}
@@ -22,6 +22,7 @@ use Rattle.hfs_serving.specs.Steps.{CrashesStep, IsStill, ServesStep}
 use Rattle.hfs_serving.proofs.Agreeing.{agrees_more, stands_durable}
 use Rattle.hfs_serving.proofs.Lists.{lines_of-append, replies_of-append, shrunk_in-append, shrunk_in-none}
 use Rattle.hfs_serving.proofs.Stretches.{crashes_both, serves_both, serves_crashes, serves_none}
+use Rattle.hfs_serving.proofs.Leading.{leads_to_rest}
 use Rattle.hfs_serving.proofs.Batches.{stops_crashes, batch_tells_partly, batch_ends}
 
 -- all of a run is known
@@ -41,7 +42,9 @@ still_stands knows knows_new committed now shrunk space new mid after stands sti
     closed = λ s is. stands.below.closed s ((still.closed s).0 is);
   };
   reads = record {
-    same = subst (λ (c : Content). AgreesOutside new.closed now c) (sym still.content) (agrees_more space.closed new.closed now space.content (λ s is. (still.closed s).1 is) stands.reads.same);
+    same =
+        subst (λ (c : Content). AgreesOutside (λ s. new.closed s ⊎ IsFreeSector now s) now c) (sym still.content)
+        (agrees_more (λ s. space.closed s ⊎ IsFreeSector now s) (λ s. new.closed s ⊎ IsFreeSector now s) now space.content (λ s which. ⊎_elim (λ is. inl ((still.closed s).1 is)) (λ free. inr free) which) stands.reads.same);
     closed = λ s is. stands.reads.closed s ((still.closed s).0 is);
   };
   heads = record {
@@ -77,6 +80,7 @@ module _ (count capacity : ℕ) (shrunk : Option ℕ) (start : Content) (old : O
             still_stands knows knows_new whole.now whole.now last space new mid after
             (record { known = whole.known; below = whole.goes.below; reads = whole.goes.reads; heads = whole.heads; leaves = whole.goes.leaves }) still (carries whole.now whole.now last) tells.leaves;
         asked = whole.asked;
+        rests = whole.rests;
       }
 
   pub step_heard : (knows_new : Knowing) (new : Space) → after.told ≡ mid.told ++ told.replies → IsStill space new → ((committed now : Content) (s : Option ℕ) → knows committed now s → knows_new committed now s) → ServesHeard number told.changes count capacity knows_new start shrunk old lines new after
@@ -115,15 +119,6 @@ stops_heard number capacity shrunk start old lines after stopped = (
 -- ---- batch after batch
 
 module _ (capacity : ℕ) (shrunk : Option ℕ) (start : Content) (old : Outside) (lines : List (List ℕ)) where
-  pub step_none : (knows : Knowing) (space : Space) → Stands knows start start shrunk space old → ServesStep 0 capacity knows start shrunk old lines space old
-  step_none knows space stands = record {
-    run = [];
-    now = start;
-    serves = serves_none capacity shrunk start old (λ recovered left. stands_durable start space stands.below recovered (stands.leaves recovered left));
-    stands = subst (λ (s : Option ℕ). Stands knows start start s space old) (sym (shrunk_in-none shrunk)) stands;
-    asked = refl;
-  }
-
   -- served to the end, it is a run that nothing ended
   pub step_ends : (count : ℕ) (knows : Knowing) (space : Space) (new : Outside) → ServesStep count capacity knows start shrunk old lines space new → CrashesStep capacity start shrunk old lines new
   step_ends count knows space new step = record {
@@ -134,9 +129,12 @@ module _ (capacity : ℕ) (shrunk : Option ℕ) (start : Content) (old : Outside
     asked = step.asked;
   }
 
-  pub none_heard : (knows : Knowing) (space : Space) → Stands knows start start shrunk space old → ServesHeard 0 [] 0 capacity knows start shrunk old lines space old
-  unfolding step_none
-  none_heard knows space stands = (step_none knows space stands, changes_in-none 0)
+  -- before the first of them
+  pub none_heard : (knows : Knowing) (space : Space) → Stands knows start start shrunk space old → CrashesHeard 0 [] capacity start shrunk old lines old
+  none_heard knows space stands =
+      let serves = serves_none capacity shrunk start old (λ recovered left. stands_durable start space stands.below recovered (stands.leaves recovered left)) in
+      let crashes = serves_crashes capacity shrunk start old old [] start serves in
+      (record { run = []; known = 0; count = 0; crashes = crashes; asked = refl }, whole_heard 0 [] [] old.told old.told (changes_in-none 0) crashes.told)
 
   pub ends_heard : (number : ℕ) (heard : List Change) (count : ℕ) (knows : Knowing) (space : Space) (new : Outside) → ServesHeard number heard count capacity knows start shrunk old lines space new → CrashesHeard number heard capacity start shrunk old lines new
   unfolding step_ends
@@ -156,6 +154,7 @@ module _ (capacity : ℕ) (shrunk : Option ℕ) (start : Content) (old : Outside
       serves = serves_both capacity shrunk start old mid after first.run second.run first.now first.serves second.now second.serves;
       stands = subst (λ (s : Option ℕ). Stands knows_new second.now second.now s new after) (sym (shrunk_in-append shrunk first.run second.run)) second.stands;
       asked = asked_both second.run count second.asked;
+      rests = leads_to_rest capacity shrunk start first.run second.run first.now first.serves.leads None second.now second.rests;
     }
 
     pub step_crash : (after : Outside) → CrashesStep capacity first.now (shrunk_in shrunk first.run) mid (drop at lines) after → CrashesStep capacity start shrunk old lines after
@@ -200,3 +199,10 @@ module _ (capacity : ℕ) (shrunk : Option ℕ) (start : Content) (old : Outside
               );
             },
           )
+
+-- a step over no line
+pub no_line_heard : (number capacity : ℕ) (heard : List Change) (shrunk : Option ℕ) (start : Content) (old : Outside) (knows : Knowing) (space : Space) (new : Outside) (count : ℕ) (lines : List (List ℕ)) → lines ≡ [] → count ≤ length lines → ServesHeard number heard count capacity knows start shrunk old lines space new
+    → ServesHeard number heard 0 capacity knows start shrunk old [] space new
+no_line_heard number capacity heard shrunk start old knows space new count lines none few step =
+    let none_served : count ≡ 0 = omega (arith, few, ap (λ (l : List (List ℕ)). length l) none) in
+    subst (λ (n : ℕ). ServesHeard number heard n capacity knows start shrunk old [] space new) none_served (subst (λ (l : List (List ℕ)). ServesHeard number heard count capacity knows start shrunk old l space new) none step)

@@ -1,5 +1,5 @@
 -- What a mount finds of a volume before it writes anything, and why it refuses one.
-use Rattle.std.specs.Prelude.{◌≡◌, ℕ, List, [], Contains, None, Result, Ok, Err, length}
+use Rattle.std.specs.Prelude.{◌≡◌, ◌<◌, ℕ, List, [], Contains, None, Result, Ok, Err, length}
 use Rattle.volume_header.specs.Refusal.{header_refusal}
 use Rattle.jnl_format.specs.Recovery.{Content, header_of_volume, replayed}
 use Rattle.jnl_replay.specs.Plan.{journal_of}
@@ -25,10 +25,11 @@ catalog_begun content = tree_of_fork content (block_limit content) (sectors_in c
 abbrev pub FoldsFirst : Content → Type 0
 FoldsFirst content = (header_refusal (header_of_volume content) (length content) ≡ None) × ((catalog_begun content).head.compare ≡ 0xCF)
 
--- a content that isn't sound and doesn't fold case, and each finding is one of it
+-- A content that isn't sound and doesn't fold case. There is a finding, and each is one of it.
 pub record IsUnsound (content : Content) (findings : List Finding) : Type 0 where
   pub keeps_case : ¬ FoldsFirst content
   pub unsound : ¬ IsSound content
+  pub some : 0 < length findings
   pub broken : (finding : Finding) → Contains findings finding → IsBroken content finding
 
 -- The verdict is that of the content.

@@ -1,15 +1,17 @@
 -- How a run of a source's lines ends: with all of them answered and the volume unmounted, or by a source that failed or has too many.
 use Rattle.std.specs.Prelude.{◌≡◌, ℕ, List, [], ◌++◌, length, IsTrue, true, Option, None, Some, Result, Ok, Err}
-use Rattle.sector_disk.specs.Disk.{State, HasNothingPending, content}
+use Rattle.sector_disk.specs.Disk.{State, HasNothingPending, IsImage, content}
 use Rattle.sector_disk.specs.Source.{Stream}
 use Rattle.volume_header.specs.Refusal.{is_unmounted}
 use Rattle.jnl_format.specs.Recovery.{Content, Journal, header_of_volume}
 use Rattle.hfs_language.specs.Lines.{lines, HasNoNewline}
 use Rattle.hfs_model.specs.declared.plain.PlainTree.{PlainTree}
 use Rattle.hfs_volume.specs.Mount.{HasJournal, MountsTo}
-use Rattle.volume_runs.specs.Run.{Entry, IsRun, lines_of, replies_of, tree_after}
+use Rattle.volume_runs.specs.Rest.{Rests}
+use Rattle.volume_runs.specs.Run.{Entry, IsRun, content_after, lines_of, replies_of, shrunk_in, tree_after}
+use Rattle.hfs_serving.specs.Opening.{Opens}
 use Rattle.hfs_serving.specs.Outside.{Outside}
-use Rattle.hfs_serving.specs.Runs.{Crashes}
+use Rattle.hfs_serving.specs.Runs.{Crashes, IsMarked, KeepsPlace, LeadsToRest, StandsAs}
 use Rattle.hfs_serving.specs.declared.telling.Stop.{Stop}
 use Rattle.hfs_serving.specs.declared.telling.Stop.TheVariants as stop
 use Rattle.line_source.specs.Input.{SplitsIntoLines, ahead}
@@ -17,12 +19,22 @@ use Rattle.hfs_serving.specs.Top.{AreTaken, KeepsPromises}
 
 -- ---- stretches of which each line was answered
 
--- Each of these lines was served and answered, and no crash leaves less from then on.
+-- Behind a run housekeeping came to rest, and a crash leaves the content that it led to, maybe with a mark.
+pub record EndsAtRest (capacity : ℕ) (shrunk : Option ℕ) (start : Content) (run : List Entry) (new : Outside) : Type 0 where
+  pub last : Content
+  pub rests : LeadsToRest capacity shrunk None start run last
+  pub stood : Content
+  pub marked : IsMarked last stood
+  pub place : KeepsPlace start stood
+  pub leaves : (recovered : Content) → new.leaves recovered → StandsAs stood recovered
+
+-- Each of these lines was served and answered, housekeeping came to rest behind the last of them, and no crash leaves less from then on.
 pub record AnswersStep (capacity : ℕ) (start : Content) (shrunk : Option ℕ) (old : Outside) (lines : List (List ℕ)) (new : Outside) : Type 0 where
   pub run : List Entry
   pub crashes : Crashes capacity shrunk start old run (length run) new
   pub asked : lines_of run ≡ lines
   pub told : new.told ≡ old.told ++ replies_of run
+  pub rested : EndsAtRest capacity shrunk start run new
 
 -- why a run ended, if something ended it
 abbrev pub stop_in : {A : Type 0} → Result A Stop → Option Stop
@@ -70,20 +82,34 @@ pub record IsUnmounted (disk : State) (tree : PlainTree) : Type 0 where
   pub mounts : MountsTo (content disk) tree
   pub away : IsPutAway disk
 
--- Over a rig: of what was taken of the source each of these lines was served and answered, and the run keeps its promises.
+-- A mount recovers of this image the content in which housekeeping came to rest behind a run, maybe with a mark, but in the journal and in blocks
+-- that this content's bitmap has free.
+pub record CameToRest (capacity : ℕ) (start : Content) (run : List Entry) (image : Content) : Type 0 where
+  pub last : Content
+  pub rests : Rests capacity (shrunk_in None run) None (content_after start run) last
+  pub stood : Content
+  pub marked : IsMarked last stood
+  pub recovered : Content
+  pub opens : Opens image capacity recovered
+  pub stands : StandsAs stood recovered
+
+-- Over a rig: of what was taken of the source each of these lines was served and answered, housekeeping came to rest behind the last of them, and
+-- the run keeps its promises.
 pub record AnswersRig (capacity : ℕ) (start : Content) (old : State) (source : Stream) (texts : List (List ℕ)) (new : State) (source_new : Stream) : Type 0 where
   pub run : List Entry
   pub keeps : KeepsPromises capacity start old source run (length run) new source_new
   pub asked : lines_of run ≡ texts
   pub told : new.told ≡ old.told ++ replies_of run
+  pub rested : (image : Content) → IsImage new.candidates image → CameToRest capacity start run image
 
--- A run that came to its end keeps its promises: all lines of the source were served, all their replies were told, and the volume is unmounted
--- with the tree after them.
+-- A run that came to its end keeps its promises: all lines of the source were served, all their replies were told, housekeeping came to rest behind
+-- the last of them, and the volume is unmounted with the tree after them.
 pub record FinishesRun (capacity : ℕ) (start : Content) (old : State) (source : Stream) (new : State) (source_new : Stream) : Type 0 where
   pub run : List Entry
   pub keeps : KeepsPromises capacity start old source run (length run) new source_new
   pub all : IsTrue source.tells → lines_of run ≡ lines source.left
   pub told : new.told ≡ old.told ++ replies_of run
+  pub rested : CameToRest capacity start run (content new)
   pub unmounted : IsUnmounted new (tree_after start run)
 
 -- A run that the source ended by a fault: each whole line that was taken has its reply told.

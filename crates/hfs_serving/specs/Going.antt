@@ -78,12 +78,14 @@ abbrev pub is_answered : Step → Bool
 is_answered step.Answered = true
 is_answered step.Again = false
 is_answered step.CommitFirst = false
+is_answered step.Forgone = true
 
 -- the line wants a commit before it
 abbrev pub wants_commit : Step → Bool
 wants_commit step.Answered = false
 wants_commit step.Again = false
 wants_commit step.CommitFirst = true
+wants_commit step.Forgone = false
 
 -- the command ahead of which housekeeping goes on: none as long as the line may be left, and else the line's own
 abbrev pub ahead_of : Bool → List ℕ → Option Command
@@ -95,6 +97,7 @@ abbrev pub AnswersTo : Step → ℕ → Knowing → Content → Content → Opti
 AnswersTo step.Answered capacity knows committed now shrunk space number line before after = (said : ToTell) × (after ≡ joined before said) × Answered capacity knows committed now shrunk space number line said
 AnswersTo step.Again capacity knows committed now shrunk space number line before after = (after ≡ before) × Tidied capacity (asked_in line) knows committed now shrunk space
 AnswersTo step.CommitFirst capacity knows committed now shrunk space number line before after = (after ≡ before) × Stays knows committed now shrunk space
+AnswersTo step.Forgone capacity knows committed now shrunk space number line before after = ⊥
 
 -- ---- stretches within a batch
 
@@ -128,7 +131,8 @@ pub record StopsOn (capacity : ℕ) (committed now : Content) (shrunk : Option �
   pub asked : lines_of more ≡ lines
   pub stops : Stops capacity shrunk committed now old more new
 
--- All that the volume stands for is committed, and nothing of it is told: these are the lines, and this is to be told of them.
+-- All that the volume stands for is committed, and nothing of it is told: these are the lines, and this is to be told of them. Behind the last of
+-- them housekeeping came to rest.
 pub record GoesWhole (capacity : ℕ) (knows : Knowing) (start : Content) (shrunk : Option ℕ) (old : Outside) (number : ℕ) (lines : List (List ℕ)) (said : ToTell) (space : Space) (new : Outside) : Type 0 where
   pub run : List Entry
   pub now : Content
@@ -137,6 +141,7 @@ pub record GoesWhole (capacity : ℕ) (knows : Knowing) (start : Content) (shrun
   pub known : knows now now (shrunk_in shrunk run)
   pub asked : lines_of run ≡ lines
   pub told : said_of number run ≡ said
+  pub rests : LeadsToRest capacity shrunk None start run now
 
 -- the line, where it was answered
 abbrev pub line_if : Bool → List ℕ → List (List ℕ)

@@ -5,7 +5,8 @@ ghost use Rattle.hfs_serving.specs.Faults.{Faults};
 ghost use Rattle.hfs_serving.specs.Going.{GoesTidy, HasNoSync, ServesBatch, ServesLine, ServesLines, SomeStands, Stands, StopsLines, StopsOn, is_answered, sync_line, wants_commit};
 
 use crate::basis::Ground;
-use crate::housekeeping::tidy;
+use crate::housekeeping::{come_to_rest, tidy};
+use crate::trying::attempt;
 use crate::volume::{Step, ToTell, Volume};
 use hx_bytes::{Bytes, Trouble};
 
@@ -38,7 +39,7 @@ pub fn serve_line<V: Volume, G: Ground>(
     }
     let mut may_wait = !first;
     for _ in 0..4_294_967_295u64 {
-        let step = volume.answer(base, number, line, told)?;
+        let step = attempt(volume, base, number, line, told)?;
         if is_answered(step) {
             return Ok(true);
         }
@@ -59,6 +60,7 @@ fn is_answered(step: Step) -> bool
         Step::Answered => true,
         Step::Again => false,
         Step::CommitFirst => false,
+        Step::Forgone => true,
     }
 }
 
@@ -70,6 +72,7 @@ fn waits(step: Step, may_wait: bool) -> bool
         Step::Answered => false,
         Step::Again => false,
         Step::CommitFirst => may_wait,
+        Step::Forgone => false,
     }
 }
 
@@ -178,7 +181,7 @@ pub fn serve_batch<V: Volume, G: Ground>(
 {
     let count = serve_lines(volume, base, number, lines, told)?;
     // (what they left is reclaimed)
-    tidy(volume, base)?;
+    come_to_rest(volume, base)?;
     volume.commit(base)?;
     Ok(count)
 }

@@ -55,3 +55,22 @@ pub fn tidy<V: Volume, G: Ground>(volume: &mut V, base: &mut G) -> Result<bool, 
     }
     Ok(false)
 }
+
+/// Reclaims until nothing is left to reclaim, or something is missing for the next step. `Memory` comes too where so many steps don't do.
+pub fn come_to_rest<V: Volume, G: Ground>(volume: &mut V, base: &mut G) -> Result<(), Trouble>
+    requires serves { (capacity : ℕ) × G.serves base.old capacity × (G.taken base.old ≤ capacity) }
+    requires stands { IsTrue (G.space base.old).tells → SomeStands (V.knows volume.old (G.space base.old)) (G.space base.old) (G.outside base.old) }
+    ensures rests { IsTrue (G.space base.old).tells → (capacity : ℕ) (committed now : Content) (shrunk : Option ℕ) → Stands (V.knows volume.old (G.space base.old) capacity) committed now shrunk (G.space base.old) (G.outside base.old)
+        → OnOk result (GoesRested capacity None (V.knows volume.new (G.space base.new) capacity) committed now shrunk (G.outside base.old) (G.space base.new) (G.outside base.new)) }
+    ensures stops { IsTrue (G.space base.old).tells → (capacity : ℕ) (committed now : Content) (shrunk : Option ℕ) → Stands (V.knows volume.old (G.space base.old) capacity) committed now shrunk (G.space base.old) (G.outside base.old)
+        → OnErr result (StopsOn capacity committed now shrunk (G.outside base.old) [] (G.outside base.new)) }
+    ensures still { (capacity : ℕ) → G.serves base.old capacity → G.taken base.old ≤ capacity → OnOk result (G.serves base.new capacity × (G.taken base.new ≤ capacity)) }
+    ensures tells { OnOk result ((G.space base.new).tells ≡ (G.space base.old).tells) }
+    ensures anchor { G.anchor base.new ≡ G.anchor base.old }
+    ensures faults { Faults (G.failed base.old) (G.space base.old) (G.failed base.new) (G.space base.new) result }
+{
+    if tidy(volume, base)? {
+        return Ok(());
+    }
+    Err(Trouble::Memory)
+}

@@ -80,6 +80,8 @@ pub fn serve_source<V: Volume, G: Teller, W: Watcher, S: Source>(
     ensures same_source { SameSource (S.stream source.old) (S.stream source.new) }
 {
     let mut lines = Vec::new(alloc);
+    // (housekeeping comes to rest where there is no line, too)
+    serve_step(alloc, volume, base, watchers, 0, lines.as_slice())?;
     let mut left = MOST_SERVED;
     loop {
         take_lines(alloc, left, input, source, &mut lines)?;

@@ -1,5 +1,6 @@
 pub mod Batches
 pub mod Tables
+pub mod Saved
 pub mod Newest
 pub mod Places
 pub mod Cached

@@ -1,5 +1,5 @@
 -- The puts of a batch.
-use Rattle.std.specs.Prelude.{◌≡◌, ◌≤◌, ◌+◌, ◌==◌, ◌||◌, ℕ, zero, suc, Bool, true, false, not, bytes_eq, if◌then◌else◌, List, [], ◌∷◌, length, Option, None, Some}
+use Rattle.std.specs.Prelude.{◌≡◌, ◌⊎◌, ◌≤◌, ◌+◌, ◌==◌, ◌||◌, ℕ, zero, suc, Bool, true, false, not, bytes_eq, if◌then◌else◌, List, [], ◌∷◌, ◌++◌, length, slice_set, take, Option, None, Some}
 use Rattle.jnl_format.specs.declared.blocks.Home.{Home}
 use Rattle.jnl_store.specs.declared.puts.Put.{Put}
 
@@ -33,6 +33,39 @@ abbrev pub bytes_of : List Put → ℕ → Option (List ℕ)
 bytes_of [] at = None
 bytes_of (put ∷ puts) at = if at == put.at then Some put.bytes else bytes_of puts at
 
+-- the put of a sector, where there is one
+abbrev pub put_in : List Put → ℕ → Option Put
+put_in [] at = None
+put_in (put ∷ puts) at = if at == put.at then Some put else put_in puts at
+
+abbrev pub or_put : Option Put → Put → Put
+or_put None put = put
+or_put (Some old) put = old
+
+-- a put as it was, where that was saved
+abbrev pub saved_or : List Put → Put → Put
+saved_or saved put = or_put (put_in saved put.at) put
+
+-- the first so many puts, each as it was where that was saved
+abbrev pub restored : List Put → List Put → ℕ → List Put
+restored [] saved count = []
+restored (put ∷ puts) saved zero = []
+restored (put ∷ puts) saved (suc count) = saved_or saved put ∷ restored puts saved count
+
+-- these puts, of which the first so many are as they were where that was saved
+abbrev pub restored_front : List Put → List Put → ℕ → List Put
+restored_front [] saved count = []
+restored_front (put ∷ puts) saved zero = put ∷ puts
+restored_front (put ∷ puts) saved (suc count) = saved_or saved put ∷ restored_front puts saved count
+
+-- a put joined the others at their end, or stands in the place of its sector's
+abbrev pub IsPlaced : List Put → Put → List Put → Type 0
+IsPlaced old put new = ((names old put.at ≡ false) × (new ≡ old ++ put ∷ [])) ⊎ ((k : ℕ) × has old k put.at × (new ≡ slice_set old k put))
+
+-- with a put more, where its sector has none
+abbrev pub with_put : List Put → Put → List Put
+with_put puts put = if names puts put.at then puts else puts ++ put ∷ []
+
 -- no bytes both times, or the same
 abbrev pub is_same : Option (List ℕ) → Option (List ℕ) → Bool
 is_same None None = true
@@ -44,10 +77,12 @@ is_same (Some a) (Some b) = bytes_eq a b
 abbrev pub is_dropped : List Put → List Put → ℕ → Bool
 is_dropped all kept at = not (is_same (bytes_of all at) (bytes_of kept at))
 
--- there is memory for the room, in each list, and for what may be live beside it
-pub record IsBatch (all kept : List Put) (room most memory more of_live : ℕ) : Type 0 where
+-- So many of the puts were there at the last keep, and what these had then is saved of those that were put again since. There is memory for the
+-- room, in each list, and for what may be live beside it.
+pub record IsBatch (all saved : List Put) (count room most memory more of_live : ℕ) : Type 0 where
   pub some : length all ≤ room
-  pub kept_some : length kept ≤ length all
+  pub kept_some : count ≤ length all
+  pub of_kept : (s : ℕ) → names saved s ≡ true → names (take count all) s ≡ true
   pub enough : room ≤ memory
-  pub enough_kept : room ≤ more
+  pub enough_saved : room ≤ more
   pub enough_live : most + room ≤ of_live

@@ -1,7 +1,7 @@
 //! The puts since the last commit and the sectors that are live, in memory that was found before them.
-ghost use Rattle.std.specs.Prelude.{◌≡◌, ◌⊎◌, ◌<◌, ◌≤◌, ◌+◌, ◌^◌, ◌==◌, ◌||◌, ℕ, [], Bool, IsTrue, length, slice_set, if◌then◌else◌, MatchOption, IfOk, OnOk, OnErr};
+ghost use Rattle.std.specs.Prelude.{◌≡◌, ◌⊎◌, ◌<◌, ◌≤◌, ◌+◌, ◌^◌, ◌==◌, ◌||◌, ℕ, [], Bool, IsTrue, length, slice_set, if◌then◌else◌, MatchOption, IfOk, OnOk, OnErr, take};
 ghost use Rattle.sector_disk.specs.Lists.{Content, sector};
-ghost use Rattle.jnl_store.specs.Batch.{AreOnce, is_dropped, names};
+ghost use Rattle.jnl_store.specs.Batch.{AreOnce, bytes_of, is_dropped, names, restored};
 ghost use Rattle.jnl_store.specs.Lists.{IsForm, lists_homes};
 ghost use Rattle.jnl_store.specs.Newest.{newest, or_later};
 ghost use Rattle.jnl_store.specs.Overlay.{overlay};
@@ -14,13 +14,16 @@ use hx_bytes::{OutOfMemory, Sector};
 use std::alloc::Global;
 use std::marker::Model;
 
-/// Each sector that was put since the last commit, once. What a command put can be dropped until it is kept. Beside
-/// them stands each sector that a live list of the journal names, with the place of its newest bytes in their text. There
+/// Each sector that was put since the last commit, once. What a command put can be dropped until it is kept: what the puts
+/// had at the last keep is saved when they are put again, so a keep copies nothing. Beside them stands each sector that a live list of the journal names, with the place of its newest bytes in their text. There
 /// is memory for the puts to join these.
 #[derive(Drop)]
 pub struct Batch {
     puts: PutTable,
-    kept: PutTable,
+    /// How many of the puts were there at the last keep.
+    kept: usize,
+    /// What these had then, of those that were put again since.
+    saved: PutTable,
     live: LiveTable,
     room: usize,
     /// How many sectors may be live.
@@ -28,13 +31,13 @@ pub struct Batch {
 }
 
 impl Model for Batch {
-    ghost use Rattle.jnl_store.specs.Batch.{Staged, IsBatch};
+    ghost use Rattle.jnl_store.specs.Batch.{Staged, IsBatch, restored};
 
     ghost Value = { Staged };
 
-    ghost view = { λ b. record { all = b.puts.items; kept = b.kept.items; live = b.live.homes; room = b.room; most = b.most } };
+    ghost view = { λ b. record { all = b.puts.items; kept = restored b.puts.items b.saved.items b.kept; live = b.live.homes; room = b.room; most = b.most } };
 
-    ghost invariant = { λ b. IsBatch b.puts.items b.kept.items b.room b.most b.puts.memory b.kept.memory b.live.memory };
+    ghost invariant = { λ b. IsBatch b.puts.items b.saved.items b.kept b.room b.most b.puts.memory b.saved.memory b.live.memory };
 }
 
 impl Batch {
@@ -46,7 +49,8 @@ impl Batch {
         live.hold(most)?;
         Ok(Batch {
             puts: PutTable::new(alloc),
-            kept: PutTable::new(alloc),
+            kept: 0,
+            saved: PutTable::new(alloc),
             live,
             room: 0,
             most,
@@ -102,11 +106,22 @@ impl Batch {
         ensures same { result ≡ Bool.false → (c : Content) → at < length c → sector (overlay self.now.kept c) at ≡ sector (overlay self.now.all c) at }
     {
         match self.puts.get(at) {
-            None => self.kept.get(at).is_some(),
-            Some(bytes) => match self.kept.get(at) {
+            None => self.kept_at(at).is_some(),
+            Some(bytes) => match self.kept_at(at) {
                 None => true,
                 Some(kept) => bytes[..] != kept[..],
             },
+        }
+    }
+
+    // The bytes that were put into a sector at the last keep.
+    fn kept_at(&self, at: u64) -> Option<Sector>
+        ensures value { (c : Content) → at < length c → MatchOption result (sector (overlay self.now.kept c) at ≡ sector c at) (λ bytes. bytes ≡ sector (overlay self.now.kept c) at) }
+        ensures bytes { result ≡ bytes_of self.now.kept at }
+    {
+        match self.puts.among(self.kept, at) {
+            Some(put) => Some(self.saved.was(put).bytes),
+            None => None,
         }
     }
 
@@ -122,6 +137,7 @@ impl Batch {
         ensures live { self.new.live ≡ self.old.live }
         ensures most { self.new.most ≡ self.old.most }
     {
+        save(&self.puts, self.kept, &mut self.saved, at);
         self.puts.put(at, from);
     }
 
@@ -136,7 +152,7 @@ impl Batch {
         let sectors = sectors as usize;
         self.puts.reserve(sectors)?;
         let room = self.puts.len() + sectors;
-        self.kept.reserve(room.saturating_sub(self.kept.len()))?;
+        self.saved.reserve(room.saturating_sub(self.saved.len()))?;
         let room = self.room.max(room);
         let Some(all) = self.most.checked_add(room) else {
             return Err(OutOfMemory);
@@ -151,7 +167,8 @@ impl Batch {
     pub fn keep(&mut self)
         ensures { self.new ≡ record self.old { kept = self.old.all } }
     {
-        self.kept.copy(&self.puts);
+        self.saved.clear();
+        self.kept = self.puts.len();
     }
 
     /// All is again as at the last keep.
@@ -160,7 +177,11 @@ impl Batch {
         ensures few { length self.old.kept ≤ length self.old.all }
         ensures once { AreOnce self.old.all × AreOnce self.old.kept }
     {
-        self.puts.copy(&self.kept);
+        let _once = self.puts.as_slice();
+        self.puts.restore(&self.saved, self.kept);
+        self.saved.copy_front(&self.puts, self.kept);
+        self.puts.copy(&self.saved);
+        self.saved.clear();
     }
 
     /// Nothing is put any more.
@@ -168,7 +189,8 @@ impl Batch {
         ensures { self.new ≡ record { all = []; kept = []; live = self.old.live; room = self.old.room; most = self.old.most } }
     {
         self.puts.clear();
-        self.kept.clear();
+        self.saved.clear();
+        self.kept = 0;
     }
 
     /// What was put is live from now on, in lists that begin at this place of the text.
@@ -185,7 +207,8 @@ impl Batch {
     {
         self.live.put_lists(form, from, self.puts.as_slice());
         self.puts.clear();
-        self.kept.clear();
+        self.saved.clear();
+        self.kept = 0;
     }
 
     /// The live sectors.
@@ -200,5 +223,22 @@ impl Batch {
         ensures { self.new ≡ record self.old { live = [] } }
     {
         self.live.clear();
+    }
+}
+
+// Saves what a sector has, where it is one of the puts that were kept and that isn't saved yet.
+fn save(puts: &PutTable, kept: usize, saved: &mut PutTable, at: u64)
+    requires few { kept ≤ length puts.now.items }
+    requires room { length puts.now.items ≤ saved.old.memory }
+    requires of_kept { (s : ℕ) → names saved.old.items s ≡ Bool.true → names (take kept puts.now.items) s ≡ Bool.true }
+    ensures same { restored puts.now.items saved.new.items kept ≡ restored puts.now.items saved.old.items kept }
+    ensures of_kept { (s : ℕ) → names saved.new.items s ≡ Bool.true → names (take kept puts.now.items) s ≡ Bool.true }
+    ensures there { names (take kept puts.now.items) at ≡ Bool.true → names saved.new.items at ≡ Bool.true }
+    ensures memory { saved.new.memory ≡ saved.old.memory }
+{
+    let _once = saved.as_slice();
+    match puts.among(kept, at) {
+        Some(put) => saved.add(put),
+        None => {}
     }
 }

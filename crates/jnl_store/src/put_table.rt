@@ -1,12 +1,13 @@
 //! Puts of sectors, each sector once, found by its number in logarithmic time, in memory that was found before.
-ghost use Rattle.std.specs.Prelude.{◌≡◌, ◌⊎◌, ◌<◌, ◌≤◌, ◌+◌, ◌^◌, ◌==◌, ◌||◌, ℕ, [], IsTrue, Bool, length, slice_set, if◌then◌else◌, MatchOption, IfOk, OnOk, OnErr};
+ghost use Rattle.std.specs.Prelude.{◌≡◌, ◌⊎◌, ◌<◌, ◌≤◌, ◌+◌, ◌^◌, ◌==◌, ◌||◌, ℕ, [], IsTrue, Bool, length, slice_set, if◌then◌else◌, MatchOption, IfOk, List, OnOk, OnErr, take};
 ghost use Rattle.std.specs.List.{HoldsAt};
 ghost use Rattle.std.specs.List.Sorted.{IsBinarySearchResult, IsSearchInRange};
 ghost use Rattle.std.specs.Ordering.{nat_cmp};
 ghost use Rattle.std.specs.declared.cmp.Ordering.TheVariants.{Equal};
 ghost use Rattle.sector_disk.specs.Lists.{Content, sector};
-ghost use Rattle.jnl_store.specs.Batch.{AreOnce, bytes_of, has, names};
+ghost use Rattle.jnl_store.specs.Batch.{AreOnce, IsPlaced, bytes_of, has, names, put_in, restored_front, saved_or, with_put};
 ghost use Rattle.jnl_store.specs.Overlay.{overlay};
+ghost use Rattle.jnl_store.specs.declared.puts.Put.{Put};
 
 use crate::puts::Put;
 use hx_bytes::{OutOfMemory, Sector};
@@ -109,28 +110,122 @@ impl PutTable {
         }
     }
 
+    /// The put of a sector, where there is one.
+    fn put_of(&self, at: u64) -> Option<Put>
+        ensures { result ≡ put_in self.now.items at }
+    {
+        match self.find(at) {
+            Some(k) => Some(self.puts[k]),
+            None => None,
+        }
+    }
+
+    /// The put of a sector, where it is one of the first so many.
+    pub fn among(&self, count: usize, at: u64) -> Option<Put>
+        ensures put { result ≡ put_in (take count self.now.items) at }
+        ensures once { AreOnce self.now.items }
+    {
+        match self.find(at) {
+            Some(k) => { if k < count { Some(self.puts[k]) } else { None } }
+            None => None,
+        }
+    }
+
     /// Puts a sector, for which there is memory.
     pub fn put(&mut self, at: u64, from: &Sector)
         requires { (length self.old.items < self.old.memory) ⊎ IsTrue (names self.old.items at) }
+        ensures placed { (put : Put) × (put.at ≡ at) × IsPlaced self.old.items put self.new.items }
         ensures content { (c : Content) → overlay self.new.items c ≡ slice_set (overlay self.old.items c) at from.now }
         ensures names { (s : ℕ) → names self.new.items s ≡ (s == at || names self.old.items s) }
         ensures count { length self.new.items ≡ (if names self.old.items at then length self.old.items else length self.old.items + 1) }
         ensures memory { self.new.memory ≡ self.old.memory }
     {
+        self.place(Put { at, bytes: *from });
+    }
+
+    /// The same of a put as a whole.
+    pub fn place(&mut self, put: Put)
+        requires { (length self.old.items < self.old.memory) ⊎ IsTrue (names self.old.items put.at) }
+        ensures placed { IsPlaced self.old.items put self.new.items }
+        ensures content { (c : Content) → overlay self.new.items c ≡ slice_set (overlay self.old.items c) put.at put.bytes }
+        ensures names { (s : ℕ) → names self.new.items s ≡ (s == put.at || names self.old.items s) }
+        ensures count { length self.new.items ≡ (if names self.old.items put.at then length self.old.items else length self.old.items + 1) }
+        ensures memory { self.new.memory ≡ self.old.memory }
+    {
+        let at = put.at;
         match search_near(&self.sectors, self.near, at) {
             Ok(k) => {
                 let place = self.places[k];
-                self.puts[place] = Put { at, bytes: *from };
+                self.puts[place] = put;
                 self.near = k;
             }
             Err(k) => {
                 let place = self.puts.len();
                 let _sector = self.sectors.insert(k, at);
                 let _place = self.places.insert(k, place);
-                let _put = self.puts.push(Put { at, bytes: *from });
+                let _put = self.puts.push(put);
                 self.near = k;
             }
         }
+    }
+
+    /// Adds a put, where its sector has none. There is memory for it.
+    pub fn add(&mut self, put: Put)
+        requires { names self.old.items put.at ≡ Bool.false → length self.old.items < self.old.memory }
+        ensures added { self.new.items ≡ with_put self.old.items put }
+        ensures memory { self.new.memory ≡ self.old.memory }
+    {
+        if self.has(put.at) {
+            return;
+        }
+        self.place(put);
+    }
+
+    /// A put as it was, where that was saved.
+    pub fn was(&self, put: Put) -> Put
+        ensures { result ≡ saved_or self.now.items put }
+    {
+        match self.put_of(put.at) {
+            Some(old) => old,
+            None => put,
+        }
+    }
+
+    // Puts this one again as it was, where that was saved.
+    fn restore_one(&mut self, saved: &PutTable, k: usize)
+        requires { k < length self.old.items }
+        ensures items { (old : List Put) → self.old.items ≡ restored_front old saved.now.items k → self.new.items ≡ restored_front old saved.now.items (k + 1) }
+        ensures count { length self.new.items ≡ length self.old.items }
+        ensures memory { self.new.memory ≡ self.old.memory }
+    {
+        let old = saved.was(self.puts[k]);
+        self.puts[k] = old;
+    }
+
+    /// Puts the first so many again as they were, where that was saved.
+    pub fn restore(&mut self, saved: &PutTable, count: usize)
+        requires { count ≤ length self.old.items }
+        ensures items { self.new.items ≡ restored_front self.old.items saved.now.items count }
+        ensures memory { self.new.memory ≡ self.old.memory }
+    {
+        for k in 0..count {
+            self.restore_one(saved, k);
+        }
+    }
+
+    /// The first so many puts of another table, for which there is memory.
+    pub fn copy_front(&mut self, from: &PutTable, count: usize)
+        requires few { count ≤ length from.now.items }
+        requires room { count ≤ self.old.memory }
+        ensures items { self.new.items ≡ take count from.now.items }
+        ensures memory { self.new.memory ≡ self.old.memory }
+        ensures once { AreOnce self.new.items }
+    {
+        self.clear();
+        for k in 0..count {
+            self.place(from.puts[k]);
+        }
+        let _once = self.as_slice();
     }
 
     /// The puts of another table, for which there is memory.

@@ -1,5 +1,5 @@
 -- Names, one by one and all together.
-use Rattle.std.proofs.Common.{◌≡◌, ◌<◌, ◌≤◌, ◌-◌, ◌^◌, ℕ, suc, List, [], ◌∷◌, inl, inr, get_or, length, sym, subst, arith}
+use Rattle.std.proofs.Common.{◌≡◌, ◌<◌, ◌≤◌, ◌-◌, ◌^◌, ℕ, zero, suc, List, [], ◌∷◌, inl, inr, get_or, length, sym, subst, arith}
 use Rattle.std.proofs.lemmas.Bool.{cases_eq, cases_lt}
 use Rattle.std.proofs.lemmas.List.{get_or_past}
 use Rattle.name_text.specs.Laws.{AreUnits}
@@ -19,3 +19,8 @@ one_more P at long some later here k from low = elim (cases_eq k (at - 1)) [
 pub path_from : (path : List (List ℕ)) → ((k : ℕ) → k < length path → IsName 255 (get_or path k [])) → FitsPath path
 path_from [] each = tt
 path_from (name ∷ path) each = (each 0 (omega arith), path_from path (λ k low. each (suc k) (omega (arith, low))))
+
+pub path_each : (path : List (List ℕ)) → FitsPath path → (k : ℕ) → k < length path → IsName 255 (get_or path k [])
+path_each [] fits k low = absurd (omega (arith, low))
+path_each (name ∷ path) fits zero low = fits.0
+path_each (name ∷ path) fits (suc k) low = path_each path fits.1 k (omega (arith, low))

@@ -47,22 +47,23 @@ found_of (f ∷ list) finding (suc k, low, is) =
     (rest.0, (suc rest.1.0, omega (arith, rest.1.1), rest.1.2), rest.2)
 
 -- where something is found, by how keys are compared
-pub unsound_verdict : (content : Content) (list : List Listed) → (IsTrue (is_clean (checked.Findings list)) ↔ IsSound content) → ((f : Listed) → Contains list f → IsBroken content (as_found f)) → (f : Bool) → IsTrue f ↔ FoldsFirst content
+pub unsound_verdict : (content : Content) (list : List Listed) → (IsTrue (is_clean (checked.Findings list)) ↔ IsSound content) → 0 < length list → ((f : Listed) → Contains list f → IsBroken content (as_found f)) → (f : Bool) → IsTrue f ↔ FoldsFirst content
     → IsVerdict content (map as_found list) (unsound f)
-unsound_verdict content list clean broken true first = folds content (first.0 refl)
-unsound_verdict content list clean broken false first = record {
+unsound_verdict content list clean some broken true first = folds content (first.0 refl)
+unsound_verdict content list clean some broken false first = record {
   keeps_case = λ is. absurd (cc (first.1 is));
   unsound = λ sound. absurd (cc (clean.1 sound));
+  some = omega (arith, some, length-map list as_found);
   broken = λ finding has. let there = found_of list finding has in subst (IsBroken content) there.2 (broken there.0 there.1);
 }
 
 -- all that a check found, and the verdict on it
-pub found_verdict : (content later : Content) (list kept : List Listed) (r : Result Verdict Trouble) → kept ≡ list → later ≡ content → (IsTrue (is_clean (checked.Findings list)) ↔ IsSound content) → ((f : Listed) → Contains list f → IsBroken content (as_found f)) → IfOk r (IsJudged later)
+pub found_verdict : (content later : Content) (list kept : List Listed) (r : Result Verdict Trouble) → kept ≡ list → later ≡ content → (IsTrue (is_clean (checked.Findings list)) ↔ IsSound content) → IsTrue (is_clean (checked.Findings list)) ⊎ (0 < length list) → ((f : Listed) → Contains list f → IsBroken content (as_found f)) → IfOk r (IsJudged later)
     → IfOk r (IsVerdict content (map as_found kept))
-found_verdict content later list kept (Err e) same still clean broken told = told
-found_verdict content later list kept (Ok v) same still clean broken told =
+found_verdict content later list kept (Err e) same still clean some broken told = told
+found_verdict content later list kept (Ok v) same still clean some broken told =
     subst (λ (k : List Listed × Verdict). IsVerdict content (map as_found k.0) k.1) {x = (list, unsound told.folds)} {y = (kept, v)} (λ i. (sym same i, sym told.is i))
-    (unsound_verdict content list clean broken told.folds (subst (λ (c : Content). IsTrue told.folds ↔ FoldsFirst c) still told.exactly))
+    (unsound_verdict content list clean (⊎_elim (λ never. absurd (cc never)) (λ is. is) some) broken told.folds (subst (λ (c : Content). IsTrue told.folds ↔ FoldsFirst c) still told.exactly))
 
 -- the cause of two calls in a row, of which the first only read
 pub cause_both : {T : Type 0} (a b c : ℕ) (r : Result T Trouble) → a ≤ b → b ≤ c → (IsErrOf r trouble.Disk → Rose b c) → IsCause trouble.Disk a c r

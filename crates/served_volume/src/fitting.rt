@@ -1,5 +1,5 @@
 //! Whether a command is such as a line can have.
-ghost use Rattle.std.specs.Prelude.{◌<◌, ◌^◌, IsTrue};
+ghost use Rattle.std.specs.Prelude.{◌↔◌, ◌<◌, ◌^◌, IsTrue};
 ghost use Rattle.hx_bytes.specs.Field.{AreBytes};
 ghost use Rattle.name_text.specs.Laws.{AreUnits};
 ghost use Rattle.hfs_language.specs.Written.{FitsCommand, FitsPath, IsName};
@@ -14,7 +14,7 @@ fn look_at_units(name: &[u16])
 
 /// Whether a name is as long as names may be.
 fn fits_name(name: &[u16], most: usize) -> bool
-    ensures { IsTrue result → IsName most name.now }
+    ensures { IsTrue result ↔ IsName most name.now }
 {
     look_at_units(name);
     if name.is_empty() {
@@ -28,7 +28,7 @@ fn fits_name(name: &[u16], most: usize) -> bool
 
 /// Whether each name of a path is.
 fn fits_path(path: &[Units]) -> bool
-    ensures { IsTrue result → FitsPath path.now }
+    ensures { IsTrue result ↔ FitsPath path.now }
 {
     let mut at = path.len();
     while at > 0 {
@@ -47,21 +47,21 @@ fn look_at_bytes(value: &[u8])
 
 /// Whether a path fits, beside a number.
 fn fits_place(path: &[Units], from: u64) -> bool
-    ensures { IsTrue result → FitsPath path.now × (from < 2 ^ 64) }
+    ensures { IsTrue result ↔ FitsPath path.now × (from < 2 ^ 64) }
 {
     fits_path(path)
 }
 
 /// Whether a path fits, beside two numbers.
 fn fits_span(path: &[Units], from: u64, length: u64) -> bool
-    ensures { IsTrue result → FitsPath path.now × (from < 2 ^ 64) × (length < 2 ^ 64) }
+    ensures { IsTrue result ↔ FitsPath path.now × (from < 2 ^ 64) × (length < 2 ^ 64) }
 {
     fits_path(path)
 }
 
 /// Whether a path fits, beside a place and a value.
 fn fits_value(path: &[Units], from: u64, value: &[u8]) -> bool
-    ensures { IsTrue result → FitsPath path.now × (from < 2 ^ 64) × AreBytes value.now }
+    ensures { IsTrue result ↔ FitsPath path.now × (from < 2 ^ 64) × AreBytes value.now }
 {
     look_at_bytes(value);
     fits_path(path)
@@ -69,14 +69,14 @@ fn fits_value(path: &[Units], from: u64, value: &[u8]) -> bool
 
 /// Whether a path and the name of an attribute fit.
 fn fits_attribute(path: &[Units], name: &[u16]) -> bool
-    ensures { IsTrue result → FitsPath path.now × IsName 127 name.now }
+    ensures { IsTrue result ↔ FitsPath path.now × IsName 127 name.now }
 {
     fits_path(path) && fits_name(name, 127)
 }
 
 /// The same, with the attribute's value.
 fn fits_setting(path: &[Units], name: &[u16], value: &[u8]) -> bool
-    ensures { IsTrue result → FitsPath path.now × IsName 127 name.now × AreBytes value.now }
+    ensures { IsTrue result ↔ FitsPath path.now × IsName 127 name.now × AreBytes value.now }
 {
     look_at_bytes(value);
     fits_path(path) && fits_name(name, 127)
@@ -84,14 +84,14 @@ fn fits_setting(path: &[Units], name: &[u16], value: &[u8]) -> bool
 
 /// Whether a path and a mode fit.
 fn fits_mode(path: &[Units], mode: u16) -> bool
-    ensures { IsTrue result → FitsPath path.now × (mode < 2 ^ 12) }
+    ensures { IsTrue result ↔ FitsPath path.now × (mode < 2 ^ 12) }
 {
     fits_path(path) && mode < 4096
 }
 
 /// Whether a moment fits: each number of 32 bits does.
 fn fits_moment(moment: u32) -> bool
-    ensures { IsTrue result → moment < 2 ^ 32 }
+    ensures { IsTrue result ↔ moment < 2 ^ 32 }
 {
     let _ = moment;
     true
@@ -100,7 +100,7 @@ fn fits_moment(moment: u32) -> bool
 /// Whether each part of a command is such as a line can have: names within their lengths, and a mode of twelve bits. A command that was read of a
 /// line always is.
 pub(crate) fn fits_command(command: &Command) -> bool
-    ensures { IsTrue result → FitsCommand command.now }
+    ensures { IsTrue result ↔ FitsCommand command.now }
 {
     match command {
         Command::Mkdir(path) => fits_path(path.as_slice()),

@@ -2,10 +2,12 @@
 ghost use Rattle.served_volume.specs.Knowing.{Knows};
 
 use crate::answering::answer_line;
+use crate::renewing::with_shrunk;
 use crate::served::ServedVolume;
 use crate::tidied::next_of;
-use crate::told::tell;
-use hfs_serving::{Ground, Next, Step, ToTell, Volume};
+use crate::told::{say, tell};
+use hfs_language::{Changes, Refusal, Reply};
+use hfs_serving::{Ground, Next, Recalled, Step, ToTell, Volume};
 use hfs_volume::aside_is_free;
 use hx_bytes::Trouble;
 use std::alloc::Global;
@@ -59,6 +61,40 @@ impl Volume for ServedVolume {
             Ok(outcome) => tell(self.alloc, outcome, told),
             Err(trouble) => Err(trouble),
         }
+    }
+
+    fn recall<G: Ground>(&self, _base: &G) -> Recalled {
+        Recalled {
+            capacity: self.volume.capacity,
+            shrunk: self.volume.shrunk,
+        }
+    }
+
+    fn renew<G: Ground>(&mut self, base: &mut G, recalled: Recalled) -> Result<(), Trouble> {
+        aside_is_free();
+        let _before = base.pending();
+        let found = volume_base::Volume::attach(self.alloc, base, recalled.capacity);
+        let _after = base.pending();
+        base.look();
+        let sectors = base.sectors();
+        match found {
+            Ok(volume) => {
+                self.volume = with_shrunk(volume, recalled.shrunk);
+                self.sectors = sectors;
+                Ok(())
+            }
+            Err(trouble) => Err(trouble),
+        }
+    }
+
+    fn tell_short(&self, told: &mut ToTell) -> Result<(), Trouble> {
+        say(
+            self.alloc,
+            &Reply::No(Refusal::OutOfMemory),
+            Changes::new(self.alloc),
+            told,
+        )?;
+        Ok(())
     }
 
     fn mark_mounted<G: Ground>(&mut self, base: &mut G) -> Result<(), Trouble> {

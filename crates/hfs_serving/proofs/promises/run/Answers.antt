@@ -7,7 +7,7 @@ use Rattle.hfs_serving.specs.Grounds.{Anchor}
 use Rattle.hfs_serving.specs.Outside.{outside_of}
 use Rattle.hfs_serving.specs.Taking.{HasTaken}
 use Rattle.hfs_serving.proofs.Promising.{crash_keeps, crash_seen, finish_ends, finish_heard, has_all, has_none, none_behind}
-use Rattle.hfs_serving.proofs.Stepping.{ends_heard, none_heard}
+use Rattle.hfs_serving.proofs.Stepping.{none_heard}
 use Rattle.watchers.proofs.Tellings.{told_nothing}
 use Rattle.line_source.specs.Input.{TakesLines}
 use Rattle.line_source.proofs.Cuts.{all_taken}
@@ -36,7 +36,7 @@ returns-in_err-input-clause-promises g c = (
       let knows = g.V.Volume.knows c.args.volume.now space capacity in
       let source = g.S.Source.stream c.args.source.now in
       crash_keeps c.aside_is_free.ensures capacity start plan (plan_of base.store.now) old (g.R.SectorDisk.state base.disk.now) [] knows space refl (g.met.R.SectorDisk.only_now base.disk.now) stands sound may source source
-      (λ told. has_none source) (ends_heard capacity None start (outside_of plan old) [] 0 [] 0 knows space (outside_of plan old) (none_heard capacity None start (outside_of plan old) [] knows space stands)),
+      (λ told. has_none source) (none_heard capacity None start (outside_of plan old) [] knows space stands),
 )
 
 pub serve_source-requires-clause-serves : goal.serve_source-requires-clause-serves
@@ -165,7 +165,7 @@ returns-in_err-input-clause-stretch g c =
         λ told. has_none source,
         λ tells capacity start stands.
             let knows = g.V.Volume.knows c.args.volume.now space capacity in
-            ends_heard capacity None start (outside_of plan old) [] 0 [] 0 knows space (outside_of plan old) (none_heard capacity None start (outside_of plan old) [] knows space stands),
+            none_heard capacity None start (outside_of plan old) [] knows space stands,
       ),
       λ final. absurd (no_end_of_memory p.0 c.from_residual.result p.1 p.2 final),
     )
@@ -264,7 +264,7 @@ returns-clause-stretch g c =
             let step = served.2 tells capacity start None stands in
             let tells_mid = subst (λ t. IsTrue t) (sym c.in_ok-serve_source.ensures.tells) tells in
             answers_seen capacity start plan (plan_of end.store.now) (outside_of plan old) (g.R.SectorDisk.state end.disk.now) served.0 (c.finish.ensures.anchor ∙ ap (λ (a : Anchor). a.journal) c.serve_source.ensures.anchor)
-            (all_heard c.in_ok-serve_source.ensures.watched.0 capacity start (outside_of plan old) out_mid out_end served.0 knows_mid space_mid step (c.finish.ensures.crash tells_mid capacity step.0.now (shrunk_in None step.0.run) step.0.stands)),
+            (all_heard c.in_ok-serve_source.ensures.watched.0 capacity start (outside_of plan old) out_mid out_end served.0 knows_mid space_mid step (c.in_ok-finish.ensures.done tells_mid capacity step.0.now (shrunk_in None step.0.run) step.0.stands)),
       ),
     )
 

@@ -5,7 +5,8 @@ use Rattle.hfs_serving.specs.Going.{Stands}
 use Rattle.volume_runs.specs.Run.{shrunk_in}
 use Rattle.hfs_serving.specs.Steps.{CrashesStep, ServesStep}
 use Rattle.hfs_serving.proofs.Going.{on_err}
-use Rattle.hfs_serving.proofs.Stepping.{both_heard, crash_both_heard, ends_heard, none_heard, step_both, step_crash, step_ends}
+use Rattle.hfs_serving.proofs.Stepping.{both_heard, crash_both_heard, ends_heard, no_line_heard, step_both, step_crash, step_ends}
+use Rattle.hfs_serving.proofs.Promising.{took_none}
 use Rattle.hfs_serving.proofs.Pending.{crash_heard, crash_texts, more_heard, no_items, on_add, on_ends, on_none, on_serve, on_stops, step_texts, texts_heard}
 use Rattle.std.proofs.lemmas.Result.{err_from_is_err_and}
 use Rattle.hfs_serving.proofs.Causes.{counts_both, counts_none, fine_stop, handed_on, other_stop, took_stop}
@@ -24,28 +25,74 @@ use Rattle.hfs_serving.proofs.Answering.{final_of, front_heard, handed_answers}
 use Rattle.hfs_serving.proofs.Finals.{no_final, on_final}
 use Rattle.hfs_serving.proofs.taking.serve_source.Goals as goal
 
+pub serve_step-requires-clause-stands : goal.serve_step-requires-clause-stands
+serve_step-requires-clause-stands g c tells =
+    let there = c.requires.stands tells in
+    (there.0, there.1, there.1, there.2, there.3)
+
+pub serve_step-requires-clause-numbers : goal.serve_step-requires-clause-numbers
+serve_step-requires-clause-numbers g c = omega (arith, ap (λ (l : List (List ℕ)). length l) (c.as_slice.ensures.value ∙ c.new-lines.ensures.items))
+
+pub returns-in_err-serve_step-clause-stops : goal.returns-in_err-serve_step-clause-stops
+returns-in_err-serve_step-clause-stops g c =
+    let none = c.as_slice.ensures.value ∙ c.new-lines.ensures.items in
+    on_err c.from_residual.result (
+      [],
+      λ told. took_none c.args.input.now (g.S.Source.stream c.args.source.now),
+      λ tells capacity start shrunk stands.
+          subst (λ (l : List (List ℕ)). CrashesStep capacity start shrunk (g.G.Ground.outside c.args.base.now) l (g.G.Ground.outside c.serve_step.new.base)) none (c.in_err-serve_step.ensures.stops tells capacity start shrunk stands),
+    )
+
+pub returns-in_err-serve_step-clause-watched : goal.returns-in_err-serve_step-clause-watched
+returns-in_err-serve_step-clause-watched g c =
+    let none = c.as_slice.ensures.value ∙ c.new-lines.ensures.items in
+    let p = err_from_is_err_and c.from_residual.result c.from_residual.ensures.1 in
+    let watched = c.in_err-serve_step.ensures.watched in (
+      watched.0,
+      watched.1,
+      (
+        [],
+        λ told. took_none c.args.input.now (g.S.Source.stream c.args.source.now),
+        λ tells capacity start shrunk stands.
+            subst (λ (l : List (List ℕ)). CrashesHeard 0 watched.0 capacity start shrunk (g.G.Ground.outside c.args.base.now) l (g.G.Ground.outside c.serve_step.new.base)) none (watched.2 tells capacity start shrunk stands).1,
+      ),
+      no_ok_on _ c.from_residual.result p.0 p.1,
+      on_err c.from_residual.result (λ final. absurd (no_final _ c.in_err-serve_step.ensures.faults.source c.in_err-serve_step.ensures.no_many (final_of _ p.0 c.from_residual.result p.1 p.2 final))),
+    )
+
+pub returns-in_err-serve_step-clause-faults : goal.returns-in_err-serve_step-clause-faults
+returns-in_err-serve_step-clause-faults g c =
+    let p = err_from_is_err_and c.from_residual.result c.from_residual.ensures.1 in
+    let source = (g.S.Source.stream c.args.source.now).faults in
+    handed_on (counts_none _ _) ⊥ (Rose source source) _ p.0 c.from_residual.result (λ never. absurd never) c.in_err-serve_step.ensures.faults p.1 p.2
+
+pub returns-in_err-serve_step-clause-many : goal.returns-in_err-serve_step-clause-many
+returns-in_err-serve_step-clause-many g c told is =
+    let p = err_from_is_err_and c.from_residual.result c.from_residual.ensures.1 in
+    absurd (c.in_err-serve_step.ensures.no_many (too_many _ p.0 c.from_residual.result p.1 p.2 is))
+
 pub loop-lines-init : goal.loop-lines-init
 loop-lines-init g c = record {
   same = record { tells = refl; names = refl };
-  counts = counts_none _ _;
+  counts = c.serve_step.ensures.faults.counts;
   later = omega arith;
-  anchor = refl;
-  tells = refl;
-  serves = λ capacity serves taken. (serves, taken);
-  nothing = λ capacity serves none. none;
+  anchor = c.serve_step.ensures.anchor;
+  tells = c.in_ok-serve_step.ensures.tells;
+  serves = λ capacity serves taken. let still = c.in_ok-serve_step.ensures.still capacity serves taken in (still.0, omega (arith, still.1));
+  nothing = λ capacity serves none. (c.in_ok-serve_step.ensures.still capacity serves (omega (arith, none))).1;
   fits = omega (arith, ap (λ (l : List (List ℕ)). length l) c.new-lines.ensures.items);
   most = omega (arith, ap (λ (l : List (List ℕ)). length l) c.new-lines.ensures.items);
   bound = omega arith;
   on = (
-    [],
-    λ stay. told_nothing _ _ c.args.watchers.now.items stay,
+    c.in_ok-serve_step.ensures.watched.0,
+    c.in_ok-serve_step.ensures.watched.1,
     on_none c.args.input.now (g.S.Source.stream c.args.source.now) c.new-lines.result.items _ c.new-lines.ensures.items
-        (omega arith, λ tells capacity start shrunk stands. none_heard capacity shrunk start (g.G.Ground.outside c.args.base.now) [] _ _ stands),
+        (omega arith, λ tells capacity start shrunk stands. no_line_heard 0 capacity c.in_ok-serve_step.ensures.watched.0 shrunk start (g.G.Ground.outside c.args.base.now) (g.V.Volume.knows c.serve_step.new.volume (g.G.SectorView.space c.serve_step.new.base) capacity) (g.G.SectorView.space c.serve_step.new.base) (g.G.Ground.outside c.serve_step.new.base) _ _ (c.as_slice.ensures.value ∙ c.new-lines.ensures.items) c.in_ok-serve_step.ensures.few (c.in_ok-serve_step.ensures.watched.2 tells capacity start shrunk stands).0),
   );
 }
 
-pub serve_step-requires-clause-stands : goal.serve_step-requires-clause-stands
-serve_step-requires-clause-stands g c tells_there =
+pub serve_step-requires-in-loop-lines-clause-stands : goal.serve_step-requires-in-loop-lines-clause-stands
+serve_step-requires-in-loop-lines-clause-stands g c tells_there =
     let tells = subst (λ t. IsTrue t) c.loop-lines.invariant.tells tells_there in
     let there = c.requires.stands tells in
     let first = (c.loop-lines.invariant.on.2.1.1 tells there.0 there.1 there.2 there.3).0 in
@@ -56,7 +103,7 @@ returns-in_err-take_lines-clause-stops g c =
     let source = g.S.Source.stream c.args.source.now in
     let now = g.S.Source.stream c.loop-lines.source in
     let new = g.S.Source.stream c.take_lines.new.source in
-    on_err c.from_residual.result
+    on_err c.from_residual-in_err-take_lines.result
     (on_stops c.args.input.now source c.loop-lines.lines.items c.loop-lines.input now _ c.loop-lines.invariant.on.2 _ new
     (λ tells. c.take_lines.ensures.gone (subst IsTrue (sym c.loop-lines.invariant.same.tells) tells))
     (λ count texts inside are served tells capacity start shrunk stands. step_ends capacity shrunk start (g.G.Ground.outside c.args.base.now) texts count _ _ _ (served.1 tells capacity start shrunk stands).0))
@@ -96,8 +143,8 @@ returns-in_err-count-clause-stops g c =
     let first = (served.1 tells capacity start shrunk stands).0 in
     let tells_there = c.loop-lines.invariant.tells ∙ tells in
     let last = shrunk_in shrunk first.run in
-    let after = g.G.Ground.outside c.serve_step.new.base in
-    let are_texts = c.as_slice.ensures.value ∙ are in
+    let after = g.G.Ground.outside c.serve_step-in-loop-lines.new.base in
+    let are_texts = c.as_slice-in-loop-lines.ensures.value ∙ are in
     let second =
     crash_texts capacity first.now last mid (drop count texts) after
     (subst (λ (l : List (List ℕ)). CrashesStep capacity first.now last mid l after) are_texts (c.in_err-count.ensures.stops tells_there capacity first.now last first.stands)) in
@@ -122,10 +169,10 @@ returns-then-count-eq0-clause-stops g c =
     let first = (served.1 tells capacity start shrunk stands).0 in
     let tells_there = c.loop-lines.invariant.tells ∙ tells in
     let last = shrunk_in shrunk first.run in
-    let after = g.G.Ground.outside c.serve_step.new.base in
-    let are_texts = c.as_slice.ensures.value ∙ are in
-    let space_new = g.G.SectorView.space c.serve_step.new.base in
-    let knows_new = g.V.Volume.knows c.serve_step.new.volume space_new capacity in
+    let after = g.G.Ground.outside c.serve_step-in-loop-lines.new.base in
+    let are_texts = c.as_slice-in-loop-lines.ensures.value ∙ are in
+    let space_new = g.G.SectorView.space c.serve_step-in-loop-lines.new.base in
+    let knows_new = g.V.Volume.knows c.serve_step-in-loop-lines.new.volume space_new capacity in
     let k = c.in_ok-count.count in
     let second =
     step_texts capacity first.now last mid (drop count texts) k knows_new space_new after
@@ -134,7 +181,7 @@ returns-then-count-eq0-clause-stops g c =
     step_ends capacity shrunk start old texts (count + k) knows_new space_new after both)
 
 pub drop_first-requires : goal.drop_first-requires
-drop_first-requires g c = subst (λ (l : List (List ℕ)). c.in_ok-count.count ≤ length l) c.as_slice.ensures.value c.in_ok-count.ensures.few
+drop_first-requires g c = subst (λ (l : List (List ℕ)). c.in_ok-count.count ≤ length l) c.as_slice-in-loop-lines.ensures.value c.in_ok-count.ensures.few
 
 pub loop-lines-preserved : goal.loop-lines-preserved
 loop-lines-preserved g c =
@@ -147,13 +194,13 @@ loop-lines-preserved g c =
     let read =
     on_add c.args.input.now source c.loop-lines.lines.items c.loop-lines.input now _ c.loop-lines.invariant.on.2 pending c.take_lines.new.input new same.tells c.in_ok-take_lines.ensures.lines
     (λ count texts more inside served. (served.0, λ tells capacity start shrunk stands. more_heard capacity start shrunk old texts 0 c.loop-lines.invariant.on.0 more count _ _ _ inside (served.1 tells capacity start shrunk stands))) in
-    let few = subst (λ (l : List (List ℕ)). c.in_ok-count.count ≤ length l) c.as_slice.ensures.value c.in_ok-count.ensures.few in
+    let few = subst (λ (l : List (List ℕ)). c.in_ok-count.count ≤ length l) c.as_slice-in-loop-lines.ensures.value c.in_ok-count.ensures.few in
     let far : c.in_ok-count.count ≤ c.loop-lines.left = omega (arith, few, c.in_ok-take_lines.ensures.left) in
     record {
       same = record { tells = c.take_lines.ensures.same.tells ∙ same.tells; names = c.take_lines.ensures.same.names ∙ same.names };
-      counts = counts_both c.loop-lines.invariant.counts c.serve_step.ensures.faults.counts;
+      counts = counts_both c.loop-lines.invariant.counts c.serve_step-in-loop-lines.ensures.faults.counts;
       later = omega (arith, c.loop-lines.invariant.later, c.take_lines.ensures.cause.later);
-      anchor = c.serve_step.ensures.anchor ∙ c.loop-lines.invariant.anchor;
+      anchor = c.serve_step-in-loop-lines.ensures.anchor ∙ c.loop-lines.invariant.anchor;
       tells = c.in_ok-count.ensures.tells ∙ c.loop-lines.invariant.tells;
       serves = λ capacity serves taken.
           let was = c.loop-lines.invariant.serves capacity serves taken in
@@ -180,10 +227,10 @@ loop-lines-preserved g c =
                   let first = served.1 tells capacity start shrunk stands in
                   let tells_there = c.loop-lines.invariant.tells ∙ tells in
                   let last = shrunk_in shrunk first.0.run in
-                  let after = g.G.Ground.outside c.serve_step.new.base in
-                  let are_texts = c.as_slice.ensures.value ∙ are in
-                  let space_new = g.G.SectorView.space c.serve_step.new.base in
-                  let knows_new = g.V.Volume.knows c.serve_step.new.volume space_new capacity in
+                  let after = g.G.Ground.outside c.serve_step-in-loop-lines.new.base in
+                  let are_texts = c.as_slice-in-loop-lines.ensures.value ∙ are in
+                  let space_new = g.G.SectorView.space c.serve_step-in-loop-lines.new.base in
+                  let knows_new = g.V.Volume.knows c.serve_step-in-loop-lines.new.volume space_new capacity in
                   let k = c.in_ok-count.count in
                   let heard = c.in_ok-count.ensures.watched.0 in
                   let at : 4294967295 - c.loop-lines.left ≡ count = omega (arith, served.0) in
@@ -198,9 +245,9 @@ loop-lines-preserved g c =
 
 pub returns-in_err-take_lines-clause-faults : goal.returns-in_err-take_lines-clause-faults
 returns-in_err-take_lines-clause-faults g c =
-    let p = err_from_is_err_and c.from_residual.result c.from_residual.ensures.1 in
+    let p = err_from_is_err_and c.from_residual-in_err-take_lines.result c.from_residual-in_err-take_lines.ensures.1 in
     let took = c.in_err-take_lines.ensures in
-    took_stop c.loop-lines.invariant.counts (g.S.Source.stream c.args.source.now).faults (g.S.Source.stream c.loop-lines.source).faults (g.S.Source.stream c.take_lines.new.source).faults _ p.0 c.from_residual.result c.loop-lines.invariant.later took.cause took.no_disk took.no_sink p.1 p.2
+    took_stop c.loop-lines.invariant.counts (g.S.Source.stream c.args.source.now).faults (g.S.Source.stream c.loop-lines.source).faults (g.S.Source.stream c.take_lines.new.source).faults _ p.0 c.from_residual-in_err-take_lines.result c.loop-lines.invariant.later took.cause took.no_disk took.no_sink p.1 p.2
 
 pub returns-in_err-take_lines-clause-later : goal.returns-in_err-take_lines-clause-later
 returns-in_err-take_lines-clause-later g c =
@@ -225,7 +272,7 @@ returns-in_err-count-clause-later g c =
 
 pub returns-then-count-eq0-clause-faults : goal.returns-then-count-eq0-clause-faults
 returns-then-count-eq0-clause-faults g c =
-    other_stop (counts_both c.loop-lines.invariant.counts c.serve_step.ensures.faults.counts) (Rose (g.S.Source.stream c.args.source.now).faults (g.S.Source.stream c.take_lines.new.source).faults) _ _ refl (λ is. absurd (cc is)) (λ is. absurd (cc is)) (λ is. absurd (cc is))
+    other_stop (counts_both c.loop-lines.invariant.counts c.serve_step-in-loop-lines.ensures.faults.counts) (Rose (g.S.Source.stream c.args.source.now).faults (g.S.Source.stream c.take_lines.new.source).faults) _ _ refl (λ is. absurd (cc is)) (λ is. absurd (cc is)) (λ is. absurd (cc is))
 
 pub returns-then-count-eq0-clause-later : goal.returns-then-count-eq0-clause-later
 returns-then-count-eq0-clause-later g c =
@@ -239,8 +286,8 @@ take_lines-requires-clause-most g c = c.loop-lines.invariant.most
 
 pub returns-in_err-take_lines-clause-many : goal.returns-in_err-take_lines-clause-many
 returns-in_err-take_lines-clause-many g c told is =
-    let p = err_from_is_err_and c.from_residual.result c.from_residual.ensures.1 in
-    let many = c.in_err-take_lines.ensures.many (too_many _ p.0 c.from_residual.result p.1 p.2 is) in
+    let p = err_from_is_err_and c.from_residual-in_err-take_lines.result c.from_residual-in_err-take_lines.ensures.1 in
+    let many = c.in_err-take_lines.ensures.many (too_many _ p.0 c.from_residual-in_err-take_lines.result p.1 p.2 is) in
     let on = c.loop-lines.invariant.on.2 in
     let more = more_lines c.args.input.now (g.S.Source.stream c.args.source.now) on.0.texts c.loop-lines.input (g.S.Source.stream c.loop-lines.source) (on.0.takes told) (many.1 (subst IsTrue (sym c.loop-lines.invariant.same.tells) told)) in
     omega (arith, more, many.0, on.0.inside, on.1.0)
@@ -273,7 +320,7 @@ pub loop-lines-smaller : goal.loop-lines-smaller
 loop-lines-smaller g c =
     let adds = c.in_ok-take_lines.ensures.lines in
     let pending = c.take_lines.new.pending.items in
-    let few = subst (λ (l : List (List ℕ)). c.in_ok-count.count ≤ length l) c.as_slice.ensures.value c.in_ok-count.ensures.few in
+    let few = subst (λ (l : List (List ℕ)). c.in_ok-count.count ≤ length l) c.as_slice-in-loop-lines.ensures.value c.in_ok-count.ensures.few in
     let some : 0 < c.in_ok-count.count = grind (arith, nat_tests, c.if-count-eq0.false) in
     omega (arith, some, few, adds.nearer, ap (λ (l : List (List ℕ)). length l) adds.held_are, length-append c.loop-lines.lines.items (held most_bytes adds.texts), length-map adds.texts (take (most_bytes + 1)), ap (λ (l : List (List ℕ)). length l) c.drop_first.ensures, length-drop c.in_ok-count.count pending)
 
@@ -288,16 +335,16 @@ returns-in_err-take_lines-clause-watched g c =
     → Stands (g.V.Volume.knows c.args.volume.now (g.G.SectorView.space c.args.base.now) capacity) start start shrunk (g.G.SectorView.space c.args.base.now) (g.G.Ground.outside c.args.base.now)
     → CrashesHeard 0 c.loop-lines.invariant.on.0 capacity start shrunk (g.G.Ground.outside c.args.base.now) texts (g.G.Ground.outside c.loop-lines.base)) new (λ tells. c.take_lines.ensures.gone (subst IsTrue (sym c.loop-lines.invariant.same.tells) tells))
     (λ count texts inside are served tells capacity start shrunk stands. ends_heard capacity shrunk start (g.G.Ground.outside c.args.base.now) texts 0 c.loop-lines.invariant.on.0 count _ _ _ (served.1 tells capacity start shrunk stands)) in
-    let p = err_from_is_err_and c.from_residual.result c.from_residual.ensures.1 in
+    let p = err_from_is_err_and c.from_residual-in_err-take_lines.result c.from_residual-in_err-take_lines.ensures.1 in
     let on = c.loop-lines.invariant.on.2 in
     let took = c.in_err-take_lines.ensures in
     let same = c.loop-lines.invariant.same in (
       c.loop-lines.invariant.on.0,
       c.loop-lines.invariant.on.1,
       stops,
-      no_ok_on _ c.from_residual.result p.0 p.1,
-      on_err c.from_residual.result
-          (handed_answers _ p.0 c.from_residual.result _ c.args.input.now source new p.1 p.2
+      no_ok_on _ c.from_residual-in_err-take_lines.result p.0 p.1,
+      on_err c.from_residual-in_err-take_lines.result
+          (handed_answers _ p.0 c.from_residual-in_err-take_lines.result _ c.args.input.now source new p.1 p.2
           (λ final.
           let ends =
           on_final c.args.input.now source c.loop-lines.lines.items c.loop-lines.input now _ on new _ (λ tells. c.take_lines.ensures.gone (subst IsTrue (sym same.tells) tells))
@@ -348,7 +395,7 @@ returns-in_err-count-clause-watched g c =
     on_stops c.args.input.now source pending c.take_lines.new.input new _ read
     (λ (texts : List (List ℕ)). IsTrue (g.G.SectorView.space c.args.base.now).tells → (capacity : ℕ) (start : Content) (shrunk : Option ℕ)
     → Stands (g.V.Volume.knows c.args.volume.now (g.G.SectorView.space c.args.base.now) capacity) start start shrunk (g.G.SectorView.space c.args.base.now) old
-    → CrashesHeard 0 (before ++ heard) capacity start shrunk old texts (g.G.Ground.outside c.serve_step.new.base)) new (λ tells. (c.take_lines.new.input, refl))
+    → CrashesHeard 0 (before ++ heard) capacity start shrunk old texts (g.G.Ground.outside c.serve_step-in-loop-lines.new.base)) new (λ tells. (c.take_lines.new.input, refl))
     (λ count texts inside are served tells capacity start shrunk stands.
     let space = g.G.SectorView.space c.loop-lines.base in
     let mid = g.G.Ground.outside c.loop-lines.base in
@@ -356,8 +403,8 @@ returns-in_err-count-clause-watched g c =
     let first = served.1 tells capacity start shrunk stands in
     let tells_there = c.loop-lines.invariant.tells ∙ tells in
     let last = shrunk_in shrunk first.0.run in
-    let after = g.G.Ground.outside c.serve_step.new.base in
-    let are_texts = c.as_slice.ensures.value ∙ are in
+    let after = g.G.Ground.outside c.serve_step-in-loop-lines.new.base in
+    let are_texts = c.as_slice-in-loop-lines.ensures.value ∙ are in
     let at : 4294967295 - c.loop-lines.left ≡ count = omega (arith, served.0) in
     let second =
     crash_heard capacity first.0.now last mid (drop count texts) count heard after
@@ -391,7 +438,7 @@ returns-then-count-eq0-clause-watched g c =
     on_stops c.args.input.now source pending c.take_lines.new.input new _ read
     (λ (texts : List (List ℕ)). IsTrue (g.G.SectorView.space c.args.base.now).tells → (capacity : ℕ) (start : Content) (shrunk : Option ℕ)
     → Stands (g.V.Volume.knows c.args.volume.now (g.G.SectorView.space c.args.base.now) capacity) start start shrunk (g.G.SectorView.space c.args.base.now) old
-    → CrashesHeard 0 (before ++ heard) capacity start shrunk old texts (g.G.Ground.outside c.serve_step.new.base)) new (λ tells. (c.take_lines.new.input, refl))
+    → CrashesHeard 0 (before ++ heard) capacity start shrunk old texts (g.G.Ground.outside c.serve_step-in-loop-lines.new.base)) new (λ tells. (c.take_lines.new.input, refl))
     (λ count texts inside are served tells capacity start shrunk stands.
     let space = g.G.SectorView.space c.loop-lines.base in
     let mid = g.G.Ground.outside c.loop-lines.base in
@@ -399,11 +446,11 @@ returns-then-count-eq0-clause-watched g c =
     let first = served.1 tells capacity start shrunk stands in
     let tells_there = c.loop-lines.invariant.tells ∙ tells in
     let last = shrunk_in shrunk first.0.run in
-    let after = g.G.Ground.outside c.serve_step.new.base in
-    let are_texts = c.as_slice.ensures.value ∙ are in
+    let after = g.G.Ground.outside c.serve_step-in-loop-lines.new.base in
+    let are_texts = c.as_slice-in-loop-lines.ensures.value ∙ are in
     let at : 4294967295 - c.loop-lines.left ≡ count = omega (arith, served.0) in
-    let space_new = g.G.SectorView.space c.serve_step.new.base in
-    let knows_new = g.V.Volume.knows c.serve_step.new.volume space_new capacity in
+    let space_new = g.G.SectorView.space c.serve_step-in-loop-lines.new.base in
+    let knows_new = g.V.Volume.knows c.serve_step-in-loop-lines.new.volume space_new capacity in
     let k = c.in_ok-count.count in
     let second =
     texts_heard capacity first.0.now last mid (drop count texts) count heard k knows_new space_new after
@@ -419,6 +466,6 @@ returns-then-count-eq0-clause-watched g c =
       λ final. absurd final,
     )
 
-pub serve_step-requires-clause-numbers : goal.serve_step-requires-clause-numbers
-serve_step-requires-clause-numbers g c =
-    omega (arith, c.loop-lines.invariant.bound, c.in_ok-take_lines.ensures.left, ap (λ (l : List (List ℕ)). length l) c.as_slice.ensures.value)
+pub serve_step-requires-in-loop-lines-clause-numbers : goal.serve_step-requires-in-loop-lines-clause-numbers
+serve_step-requires-in-loop-lines-clause-numbers g c =
+    omega (arith, c.loop-lines.invariant.bound, c.in_ok-take_lines.ensures.left, ap (λ (l : List (List ℕ)). length l) c.as_slice-in-loop-lines.ensures.value)

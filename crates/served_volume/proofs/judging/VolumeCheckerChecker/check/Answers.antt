@@ -1,4 +1,4 @@
-use Rattle.std.proofs.Common.{◌↔◌, refl, subst, ◌∙◌, ap}
+use Rattle.std.proofs.Common.{◌↔◌, ◌⊎◌, ◌<◌, length, refl, subst, ◌∙◌, ap}
 use Rattle.std.specs.Prelude.{Contains, IsTrue}
 use Rattle.fsck_core.specs.Verdicts.{findings_in, is_clean}
 use Rattle.fsck_core.specs.Wants.{as_found}
@@ -25,6 +25,7 @@ returns-in-Ok-Findings-clause-verdict g c tells =
     let bytes = c.requires.bytes tells in
     found_verdict content (g.W.SectorView.space c.check.new.view).content c.in-Ok-Findings.found c.keep_found.new.self.found c.keep_found.result c.keep_found.ensures.found (reads.sectors tells).content
     (subst (λ (v : Checked). IsTrue (is_clean v) ↔ IsSound content) c.in-Ok-Findings.field-0-is (c.in-Ok-Findings.ensures.sound tells bytes))
+    (subst (λ (v : Checked). IsTrue (is_clean v) ⊎ (0 < length (findings_in v))) c.in-Ok-Findings.field-0-is (c.in-Ok-Findings.ensures.some tells bytes))
     (subst (λ (v : Checked). (f : Listed) → Contains (findings_in v) f → IsBroken content (as_found f)) c.in-Ok-Findings.field-0-is (c.in-Ok-Findings.ensures.broken tells bytes))
     (c.keep_found.ensures.verdict (reads.same.tells ∙ tells))
 
