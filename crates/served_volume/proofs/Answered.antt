@@ -137,6 +137,9 @@ module _ (v w : Volume) (capacity : ℕ) (committed now : Content) (shrunk : Opt
   answers number line before after (outcome.Answered said changes) step.Answered was shrinks told = (record { replies = reply_text said; changes = changes }, told, answered number line said changes was shrinks)
   answers number line before after (outcome.Answered said changes) step.Again was shrinks told = absurd told
   answers number line before after (outcome.Answered said changes) step.CommitFirst was shrinks told = absurd told
+  answers number line before after (outcome.Answered said changes) step.Forgone was shrinks told = absurd told
+  answers number line before after outcome.CommitFirst step.Forgone was shrinks told = absurd told
+  answers number line before after outcome.Again step.Forgone was shrinks told = absurd told
   answers number line before after outcome.CommitFirst step.Answered was shrinks told = absurd told
   answers number line before after outcome.CommitFirst step.Again was shrinks told = absurd told
   answers number line before after outcome.CommitFirst step.CommitFirst was shrinks told = (told, stays was shrinks)
