@@ -1,15 +1,17 @@
 -- The bits of blocks, judged one by one.
-use Rattle.std.proofs.Common.{◌≡◌, ◌<◌, ◌≤◌, ℕ, zero, suc, ◌+◌, ◌-◌, Bool, false, ◌&&◌, List, [], ◌∷◌, length, map, get_or, refl, sym, ◌∙◌, ap, subst, arith}
+use Rattle.std.proofs.Common.{◌≡◌, ◌<◌, ◌≤◌, ℕ, zero, suc, ◌+◌, ◌-◌, Bool, false, ◌&&◌, List, [], ◌∷◌, length, map, get_or, refl, sym, ◌∙◌, ap, subst, arith, ⊎_elim, T}
 use Rattle.std.specs.Prelude.{Contains}
 use Rattle.std.specs.List.{range_with_len}
+use Rattle.std.proofs.lemmas.Bool.{cases_lt}
 use Rattle.std.proofs.lemmas.List.FromFn.{length-map-range_with_len, get_or-map-range_with_len, map-range_with_len_more}
 use Rattle.flag_rows.specs.Bits.{count_set}
 use Rattle.fsck_list.specs.declared.finding.Finding.{Finding}
+use Rattle.fsck_list.specs.Kept.{IsListed}
 use Rattle.volume_header.specs.declared.header.VolumeHeader.{VolumeHeader}
 use Rattle.hfs_volume.specs.Content.{VolumeState, is_set}
 use Rattle.hfs_volume.specs.Blocks.{is_among, used_in, count_used}
 use Rattle.hfs_volume.specs.Broken.{Want, want, bit, bit_wants, free_wants}
-use Rattle.hfs_volume.proofs.Members.{in_one, map_cases, map_stands}
+use Rattle.hfs_volume.proofs.Members.{all_of, each_of, in_one, map_cases, map_stands}
 use Rattle.hfs_volume.proofs.BlockWants.{in_range, range_bounds}
 use Rattle.fsck_core.specs.Judged.{Judged, AddsUnmet}
 use Rattle.fsck_core.specs.Flags.{AreBits, AreUsed, bit_want}
@@ -38,6 +40,29 @@ bits_added flags used n k old mid new inside first second = adds_both 13 (bits_u
     subst (λ (v : Want). Contains (bits_upto flags used n) v) (sym at.2) (bit_stands flags used n at.0 (omega (arith, low.1, inside))))
     (λ w stands. subst (λ (v : Want). Contains (bits_upto flags used n) v) (sym (in_one (bit_want flags used k) w stands)) (bit_stands flags used n k inside))
     first second
+
+-- where a bit isn't the one wanted, and the findings of all bits behind it are listed, the bits behind it don't have to be judged
+pub bits_full : (flags used : List Bool) (n k : ℕ) (old mid new : List Finding) (one : Bool) → k < n → Judged 13 (bits_upto flags used k) old mid one → Judged 13 (bit_want flags used k ∷ []) mid new false
+    → ((other : Finding) → other.rule ≡ 13 → k + 1 ≤ other.place → IsListed new other) → Judged 13 (bits_upto flags used n) old new false
+bits_full flags used n k old mid new one inside first second full =
+    let front : Judged 13 (bits_upto flags used (k + 1)) old new false = bits_more flags used k old mid new one false false refl first second in
+    record {
+      tells = (
+        λ is. absurd (subst T (sym is) tt),
+        λ all. second.tells.1 (all_of (λ (w : Want). w.found ≡ w.wanted) (bit_want flags used k ∷ []) (λ w stands.
+            subst (λ (v : Want). v.found ≡ v.wanted) (sym (in_one (bit_want flags used k) w stands))
+            (each_of (λ (v : Want). v.found ≡ v.wanted) (bits_upto flags used n) all (bit_want flags used k) (bit_stands flags used n k inside)))),
+      );
+      listed = λ f unmet.
+          let at = map_cases (bit_want flags used) (range_with_len 0 n) (want f.place f.found f.wanted) unmet.2 in
+          let here : f.place ≡ at.0 = ap (λ (w : Want). w.place) at.2 in
+          ⊎_elim
+          (λ (low : at.0 < k + 1). front.listed f (unmet.0, unmet.1, subst (λ (v : Want). Contains (bits_upto flags used (k + 1)) v) (sym at.2) (bit_stands flags used (k + 1) at.0 low)))
+          (λ (high : k + 1 ≤ at.0). full f unmet.0 (omega (arith, high, here)))
+          (cases_lt at.0 (k + 1));
+      still = front.still;
+      each = bits_added flags used n k old mid new inside first.each second.each;
+    }
 
 same_over : {X : Type 0} (f g : ℕ → X) (a n : ℕ) → ((k : ℕ) → a ≤ k → k < a + n → f k ≡ g k) → map f (range_with_len a n) ≡ map g (range_with_len a n)
 same_over f g a zero same = refl

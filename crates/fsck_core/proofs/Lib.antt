@@ -15,6 +15,7 @@ pub mod UseLaws
 pub mod SweepLaws
 pub mod UsedLaws
 pub mod BehindLaws
+pub mod OnesLaws
 pub mod BehindSkips
 pub mod BehindSums
 pub mod OwnerLaws

@@ -1,9 +1,9 @@
--- Blocks that are marked one by one, and those that stand twice.
-use Rattle.std.proofs.Common.{◌≡◌, ◌↔◌, ◌<◌, ◌≤◌, ℕ, ◌+◌, Bool, true, false, not, ◌==◌, if◌then◌else◌, List, [], ◌++◌, length, replicate, take, drop, get_or, set, inl, refl, sym, ◌∙◌, ap, subst, arith, ⊎_elim, T, length-set, get_or-set_same, get_or-set_other}
+-- Blocks that are marked, and those that stand twice.
+use Rattle.std.proofs.Common.{◌≡◌, ◌↔◌, ◌<◌, ◌≤◌, ℕ, ◌+◌, Bool, true, false, ◌==◌, List, [], ◌++◌, length, replicate, take, drop, get_or, inl, refl, sym, ◌∙◌, ap, subst, arith, ⊎_elim, T}
 use Rattle.std.specs.Prelude.{Contains, IsTrue}
 use Rattle.std.specs.List.{range_with_len}
 use Rattle.std.proofs.lemmas.Bool.{eqb-true}
-use Rattle.std.proofs.lemmas.List.{get_or_default, get_or_past, length-replicate, get_or-replicate, take-append-drop}
+use Rattle.std.proofs.lemmas.List.{length-replicate, get_or-replicate, take-append-drop}
 use Rattle.std.proofs.lemmas.List.FromFn.{fill_by_all}
 use Rattle.std.proofs.lemmas.List.Concat.{flat_map-append}
 use Rattle.std.proofs.lemmas.List.Folds.{list_any_at}
@@ -18,10 +18,10 @@ use Rattle.hfs_volume.specs.Blocks.{is_among, used_in}
 use Rattle.hfs_volume.specs.Broken.{bit}
 use Rattle.hfs_volume.proofs.EntryWants.{none_or_one}
 use Rattle.fsck_core.specs.Flags.{AreUsed}
-use Rattle.fsck_core.specs.Uses.{mark_at, HasMarked}
+use Rattle.fsck_core.specs.Uses.{HasMarked}
 use Rattle.fsck_core.proofs.JudgedLaws.{flat_more}
 
--- ---- counts and marks
+-- ---- counts
 
 pub not_seen : (block : ℕ) (front : List ℕ) → is_among front block ≡ false → times block front ≡ 0
 not_seen block front absent = ⊎_elim
@@ -35,27 +35,6 @@ stands_once block all some = ⊎_elim
     (λ (none : times block all ≡ 0). absurd (omega (arith, none, some)))
     (λ (one : (x : ℕ) × Contains all x × (x == block ≡ true)). subst (λ n. Contains all n) (eqb-true one.0 block one.2) one.1)
     (none_or_one (λ other. other == block) all)
-
-pub mark_long : (used : List Bool) (block : ℕ) → length (mark_at used block) ≡ length used
-mark_long used block = by (get_or used block true)
-  where
-    by : (b : Bool) → length (if b then used else set used block true) ≡ length used
-    by true = refl
-    by false = length-set used block true
-
-pub mark_same : (used : List Bool) (block : ℕ) → block < length used → get_or (mark_at used block) block false ≡ true
-mark_same used block inside = by (get_or used block true) refl
-  where
-    by : (b : Bool) → get_or used block true ≡ b → get_or (if b then used else set used block true) block false ≡ true
-    by true is = get_or_default used block false true inside ∙ is
-    by false is = get_or-set_same used block true false inside
-
-pub mark_other : (used : List Bool) (block k : ℕ) → (k ≡ block → ⊥) → get_or (mark_at used block) k false ≡ get_or used k false
-mark_other used block k differ = by (get_or used block true)
-  where
-    by : (b : Bool) → get_or (if b then used else set used block true) k false ≡ get_or used k false
-    by true = refl
-    by false = get_or-set_other used block k true false differ
 
 -- ---- all extents
 
@@ -108,16 +87,3 @@ pub count_one : (extents : List Extent) (i : ℕ) (none : Extent) (block : ℕ) 
 count_one extents i none block inside =
     let e : Extent = get_or extents i none in
     ap (times block) (sym (extents_more extents i none inside)) ∙ times-append block (blocks_of (take i extents)) (range_with_len e.start e.count) ∙ ap (λ n. times block (blocks_of (take i extents)) + n) (times_range e block)
-
-pub mark_is : (used : List Bool) (block : ℕ) (could : Bool) (more : List Bool) → could ≡ not (get_or used block true) → more ≡ (if could then set used block true else used) → more ≡ mark_at used block
-mark_is used block could more is are = are ∙ ap (λ b. if b then set used block true else used) is ∙ by (get_or used block true)
-  where
-    by : (b : Bool) → (if not b then set used block true else used) ≡ (if b then used else set used block true)
-    by true = refl
-    by false = refl
-
-pub past_could : (used : List Bool) (block : ℕ) → length used ≤ block → false ≡ not (get_or used block true)
-past_could used block past = ap not (sym (get_or_past used block true past))
-
-pub past_mark : (used : List Bool) (block : ℕ) → length used ≤ block → used ≡ mark_at used block
-past_mark used block past = sym (ap (λ b. if b then used else set used block true) (get_or_past used block true past))

@@ -1,5 +1,5 @@
 -- Blocks that are used, of which each is looked at once more than it was before.
-use Rattle.std.specs.Prelude.{◌≡◌, ◌<◌, ◌≤◌, ℕ, Bool, true, false, List, length, map, slice_index_or, slice_set, IsTrue, if◌then◌else◌}
+use Rattle.std.specs.Prelude.{◌≡◌, ◌<◌, ◌≤◌, ℕ, Bool, false, List, length, map, slice_index_or, IsTrue}
 use Rattle.alloc_bitmap.specs.Apart.{times}
 use Rattle.fsck_list.specs.declared.finding.Finding.{Finding}
 use Rattle.hfs_volume.specs.Blocks.{is_among}
@@ -14,10 +14,6 @@ use_want all block = want block (times block all) 1
 -- that of each block
 abbrev pub uses_of : List ℕ → List Want
 uses_of all = map (use_want all) all
-
--- a place is marked, where it is one and isn't marked
-abbrev pub mark_at : List Bool → ℕ → List Bool
-mark_at flags block = if slice_index_or flags block true then flags else slice_set flags block true
 
 -- The blocks at the front of a list were marked, and it is told whether one of them stands there twice; what was found are blocks that the
 -- list has twice.

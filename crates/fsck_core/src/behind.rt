@@ -27,12 +27,32 @@ const ALLOCATION_FILE: u32 = 6;
 
 const DATA: u8 = 0;
 
+/// How many bits of the first so many bytes are set.
+fn count_bytes(bytes: &[u8], count: usize) -> u64
+    requires inside { count ≤ length bytes.now }
+    requires few { count ≤ 512 }
+    ensures value { result ≡ count_by (bit_of bytes.now) (range_with_len 0 (8 * count)) }
+    ensures few { result ≤ 8 * count }
+{
+    let mut set = 0;
+    for k in 0..count {
+        set += bytes[k].count_ones() as u64;
+    }
+    set
+}
+
 /// How many bits of a sector are set, from one place up to another.
 fn count_bits(sector: &Sector, from: usize, to: usize) -> u64
     requires { to ≤ 4096 }
     ensures value { result ≡ count_by (bit_of sector.now) (range_with_len from (to - from)) }
     ensures few { result ≤ 4096 }
 {
+    let rest = to % 8;
+    if from == 0 {
+        if rest == 0 {
+            return count_bytes(sector, to / 8);
+        }
+    }
     let mut count = 0;
     for k in from..to {
         if bit(sector, k) {
@@ -229,26 +249,39 @@ fn push_sum(sums: &mut Vec<u64>, sum: u64) -> Result<(), OutOfMemory>
     Ok(())
 }
 
-/// Whether extents have no more blocks in a volume than it has, so that reading them all reads it once at most.
-fn have_few(extents: &[Extent], total: u32) -> bool {
-    let mut left = total;
-    for extent in extents {
-        let inside = blocks_inside(*extent, total);
-        if inside > left {
+/// Whether so few sectors of a fork hold bits behind those of blocks that reading them all reads the volume once at most.
+fn has_few(fork: &Fork, total: u32, size: u64) -> bool {
+    let end = size.div_ceil(512);
+    let per_block = fork.per_block as u64;
+    let mut at = (total / 4096) as u64;
+    let mut front: u64 = 0;
+    let mut left = fork.limit;
+    for extent in fork.extents.as_slice() {
+        let inside = blocks_inside(*extent, total) as u64;
+        let upto = front
+            .saturating_add(inside)
+            .saturating_mul(per_block)
+            .min(end);
+        let sectors = upto.saturating_sub(at);
+        if sectors > left {
             return false;
         }
-        left -= inside;
+        left -= sectors;
+        front = front.saturating_add(extent.count as u64);
+        let behind = front.saturating_mul(per_block).min(end);
+        at = at.max(upto).max(behind);
     }
     true
 }
 
-/// The numbers of bits that are set before each block of a volume, where the extents of a fork have more blocks than the volume; none for any
-/// other fork, of which each sector is read.
+/// The numbers of bits that are set before each block of a volume, where more sectors of a fork hold bits behind those of blocks than the volume
+/// has; none for any other fork, of which each of these sectors is read.
 fn read_sums<V: SectorView>(
     alloc: Global,
     view: &mut V,
     fork: &Fork,
     total: u32,
+    size: u64,
 ) -> Result<Vec<u64>, Trouble>
     requires few { fork.now.per_block ≤ 128 }
     ensures value { IsTrue (V.space view.old).tells → IfOk result (λ sums. HasSums (V.space view.old).content fork.now.limit total fork.now.per_block sums.items) }
@@ -256,7 +289,7 @@ fn read_sums<V: SectorView>(
     ensures below { V.follows view.old view.new }
     ensures disk { IsErrOf result Disk → Rose (V.space view.old).faults (V.space view.new).faults }
 {
-    if have_few(fork.extents.as_slice(), total) {
+    if has_few(fork, total, size) {
         return Ok(Vec::new(alloc));
     }
     let mut list = ExtentList::new(alloc);
@@ -339,13 +372,9 @@ pub fn count_behind<V: SectorView>(
         per_block,
         limit: head.total_blocks as u64 * per_block as u64,
     };
-    let sums = read_sums(alloc, view, &fork, head.total_blocks)?;
-    let count = count_past(
-        view,
-        &fork,
-        head.total_blocks,
-        head.allocation_fork.logical_size,
-        &sums,
-    )?;
+    let total = head.total_blocks;
+    let size = head.allocation_fork.logical_size;
+    let sums = read_sums(alloc, view, &fork, total, size)?;
+    let count = count_past(view, &fork, total, size, &sums)?;
     Ok(count)
 }

@@ -37,7 +37,8 @@ fn judge_bit(block: u64, set: bool, used: bool, out: &mut Findings) -> Result<bo
     )
 }
 
-/// Judges the bit of each block: it is set where something uses the block, and only there (TN1150, "Allocation File").
+/// Judges the bit of each block: it is set where something uses the block, and only there (TN1150, "Allocation File"). Where as many findings
+/// are kept as there may be, and those of later blocks would come behind them, these aren't looked at.
 pub fn judge_bits(flags: &Bits, used: &Marks, out: &mut Findings) -> Result<bool, OutOfMemory>
     ensures judged { (volume : VolumeState) → AreBits volume flags.now → AreUsed volume used.now → IfOk result (λ met. Judged 13 (bit_wants volume) out.old out.new met) }
     ensures each { (volume : VolumeState) → AreBits volume flags.now → AreUsed volume used.now → AddsUnmet 13 (bit_wants volume) out.old out.new }
@@ -45,6 +46,11 @@ pub fn judge_bits(flags: &Bits, used: &Marks, out: &mut Findings) -> Result<bool
     let mut met = true;
     for block in 0..flags.len() {
         let one = judge_bit(block as u64, flags.get(block), used.has(block as u32), out)?;
+        if !one {
+            if out.is_full_before(13, block as u64 + 1) {
+                return Ok(false);
+            }
+        }
         met = both(one, met);
     }
     Ok(met)

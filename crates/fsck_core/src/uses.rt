@@ -11,25 +11,13 @@ ghost use Rattle.hfs_volume.specs.Broken.{use_wants};
 ghost use Rattle.fsck_list.specs.declared.finding.Finding.{Finding as Listed};
 ghost use Rattle.fsck_core.specs.Judged.{AddsUnmet};
 ghost use Rattle.fsck_core.specs.Flags.{AreUsed};
-ghost use Rattle.fsck_core.specs.Uses.{use_want, uses_of, mark_at, HasMarked, HasSwept};
+ghost use Rattle.fsck_core.specs.Uses.{use_want, uses_of, HasMarked, HasSwept};
 
 use crate::flags::bit;
 use crate::want::{Want, judge_wants};
 use fsck_list::{Findings, MOST, Marks};
 use hx_bytes::{Extent, OutOfMemory};
 use std::alloc::Global;
-
-/// Marks a block, and says whether it could: it is one of the volume, and wasn't marked.
-fn mark_block(used: &mut Marks, block: u64) -> bool
-    requires { length used.old ≤ 2 ^ 32 }
-    ensures could { result ≡ not (slice_index_or used.old block true) }
-    ensures marks { used.new ≡ mark_at used.old block }
-{
-    if block > u32::MAX as u64 {
-        return false;
-    }
-    used.mark(block as u32)
-}
 
 /// Whether an extent has a block.
 fn has_block(extent: Extent, block: u64) -> bool
@@ -58,13 +46,7 @@ fn mark_stretch(used: &mut Marks, from: u64, to: u64)
     ensures sets { ((k : ℕ) → from ≤ k → slice_index_or used.old k false ≡ false) → (k : ℕ) → from ≤ k → k < to → k < length used.old → slice_index_or used.new k false ≡ true }
     ensures keeps { (k : ℕ) → (k < from) ⊎ (to ≤ k) → slice_index_or used.new k false ≡ slice_index_or used.old k false }
 {
-    let mut at = from;
-    while at < to {
-        if !mark_block(used, at) {
-            return;
-        }
-        at += 1;
-    }
+    used.mark_stretch(from, to);
 }
 
 /// Adds a finding for a block that these extents have more than once. Where there are as many findings as are kept, none is added.

@@ -1,4 +1,5 @@
-use Rattle.std.proofs.Common.{◌≡◌, ℕ, ◌+◌, true, false, sym, ◌∙◌, arith}
+use Rattle.std.proofs.Common.{◌≡◌, ℕ, ◌+◌, ◌-◌, ◌*◌, ◌/◌, true, false, sym, ◌∙◌, arith}
+use Rattle.std.specs.List.{count_by, range_with_len}
 use Rattle.flag_rows.specs.Bits.{bit_of}
 use Rattle.fsck_core.proofs.BehindLaws.{bit_more}
 use Rattle.fsck_core.proofs.behind.count_bits.Goals.{then-bit, else-bit}
@@ -22,3 +23,9 @@ loop-k-preserved c = elim c.if-bit.branch [
   where
     add_none : (n : ℕ) → n ≡ n + 0
     add_none n = omega arith
+
+pub returns-then-rest-eq0-clause-value : goal.returns-then-rest-eq0-clause-value
+returns-then-rest-eq0-clause-value c =
+    let from_is : 0 ≡ c.args.from = omega (arith, c.if-from-eq0.true) in
+    let long : 8 * (c.args.to / 8) ≡ c.args.to - c.args.from = omega (arith, c.if-from-eq0.true, c.if-rest-eq0.true) in
+    c.count_bytes.ensures.value ∙ (λ i. count_by (bit_of c.args.sector.now) (range_with_len (from_is i) (long i)))

@@ -5,7 +5,7 @@ use Rattle.hfs_volume.specs.Broken as broken
 use Rattle.fsck_core.specs.Judged.{Judged, AddsUnmet}
 use Rattle.fsck_core.specs.Flags.{bit_want}
 use Rattle.fsck_core.proofs.JudgedLaws.{judged_none}
-use Rattle.fsck_core.proofs.FlagLaws.{bits_upto, bits_more, bits_added, bits_are}
+use Rattle.fsck_core.proofs.FlagLaws.{bits_upto, bits_more, bits_added, bits_are, bits_full}
 use Rattle.fsck_core.proofs.flags.judge_bits.Goals as goal
 
 -- the bit of a block as it was read
@@ -41,3 +41,17 @@ returns-clause-judged c volume bits uses =
 
 pub returns-clause-each : goal.returns-clause-each
 returns-clause-each c volume bits uses = (returns-clause-judged c volume bits uses).each
+
+pub returns-then-is_full_before-clause-judged : goal.returns-then-is_full_before-clause-judged
+returns-then-is_full_before-clause-judged c volume bits uses =
+    let flags : List Bool = c.args.flags.now in
+    let used : List Bool = c.args.used.now in
+    let inside : c.loop-block.block < length flags = omega (arith, c.loop-block-test.true, c.len-block-end.ensures.size) in
+    let one : Judged 13 (bit_want flags used c.loop-block.block ∷ []) c.loop-block.out c.judge_bit.new.out c.in_ok-one.one =
+    subst (λ (l : List broken.Want). Judged 13 l c.loop-block.out c.judge_bit.new.out c.in_ok-one.one) (bit_here flags used c.loop-block.block c.get.result c.has.result inside c.get.ensures c.has.ensures) c.in_ok-one.ensures.judged in
+    subst (λ (l : List broken.Want). Judged 13 l c.args.out.now c.judge_bit.new.out false) (bits_are volume flags used bits uses)
+    (bits_full flags used (length flags) c.loop-block.block c.args.out.now c.loop-block.out c.judge_bit.new.out c.loop-block.met inside c.loop-block.invariant.judged
+    (subst (λ (b : Bool). Judged 13 (bit_want flags used c.loop-block.block ∷ []) c.loop-block.out c.judge_bit.new.out b) c.if-not-one.true one) (c.is_full_before.ensures c.if-is_full_before.true))
+
+pub returns-then-is_full_before-clause-each : goal.returns-then-is_full_before-clause-each
+returns-then-is_full_before-clause-each c volume bits uses = (returns-then-is_full_before-clause-judged c volume bits uses).each
