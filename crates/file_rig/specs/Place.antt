@@ -1,5 +1,5 @@
 -- A place that holds sectors, and a store of sectors over it.
-use Rattle.std.specs.Prelude.{◌≡◌, ◌<◌, ◌≤◌, ◌+◌, ℕ, Bool, List, length, take, drop, slice_set}
+use Rattle.std.specs.Prelude.{◌≡◌, ◌<◌, ◌≤◌, ◌+◌, ℕ, Bool, List, Option, Some, length, take, drop, replicate, slice_set}
 use Rattle.sector_disk.specs.Lists.{Content, sector, put_sectors}
 use Rattle.file_rig.specs.Runs.{Run}
 
@@ -8,6 +8,18 @@ pub record Place : Type 0 where
   pub tells : Bool
   pub held : Content
   pub flushed : Content
+
+-- a sector of zeros
+abbrev pub zeros : List ℕ
+zeros = replicate 512 0
+
+-- from this sector on all that the place holds is zeros
+abbrev pub HoldsZerosFrom : ℕ → Content → Type 0
+HoldsZerosFrom from held = (at : ℕ) → from ≤ at → at < length held → sector held at ≡ zeros
+
+-- of the zeros from a known sector on, those from this sector on are left when what lies before `end` is written
+abbrev pub AreLeft : Option ℕ → (end left : ℕ) → Type 0
+AreLeft known end left = (from : ℕ) × (known ≡ Some from) × (from ≤ left) × (end ≤ left)
 
 -- all that a contract sees of a store: how many sectors it has, whether its place tells what it holds, what reads of the store give, and what is flushed
 pub record Store : Type 0 where

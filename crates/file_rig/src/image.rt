@@ -35,6 +35,8 @@ pub struct OpenImage<'a> {
     name: &'a str,
     opened: Opened,
     sectors: u64,
+    // The first of the sectors that it got when it was made longer, which hold zeros.
+    added: Option<u64>,
     limit: FileLimit,
 }
 
@@ -91,6 +93,7 @@ fn measured<'a>(
         name,
         opened,
         sectors,
+        added: None,
         limit: FileLimit::of_process(rt),
     };
     Ok((Image::Open(image), sectors))
@@ -100,25 +103,29 @@ fn measured<'a>(
 fn made<'a>(rt: &'a HostRuntime, name: &'a str, sectors: u64) -> Result<OpenImage<'a>, Failure> {
     let opened = open(rt, name, Purpose::Making)?;
     let limit = FileLimit::of_process(rt);
-    if let Err(error) = lengthen(&opened.file, sectors, limit) {
-        return Err(Act::Lengthening.failed(error));
-    }
+    let added = match lengthen(&opened.file, sectors, limit) {
+        Ok(added) => added,
+        Err(error) => return Err(Act::Lengthening.failed(error)),
+    };
     Ok(OpenImage {
         rt,
         name,
         opened,
         sectors,
+        added: Some(added),
         limit,
     })
 }
 
-// Gives a file its length.
-fn lengthen(file: &File, sectors: u64, limit: FileLimit) -> io::Result<()> {
+// Gives a file its length, and says from which sector on it holds nothing of before.
+fn lengthen(file: &File, sectors: u64, limit: FileLimit) -> io::Result<u64> {
     let length = sectors.checked_mul(SECTOR).unwrap_or(u64::MAX);
-    if length > file.metadata()?.len() {
+    let was = file.metadata()?.len();
+    if length > was {
         limit.allows(length)?;
     }
-    file.set_len(length)
+    file.set_len(length)?;
+    Ok(was.div_ceil(SECTOR))
 }
 
 impl<'a> OpenImage<'a> {
@@ -209,6 +216,13 @@ impl<'a> Place for Image<'a> {
         match self.file()? {
             Some(image) => image.write(first, run),
             None => Ok(()),
+        }
+    }
+
+    fn zeros_from(&mut self) -> Result<Option<u64>, Failure> {
+        match self.file()? {
+            Some(image) => Ok(image.added),
+            None => Ok(None),
         }
     }
 

@@ -1,8 +1,8 @@
 //! A place that holds sectors, as a file does.
-ghost use Rattle.std.specs.Prelude.{◌≡◌, ◌≤◌, ◌+◌, IsTrue, length, take, drop, OnOk, OnErr};
+ghost use Rattle.std.specs.Prelude.{◌≡◌, ◌≤◌, ◌+◌, IsTrue, length, take, drop, OnOk, OnErr, IfOk, IfSome};
 ghost use Rattle.sector_disk.specs.Lists.{put_sectors};
 ghost use Rattle.file_rig.specs.Place as specs;
-ghost use Rattle.file_rig.specs.Place.{SameOutside};
+ghost use Rattle.file_rig.specs.Place.{HoldsZerosFrom, SameOutside};
 
 use crate::failure::Failure;
 use hx_bytes::Sector;
@@ -25,6 +25,14 @@ pub trait Place {
         ensures unsure { IsTrue (state self.old).tells → OnErr result (SameOutside first (length run.now) (state self.old).held (state self.new).held) }
         ensures flushed { (state self.new).flushed ≡ (state self.old).flushed }
         ensures tells { (state self.new).tells ≡ (state self.old).tells };
+
+    /// From which sector on it holds zeros, if that is known.
+    fn zeros_from(&mut self) -> Result<Option<u64>, Failure>
+        ensures zeros { IsTrue (state self.old).tells → IfOk result (λ known. IfSome known (λ from. HoldsZerosFrom from (state self.old).held)) }
+        ensures same { state self.new ≡ state self.old }
+    {
+        Ok(None)
+    }
 
     /// Makes durable what was written.
     fn flush(&mut self) -> Result<(), Failure>

@@ -5,7 +5,7 @@ use crate::again::read_again;
 use crate::failure::{Act, Failure};
 use crate::limit::most_of;
 use crate::streams::place_in;
-use crate::{Place, Store, Waiting};
+use crate::{Place, Sparse, Store, Waiting};
 use hx_bytes::Sector;
 use std::alloc::{AllocError, Global};
 use std::cell::Cell;
@@ -263,5 +263,59 @@ fn the_systems_tables_are_read(rt: HostRuntime) -> Result<(), Fail> {
         Some(900)
     );
     assert_eq!(rt; place_in("", 900), None);
+    Ok(())
+}
+
+/// A place that counts what is written to it, and says from where on it holds zeros.
+#[derive(Drop)]
+struct Counting<'a> {
+    writes: &'a Cell<u64>,
+}
+
+impl<'a> Place for Counting<'a> {
+    ghost use Rattle.file_rig.specs.Untold.{untold_place};
+
+    ghost state = { λ _. untold_place };
+
+    fn read_run(&mut self, _first: u64, _into: &mut [Sector]) -> Result<(), Failure> {
+        Ok(())
+    }
+
+    fn write_run(&mut self, _first: u64, _run: &[Sector]) -> Result<(), Failure> {
+        self.writes.set(self.writes.get().saturating_add(1));
+        Ok(())
+    }
+
+    fn zeros_from(&mut self) -> Result<Option<u64>, Failure> {
+        Ok(Some(100))
+    }
+
+    fn flush(&mut self) -> Result<(), Failure> {
+        Ok(())
+    }
+}
+
+#[test]
+fn zeros_are_written_where_something_else_was(rt: HostRuntime) -> Result<(), Fail> {
+    let writes = Cell::new(0);
+    let mut place = Sparse::new(Counting { writes: &writes });
+    let zeros = [[0; 512]; 3];
+    let mut other = zeros;
+    other[2][511] = 1;
+    // Each run, and how many were written behind it.
+    for (first, is_zeros, wanted) in [
+        (120, true, 0),
+        (99, true, 1),
+        (120, false, 2),
+        (122, true, 3),
+        (123, true, 4),
+        (126, true, 4),
+        (4, false, 5),
+        (126, true, 5),
+    ] {
+        let run = if is_zeros { &zeros } else { &other };
+        assert!(rt; place.write_run(first, run).is_ok(), "sector {first}");
+        assert_eq!(rt; writes.get(), wanted, "sector {first}");
+    }
     Ok(())
 }

@@ -3,7 +3,7 @@
 
 use cli_words::{Work, read_words};
 use file_rig::{
-    Act, Failure, FileLimit, FileRig, Image, Limited, StdinSource, Store, Stream, Waiting,
+    Act, Failure, FileLimit, FileRig, Image, Limited, Sparse, StdinSource, Store, Stream, Waiting,
     take_closed, tell, tell_stream,
 };
 use hfsx_server::{Status, hfsx};
@@ -101,7 +101,7 @@ fn work(rt: &HostRuntime, words: &Words) -> u8 {
             return NO_IMAGE;
         }
     };
-    let store = match Store::new(rt.alloc(), image, sectors) {
+    let store = match Store::new(rt.alloc(), Sparse::new(image), sectors) {
         Ok(store) => store,
         Err(AllocError) => return NO_MEMORY,
     };
