@@ -20,7 +20,7 @@ pub path_from : (path : List (List ℕ)) → ((k : ℕ) → k < length path → 
 path_from [] each = tt
 path_from (name ∷ path) each = (each 0 (omega arith), path_from path (λ k low. each (suc k) (omega (arith, low))))
 
-pub path_each : (path : List (List ℕ)) → FitsPath path → (k : ℕ) → k < length path → IsName 255 (get_or path k [])
-path_each [] fits k low = absurd (omega (arith, low))
-path_each (name ∷ path) fits zero low = fits.0
-path_each (name ∷ path) fits (suc k) low = path_each path fits.1 k (omega (arith, low))
+pub path_each : (path : List (List ℕ)) → FitsPath path → (k : ℕ) → k < length path → (default : List ℕ) → IsName 255 (get_or path k default)
+path_each [] fits k low default = absurd (omega (arith, low))
+path_each (name ∷ path) fits zero low default = fits.0
+path_each (name ∷ path) fits (suc k) low default = path_each path fits.1 k (omega (arith, low)) default
