@@ -13,13 +13,19 @@ pub first_stored : (room : List ℕ) (at a b c : ℕ) → at + 3 ≤ length room
 first_stored room at a b c within =
     take-set-le (at + 1) (set (set room at a) (at + 1) b) (at + 2) c (omega arith) ∙ take-set-le (at + 1) (set room at a) (at + 1) b (omega arith) ∙ take_more_set room at a (omega arith)
 
+two_more : (at : ℕ) → at + 2 ≡ at + 1 + 1
+two_more at = omega arith
+
+three_more : (at : ℕ) → at + 3 ≡ at + 2 + 1
+three_more at = omega arith
+
 pub second_stored : (room : List ℕ) (at a b c : ℕ) → at + 3 ≤ length room → take (at + 2) (three room at a b c) ≡ (take at room ++ a ∷ []) ++ b ∷ []
 second_stored room at a b c within =
-    take-set-le (at + 2) (set (set room at a) (at + 1) b) (at + 2) c (omega arith) ∙ take_more_set (set room at a) (at + 1) b (omega (arith, length-set room at a)) ∙ ap (λ (l : List ℕ). l ++ b ∷ []) (take_more_set room at a (omega arith))
+    take-set-le (at + 2) (set (set room at a) (at + 1) b) (at + 2) c (omega arith) ∙ ap (λ (n : ℕ). take n (set (set room at a) (at + 1) b)) (two_more at) ∙ take_more_set (set room at a) (at + 1) b (omega (arith, length-set room at a)) ∙ ap (λ (l : List ℕ). l ++ b ∷ []) (take_more_set room at a (omega arith))
 
 pub third_stored : (room : List ℕ) (at a b c : ℕ) → at + 3 ≤ length room → take (at + 3) (three room at a b c) ≡ take at room ++ a ∷ b ∷ c ∷ []
 third_stored room at a b c within =
-    take_more_set (set (set room at a) (at + 1) b) (at + 2) c (omega (arith, length-set (set room at a) (at + 1) b, length-set room at a))
+    ap (λ (n : ℕ). take n (three room at a b c)) (three_more at) ∙ take_more_set (set (set room at a) (at + 1) b) (at + 2) c (omega (arith, length-set (set room at a) (at + 1) b, length-set room at a))
     ∙ ap (λ (l : List ℕ). l ++ c ∷ []) (sym (take-set-le (at + 2) (set (set room at a) (at + 1) b) (at + 2) c (omega arith)) ∙ second_stored room at a b c within)
     ∙ append_assoc (take at room ++ a ∷ []) (b ∷ []) (c ∷ [])
     ∙ append_assoc (take at room) (a ∷ []) (b ∷ c ∷ [])
