@@ -1,5 +1,5 @@
 //! A store over sectors in memory, streams that are interrupted or not ready, and tables of the system.
-ghost use Rattle.std.specs.Prelude.{◌≡◌, ◌<◌, IfOk};
+ghost use Rattle.std.specs.Prelude.{◌≡◌, ◌<◌, IfOk, IsFalse};
 
 use crate::again::read_again;
 use crate::failure::{Act, Failure};
@@ -295,6 +295,22 @@ impl<'a> Place for Counting<'a> {
     }
 }
 
+// Writes a run, behind which so many were written to the place.
+fn wrote(
+    rt: &impl Abort,
+    place: &mut Sparse<Counting<'_>>,
+    writes: &Cell<u64>,
+    first: u64,
+    run: &[Sector],
+    wanted: u64,
+)
+    requires { IsFalse place.old.tells }
+    ensures { IsFalse place.new.tells }
+{
+    assert!(rt; place.write_run(first, run).is_ok(), "sector {first}");
+    assert_eq!(rt; writes.get(), wanted, "sector {first}");
+}
+
 #[test]
 fn zeros_are_written_where_something_else_was(rt: HostRuntime) -> Result<(), Fail> {
     let writes = Cell::new(0);
@@ -302,20 +318,13 @@ fn zeros_are_written_where_something_else_was(rt: HostRuntime) -> Result<(), Fai
     let zeros = [[0; 512]; 3];
     let mut other = zeros;
     other[2][511] = 1;
-    // Each run, and how many were written behind it.
-    for (first, is_zeros, wanted) in [
-        (120, true, 0),
-        (99, true, 1),
-        (120, false, 2),
-        (122, true, 3),
-        (123, true, 4),
-        (126, true, 4),
-        (4, false, 5),
-        (126, true, 5),
-    ] {
-        let run = if is_zeros { &zeros } else { &other };
-        assert!(rt; place.write_run(first, run).is_ok(), "sector {first}");
-        assert_eq!(rt; writes.get(), wanted, "sector {first}");
-    }
+    wrote(&rt, &mut place, &writes, 120, &zeros, 0);
+    wrote(&rt, &mut place, &writes, 99, &zeros, 1);
+    wrote(&rt, &mut place, &writes, 120, &other, 2);
+    wrote(&rt, &mut place, &writes, 122, &zeros, 3);
+    wrote(&rt, &mut place, &writes, 123, &zeros, 4);
+    wrote(&rt, &mut place, &writes, 126, &zeros, 4);
+    wrote(&rt, &mut place, &writes, 4, &other, 5);
+    wrote(&rt, &mut place, &writes, 126, &zeros, 5);
     Ok(())
 }
