@@ -1,9 +1,12 @@
 """Commands that end when the one that began them does, however that is: by Ctrl-C, by a signal, or killed."""
 
 import os
+import re
+import shutil
 import signal
 import subprocess
 import sys
+import tempfile
 import time
 
 
@@ -33,6 +36,16 @@ class Commands:
     def __exit__(self, *_):
         end_all()
         os.close(self.held)
+
+
+def room():
+    """Returns a new temporary folder, to be used by `with`. It removes those of processes that were killed."""
+    at = tempfile.gettempdir()
+    for name in os.listdir(at):
+        of = re.match(r"hfsx-room-(\d+)-", name)
+        if of and not os.path.exists(f"/proc/{of[1]}"):
+            shutil.rmtree(f"{at}/{name}", ignore_errors=True)
+    return tempfile.TemporaryDirectory(prefix=f"hfsx-room-{os.getpid()}-")
 
 
 def parents():

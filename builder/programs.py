@@ -3,8 +3,8 @@
 import os
 import shutil
 import sys
-import tempfile
 
+from . import processes
 from .proving import Prover
 from .sources import Refused, kit, sum_of
 
@@ -63,7 +63,7 @@ def build(sources, programs):
     built = {program: sources.crate_of(program) for program in wanted}
     crates = sources.needed(built.values())
     print(f"{', '.join(wanted)}: proving {len(crates)} crates; this takes a while", flush=True)
-    with tempfile.TemporaryDirectory(prefix="hfsx-build-") as room:
+    with processes.room() as room:
         is_proved = Prover(sources, crates, room).prove(built.values())
         for program, text in wanted.items():
             found = f"{room}/{built[program]}/crates/{built[program]}/out/{built[program]}"
@@ -88,5 +88,5 @@ def prove_all(sources):
     """Proves every crate and its tests, and tries its must-fail edits, ahead of the gate, which then takes what the kit kept of that.
     Returns the exit status."""
     crates = sources.needed(sources.uses)
-    with tempfile.TemporaryDirectory(prefix="hfsx-build-") as room:
+    with processes.room() as room:
         return 0 if Prover(sources, crates, room).prove(edits=True) else UNPROVED

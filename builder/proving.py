@@ -2,7 +2,8 @@
 
 What such a run proves it proves from nothing, and the kit keeps it by the sums of all that it read, so that every later run of the same
 files takes it, the gate's too. A crate on a long way begins as soon as those below it are proved, and gets as many processes as the kit
-allows; the others get one each, and one for their tests, and yield the processors to it. Where the kit can keep nothing, one run proves them all.
+allows. The others yield the processors to it: those that take long get several processes too, where there is plenty of memory, and the
+rest get one each, and one for their tests. Where the kit can keep nothing, one run proves them all.
 """
 
 import os
@@ -17,8 +18,9 @@ from .processes import Commands
 
 # What a line of the kit's says of a crate.
 PROVED, KEPT, TESTED = "proved", "kept", "tested"
-# Memory for a process, in KiB, and by how much what is on no long way yields.
-EACH, YIELDS = 4_000_000, 10
+# Memory for a process, and the least with which a crate on no long way gets several, in KiB; the seconds from which on it does, and by
+# how much it yields.
+EACH, PLENTY, TAKES_LONG, YIELDS = 4_000_000, 12_000_000, 200, 10
 # What is shown as it comes, and what a failed check says of functions that are proved.
 NOTES = re.compile(r"rt: .*(waiting for|once more|the disk )")
 DULL = re.compile(r"fn \S+: proved$|statements \S+: modules|logic \S+: libraries|rt: \S+ is kept")
@@ -30,9 +32,13 @@ def lanes():
     asked = os.environ.get("RT_JOBS", "")
     if asked.isdigit() and int(asked):
         return int(asked)
+    return max(1, min(len(os.sched_getaffinity(0)), free() // EACH))
+
+
+def free():
+    """Returns how much memory is available, in KiB."""
     with open("/proc/meminfo", encoding="utf-8") as file:
-        free = next((int(it.split()[1]) for it in file if it.startswith("MemAvailable:")), 0)
-    return max(1, min(len(os.sched_getaffinity(0)), free // EACH))
+        return next((int(it.split()[1]) for it in file if it.startswith("MemAvailable:")), 0)
 
 
 class NothingKept(Exception):
@@ -88,8 +94,8 @@ class Prover:
 
     def __init__(self, sources, crates, place):
         self.sources, self.crates, self.place = sources, crates, place
-        times = schedule.seconds(sources, crates)
-        self.behind, through = schedule.ways(sources, crates, times)
+        self.times = schedule.seconds(sources, crates)
+        self.behind, through = schedule.ways(sources, crates, self.times)
         self.long = schedule.on_a_long_way(through)
         self.left = sorted(crates, key=lambda it: -self.behind[it])
         # The seconds that each proved crate took, and the runs that are under way.
@@ -127,14 +133,23 @@ class Prover:
             if ready and len(self.running) < self.lanes and not self.failed:
                 crate = ready[0]
                 self.left.remove(crate)
-                is_long = "RT_JOBS" not in os.environ and (crate in self.long or not (self.left or self.running))
                 self.tell(f"{crate}: being proved")
-                whole = self.sources.needed([crate])
-                self.begin(whole, f"{self.place}/{crate}", commands, {} if is_long else {"RT_JOBS": "2"}, 0 if is_long else YIELDS)
+                self.begin(self.sources.needed([crate]), f"{self.place}/{crate}", commands, *self.share(crate))
             elif self.running:
                 self.take(built)
             else:
                 break
+
+    def share(self, crate):
+        """Returns what the run of a crate is told of processes, and by how much it yields. Told nothing, the kit takes up to four."""
+        if "RT_JOBS" in os.environ:
+            return {"RT_JOBS": "1"}, 0
+        if crate in self.long or not (self.left or self.running):
+            return {}, 0
+        if self.times[crate] >= TAKES_LONG and free() >= PLENTY:
+            return {}, YIELDS
+        # (one for its proof and one for its tests)
+        return {"RT_JOBS": "2"}, YIELDS
 
     def begin(self, crates, room, commands, environment, niceness=0, is_whole=False):
         """Starts a run over a copy of these crates."""

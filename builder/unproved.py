@@ -10,10 +10,9 @@ import shutil
 import signal
 import subprocess
 import sys
-import tempfile
 import time
 
-from .processes import Commands
+from . import processes
 from .sources import Refused
 
 # Work without an end, or nothing: then the program has to be taken in the moment in which it stands.
@@ -55,7 +54,7 @@ def take(room, to):
 def compile(sources, program):
     """Leaves the program in bin/, compiled from the sources as they stand, and returns how many seconds that took."""
     crate, start = sources.crate_of(program), time.monotonic()
-    with tempfile.TemporaryDirectory(prefix="hfsx-unproved-") as room, Commands() as commands:
+    with processes.room() as room, processes.Commands() as commands:
         sources.copy(sources.needed([crate]), f"{room}/sources")
         os.mkdir(f"{room}/tmp")
         with open(f"{room}/said", "w+", encoding="utf-8", errors="replace") as said:
