@@ -136,5 +136,5 @@ def check(sources, path):
     for it in flaws:
         print(f"{path}: {it}")
     if not flaws:
-        print(f"{path}: {', '.join(names)} were proved and built from these sources, with {identity.strip()}")
+        print(f"{path}: proved and built from these sources, with {identity.strip()}: {', '.join(names)}")
     return int(bool(flaws))
