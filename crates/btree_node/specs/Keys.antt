@@ -15,6 +15,7 @@ units (high ∷ low ∷ rest) = (high * 256 + low) ∷ units rest
 abbrev pub catalog_parent : List ℕ → ℕ
 catalog_parent key = big_at 4 key 2
 
+-- the name in a catalog key, as UTF-16 units
 abbrev pub catalog_units : List ℕ → List ℕ
 catalog_units key = units (drop 8 key)
 
@@ -33,9 +34,11 @@ catalog_cmp = then_cmp (on catalog_parent nat_cmp) (on catalog_units (slice_cmp 
 abbrev pub extent_fork : List ℕ → ℕ
 extent_fork key = slice_index key 2
 
+-- the file id in a key of the extents overflow file
 abbrev pub extent_file : List ℕ → ℕ
 extent_file key = big_at 4 key 4
 
+-- the number of the fork's first block in a key of the extents overflow file
 abbrev pub extent_start : List ℕ → ℕ
 extent_start key = big_at 4 key 8
 
@@ -57,9 +60,11 @@ extent_plain key = slice_set key 3 0
 abbrev pub attr_file : List ℕ → ℕ
 attr_file key = big_at 4 key 4
 
+-- the number of the fork's first block in a key of the attributes file
 abbrev pub attr_start : List ℕ → ℕ
 attr_start key = big_at 4 key 8
 
+-- the name in a key of the attributes file, as UTF-16 units
 abbrev pub attr_units : List ℕ → List ℕ
 attr_units key = units (drop 14 key)
 

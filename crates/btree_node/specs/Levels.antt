@@ -22,6 +22,7 @@ key_of item = take (big_at 2 item 0 + 2) item
 unfoldable pub value_of : List ℕ → List ℕ
 value_of item = drop (big_at 2 item 0 + 2) item
 
+-- a record as its key and its value
 abbrev pub pair_of : List ℕ → Pair
 pair_of item = (key_of item, value_of item)
 

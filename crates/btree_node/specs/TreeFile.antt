@@ -120,12 +120,15 @@ pub record TreeForm : Type 0 where
   pub max_key : ℕ
   pub least_node : ℕ
 
+-- what the header record of the extents overflow file must say (TN1150, "Extents Overflow File")
 abbrev pub extents_form : TreeForm
 extents_form = record { attributes = 2; max_key = 10; least_node = 512 }
 
+-- what the header record of the catalog file must say (TN1150, "Catalog File")
 abbrev pub catalog_form : TreeForm
 catalog_form = record { attributes = 6; max_key = 516; least_node = 4096 }
 
+-- what the header record of the attributes file must say (TN1150, "Attributes File")
 abbrev pub attributes_form : TreeForm
 attributes_form = record { attributes = 6; max_key = 266; least_node = 4096 }
 

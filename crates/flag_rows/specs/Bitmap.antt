@@ -11,6 +11,7 @@ nowhere = record { start = 0; count = 0 }
 abbrev pub is_marked : ℕ → Extent → ℕ → Bool
 is_marked below also number = nat_lt number below || has also number
 
+-- a flag as a number: 1 where it is set
 abbrev pub bit : Bool → ℕ
 bit is_set = if is_set then 1 else 0
 

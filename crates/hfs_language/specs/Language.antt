@@ -48,6 +48,7 @@ abbrev pub within_moment : Result ℕ Refusal → Result ℕ Refusal
 within_moment (Ok number) = if nat_lt number (2 ^ 32) then Ok number else Err BadCommand
 within_moment (Err why) = Err why
 
+-- whether a byte is a digit from 0 to 7
 abbrev pub is_octal : ℕ → Bool
 is_octal c = nat_le 48 c && nat_le c 55
 
@@ -65,6 +66,7 @@ refusal_of fault.BadName = BadName
 refusal_of fault.NameTooLong = NameTooLong
 refusal_of fault.Memory = BadName
 
+-- a name, or the refusal for what is wrong with it
 abbrev pub named : Result (List ℕ) NameFault → Result (List ℕ) Refusal
 named (Ok name) = Ok name
 named (Err why) = Err (refusal_of why)
@@ -77,6 +79,7 @@ name_of text = named (component (chars text))
 abbrev pub within_attribute : List ℕ → Result (List ℕ) Refusal
 within_attribute name = if nat_lt 127 (length name) then Err NameTooLong else Ok name
 
+-- a name that isn't longer than an attribute's name may be
 abbrev pub limited : Result (List ℕ) Refusal → Result (List ℕ) Refusal
 limited (Ok name) = within_attribute name
 limited (Err why) = Err why
@@ -105,11 +108,13 @@ path_of (c ∷ text) = if c == 47 then names_of (components text) else Err BadCo
 
 -- ---- commands
 
+-- the command of a line of one word
 abbrev pub one_word : List ℕ → Result Command Refusal
 one_word verb = if bytes_eq verb (codes "df") then Ok Df
     else if bytes_eq verb (codes "sync") then Ok Sync
     else Err BadCommand
 
+-- the command of a line of two words
 abbrev pub two_words : List ℕ → List ℕ → Result Command Refusal
 two_words verb word = if bytes_eq verb (codes "mkdir") then after Mkdir (path_of word)
     else if bytes_eq verb (codes "create") then after Create (path_of word)
@@ -121,6 +126,7 @@ two_words verb word = if bytes_eq verb (codes "mkdir") then after Mkdir (path_of
     else if bytes_eq verb (codes "at") then after At (within_moment (number_of word))
     else Err BadCommand
 
+-- the command of a line of three words
 abbrev pub three_words : List ℕ → List ℕ → List ℕ → Result Command Refusal
 three_words verb one two = if bytes_eq verb (codes "mv") then after (λ p. Mv p.0 p.1) (both (path_of one) (path_of two))
     else if bytes_eq verb (codes "ln") then after (λ p. Ln p.0 p.1) (both (path_of one) (path_of two))
@@ -130,6 +136,7 @@ three_words verb one two = if bytes_eq verb (codes "mv") then after (λ p. Mv p.
     else if bytes_eq verb (codes "delattr") then after (λ p. DelAttr p.0 p.1) (both (path_of one) (attribute_of two))
     else Err BadCommand
 
+-- the command of a line of four words
 abbrev pub four_words : List ℕ → List ℕ → List ℕ → List ℕ → Result Command Refusal
 four_words verb one two three = if bytes_eq verb (codes "write") then after (λ p. Write p.0 p.1.0 p.1.1) (both (path_of one) (both (number_of two) (value_of three)))
     else if bytes_eq verb (codes "read") then after (λ p. Read p.0 p.1.0 p.1.1) (both (path_of one) (both (number_of two) (number_of three)))

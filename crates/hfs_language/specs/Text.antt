@@ -44,6 +44,7 @@ name_text name = encode_utf8_all (component_text name)
 abbrev pub listed_text : ListedName → List ℕ
 listed_text listed = 32 ∷ name_text listed.name ++ (if listed.folder then 47 ∷ [] else [])
 
+-- how a reply to `stat` names a folder and a file
 abbrev pub kind_text : Facts → List ℕ
 kind_text facts = if facts.folder then codes " folder" else codes " file"
 
@@ -51,12 +52,15 @@ kind_text facts = if facts.folder then codes " folder" else codes " file"
 abbrev pub size_fields : Facts → List ℕ
 size_fields facts = if facts.folder then field facts.size else field facts.size ++ field facts.links
 
+-- what a reply to `stat` says behind `ok`
 abbrev pub facts_text : Facts → List ℕ
 facts_text facts = kind_text facts ++ field facts.id ++ size_fields facts ++ 32 ∷ mode_text facts.mode ++ field facts.created ++ field facts.changed ++ field facts.attribute
 
+-- what a reply to `df` says of a tree: its depth, its nodes, and those that are unused
 abbrev pub tree_text : TreeGauge → List ℕ
 tree_text tree = field tree.depth ++ field tree.nodes ++ field tree.unused
 
+-- what a reply to `df` says behind `ok`
 abbrev pub gauge_text : Gauge → List ℕ
 gauge_text gauge = field gauge.block ++ field gauge.total ++ field gauge.free ++ field gauge.longest ++ field gauge.capacity ++ flat_map tree_text gauge.trees
 

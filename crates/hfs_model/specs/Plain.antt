@@ -11,6 +11,7 @@ use Rattle.hfs_model.specs.declared.plain.PlainTree.{PlainTree}
 
 -- ---- the map of names
 
+-- whether an entry has this name in this folder
 abbrev pub is_at : ℕ → List ℕ → PlainEntry → Bool
 is_at parent name entry = (entry.parent == parent) && bytes_eq entry.name name
 
@@ -30,26 +31,33 @@ entries_in tree parent = kept (λ entry. entry.parent == parent) tree.entries
 abbrev pub names_of : PlainTree → ℕ → ℕ
 names_of tree id = count_by (λ entry. entry.id == id) tree.entries
 
+-- the tree with one entry more, at its place in the order
 abbrev pub with_entry : PlainEntry → PlainTree → PlainTree
 with_entry entry tree = record tree { entries = put_before entry_before entry tree.entries }
 
+-- the tree without the entry of this name in this folder
 abbrev pub without_entry : ℕ → List ℕ → PlainTree → PlainTree
 without_entry parent name tree = record tree { entries = kept (λ entry. not (is_at parent name entry)) tree.entries }
 
 -- ---- folders and files
 
+-- whether a folder or file has this CNID
 abbrev pub is_node : ℕ → PlainNode → Bool
 is_node id node = node.id == id
 
+-- the folder or file with this CNID
 abbrev pub node_at : PlainTree → ℕ → Option PlainNode
 node_at tree id = find (is_node id) tree.nodes
 
+-- whether one folder or file stands before another: the lower CNID first
 abbrev pub node_before : PlainNode → PlainNode → Bool
 node_before one other = nat_lt one.id other.id
 
+-- the tree with one folder or file more
 abbrev pub with_node : PlainNode → PlainTree → PlainTree
 with_node node tree = record tree { nodes = put_before node_before node tree.nodes }
 
+-- the tree without the folder or file with this CNID
 abbrev pub without_node : ℕ → PlainTree → PlainTree
 without_node id tree = record tree { nodes = kept (λ node. not (is_node id node)) tree.nodes }
 
@@ -59,18 +67,23 @@ with_changed id change tree = record tree { nodes = map (λ node. if is_node id 
 
 -- ---- attributes
 
+-- whether an attribute has this name
 abbrev pub is_named : List ℕ → PlainAttribute → Bool
 is_named name attribute = bytes_eq attribute.name name
 
+-- whether one attribute stands before another, by their names' units
 abbrev pub attribute_before : PlainAttribute → PlainAttribute → Bool
 attribute_before one other = is_lt (slice_cmp nat_cmp one.name other.name)
 
+-- the attribute of this name
 abbrev pub attribute_at : PlainNode → List ℕ → Option PlainAttribute
 attribute_at node name = find (is_named name) node.attributes
 
+-- a folder or file whose attribute of this name has this value, whether it had one or not
 abbrev pub with_attribute : List ℕ → List ℕ → PlainNode → PlainNode
 with_attribute name value node = record node { attributes = with_item (is_named name) attribute_before (record { name = name; value = value }) node.attributes }
 
+-- a folder or file without the attribute of this name
 abbrev pub without_attribute : List ℕ → PlainNode → PlainNode
 without_attribute name node = record node { attributes = kept (λ attribute. not (is_named name attribute)) node.attributes }
 

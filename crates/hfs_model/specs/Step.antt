@@ -20,6 +20,7 @@ use Rattle.hfs_model.specs.Plain.{entry_at, entries_in, names_of, node_at, attri
 
 -- ---- limits
 
+-- the most bytes of a file
 abbrev pub most_size : ℕ
 most_size = 2 ^ 40
 
@@ -27,20 +28,25 @@ most_size = 2 ^ 40
 abbrev pub most_bytes : ℕ
 most_bytes = 65536
 
+-- the most bytes by which one line makes a file longer
 abbrev pub most_growth : ℕ
 most_growth = 1048576
 
+-- the most names of a file
 abbrev pub most_links : ℕ
 most_links = 32767
 
+-- the most bytes of an attribute's value
 abbrev pub most_attribute : ℕ
 most_attribute = 1700
 
 -- ---- names that the volume keeps for itself
 
+-- the name of the file that is the journal
 abbrev pub journal_name : List ℕ
 journal_name = codes ".journal"
 
+-- the name of the file that is the journal's info block
 abbrev pub journal_info_name : List ℕ
 journal_info_name = codes ".journal_info_block"
 
@@ -52,6 +58,7 @@ private_name = 0 ∷ 0 ∷ 0 ∷ 0 ∷ codes "HFS+ Private Data"
 abbrev pub is_private_name : List ℕ → Bool
 is_private_name name = bytes_eq name journal_name || bytes_eq name journal_info_name || bytes_eq name private_name
 
+-- whether a path leads into what users don't see: the journal's files and the folder of linked files
 abbrev pub is_private_path : List (List ℕ) → Bool
 is_private_path [] = false
 is_private_path (name ∷ path) = is_private_name name
@@ -78,6 +85,7 @@ paths_of (command.At moment) = []
 paths_of command.Df = []
 paths_of command.Sync = []
 
+-- whether a command names such a path
 abbrev pub is_private : Command → Bool
 is_private asked = list_any is_private_path (paths_of asked)
 
@@ -118,6 +126,7 @@ abbrev pub walk : PlainTree → PlainEntry → List (List ℕ) → Result PlainE
 walk tree at [] = Ok at
 walk tree at (name ∷ path) = then_ (child tree at name) (λ next. walk tree next path)
 
+-- the entry to which a path leads from the root, or why there is none
 abbrev pub reached : PlainTree → List (List ℕ) → Result PlainEntry Refusal
 reached tree path = walk tree root_entry path
 
@@ -133,11 +142,13 @@ front [] = []
 front (name ∷ []) = []
 front (name ∷ next ∷ path) = name ∷ front (next ∷ path)
 
+-- the last name of a path
 abbrev pub last_name : List (List ℕ) → List ℕ
 last_name [] = []
 last_name (name ∷ []) = name
 last_name (name ∷ next ∷ path) = last_name (next ∷ path)
 
+-- a name in a folder, with the entry that has it; a file holds no names
 abbrev pub place_in : PlainTree → List ℕ → PlainEntry → Result Place Refusal
 place_in tree name at = if at.folder then Ok (record { folder = at.id; name = name; found = entry_at tree at.id name }) else Err refusal.NotFolder
 
@@ -145,6 +156,7 @@ place_in tree name at = if at.folder then Ok (record { folder = at.id; name = na
 abbrev pub place : PlainTree → List (List ℕ) → Result Place Refusal
 place tree path = then_ (reached tree (front path)) (place_in tree (last_name path))
 
+-- whether a path is the root
 abbrev pub is_root : List (List ℕ) → Bool
 is_root [] = true
 is_root (name ∷ path) = false
@@ -161,12 +173,15 @@ is_below (name ∷ path) (other ∷ top) = bytes_eq name other && is_below path 
 abbrev pub new_place : PlainTree → List (List ℕ) → Result Place Refusal
 new_place tree path = then_ (place tree path) (λ at. unless (is_some at.found) refusal.Exists at)
 
+-- the place that `mkdir` and `create` fill: a new name in a folder that is there
 abbrev pub to_make : PlainTree → List (List ℕ) → Result Place Refusal
 to_make tree path = then_ (unless (is_root path) refusal.Root path) (new_place tree)
 
+-- the entry that `rm` removes: a file
 abbrev pub to_rm : PlainTree → List (List ℕ) → Result PlainEntry Refusal
 to_rm tree path = then_ (unless (is_root path) refusal.Root path) (λ named. then_ (reached tree named) (λ at. unless at.folder refusal.IsFolder at))
 
+-- the entry that `rmdir` removes: an empty folder
 abbrev pub to_rmdir : PlainTree → List (List ℕ) → Result PlainEntry Refusal
 to_rmdir tree path =
     then_ (unless (is_root path) refusal.Root path) (λ named. then_ (reached tree named) (λ at. then_ (unless (not at.folder) refusal.NotFolder at) (λ folder. unless (not (length (entries_in tree folder.id) == 0)) refusal.NotEmpty folder)))
@@ -176,9 +191,11 @@ abbrev pub to_pair : PlainTree → List (List ℕ) → List (List ℕ) → Resul
 to_pair tree from to =
     then_ (unless (is_root from || is_root to) refusal.Root from) (λ named. then_ (reached tree named) (λ at. then_ (place tree to) (λ goal. Ok (at, goal))))
 
+-- the entry that `mv` moves and its new place, which is free and isn't inside the entry itself
 abbrev pub to_mv : PlainTree → List (List ℕ) → List (List ℕ) → Result (PlainEntry × Place) Refusal
 to_mv tree from to = then_ (to_pair tree from to) (λ pair. then_ (unless (is_some pair.1.found) refusal.Exists pair) (unless (is_below to from) refusal.Inside))
 
+-- the file that `ln` names again, and the new place, which is free
 abbrev pub to_ln : PlainTree → List (List ℕ) → List (List ℕ) → Result (PlainEntry × Place) Refusal
 to_ln tree from to =
     then_ (to_pair tree from to) (λ pair. then_ (unless pair.0.folder refusal.IsFolder pair) (λ file. then_ (unless (is_some file.1.found) refusal.Exists file) (unless (nat_le most_links (names_of tree file.0.id)) refusal.TooManyLinks)))
@@ -191,9 +208,11 @@ to_link tree from to = then_ (to_ln tree from to) (λ pair. then_ (ok_or (node_a
 abbrev pub to_node : PlainTree → List (List ℕ) → Result PlainNode Refusal
 to_node tree path = then_ (reached tree path) (λ at. ok_or (node_at tree at.id) refusal.NotFound)
 
+-- the file to which a path leads
 abbrev pub to_file : PlainTree → List (List ℕ) → Result PlainNode Refusal
 to_file tree path = then_ (to_node tree path) (λ node. unless node.folder refusal.IsFolder node)
 
+-- the folder to which a path leads
 abbrev pub to_folder : PlainTree → List (List ℕ) → Result PlainNode Refusal
 to_folder tree path = then_ (to_node tree path) (λ node. unless (not node.folder) refusal.NotFolder node)
 
@@ -205,16 +224,20 @@ to_size size file = unless (nat_lt (length file.bytes + most_growth) size) refus
 abbrev pub size_written : ℕ → ℕ → ℕ → ℕ
 size_written size from long = if long == 0 then size else if nat_lt size (from + long) then from + long else size
 
+-- the file into which `write` puts a value of this length
 abbrev pub to_write : PlainTree → List (List ℕ) → ℕ → List ℕ → Result PlainNode Refusal
 to_write tree path from value =
     then_ (to_file tree path) (λ file. then_ (unless (nat_lt most_size (from + length value) || nat_lt most_bytes (length value)) refusal.TooLarge file) (to_size (size_written (length file.bytes) from (length value))))
 
+-- the file of which `read` gives so many bytes
 abbrev pub to_read : PlainTree → List (List ℕ) → ℕ → Result PlainNode Refusal
 to_read tree path long = then_ (to_file tree path) (λ file. unless (nat_lt most_bytes long) refusal.TooLarge file)
 
+-- the file whose size `trunc` sets
 abbrev pub to_trunc : PlainTree → List (List ℕ) → ℕ → Result PlainNode Refusal
 to_trunc tree path size = then_ (to_file tree path) (λ file. then_ (unless (nat_lt most_size size) refusal.TooLarge file) (to_size size))
 
+-- the folder or file whose attribute `setattr` sets
 abbrev pub to_set : PlainTree → List (List ℕ) → List ℕ → Result PlainNode Refusal
 to_set tree path value = then_ (to_node tree path) (λ node. unless (nat_lt most_attribute (length value)) refusal.AttributeTooLarge node)
 
@@ -249,12 +272,15 @@ made folder at tree =
 abbrev pub unnamed : ℕ → PlainTree → PlainTree
 unnamed id tree = if names_of tree id == 0 then with_private (without_node id tree) else marked id tree
 
+-- the tree behind an `rm`: the name is gone, and with its last name the file; the folder is dated
 abbrev pub removed : PlainEntry → PlainTree → PlainTree
 removed entry tree = touched entry.parent (unnamed entry.id (without_entry entry.parent entry.name tree))
 
+-- the tree behind an `rmdir`; the folder above is dated
 abbrev pub removed_folder : PlainEntry → PlainTree → PlainTree
 removed_folder entry tree = touched entry.parent (without_node entry.id (without_entry entry.parent entry.name tree))
 
+-- the tree behind a `mv`: both folders are dated, and what was moved is marked
 abbrev pub moved : PlainEntry → Place → PlainTree → PlainTree
 moved entry to tree =
     marked entry.id (touched to.folder (touched entry.parent (with_entry (record entry { parent = to.folder; name = to.name }) (without_entry entry.parent entry.name tree))))
@@ -263,6 +289,7 @@ moved entry to tree =
 abbrev pub link_ids : PlainNode → ℕ
 link_ids file = if file.linked then 1 else 2
 
+-- the tree behind an `ln`: the file has one name more, and the CNIDs that the links take are drawn
 abbrev pub linked : PlainNode → Place → PlainTree → PlainTree
 linked file to tree =
     touched to.folder (marked file.id (with_changed file.id (λ node. record node { linked = true }) (with_entry (record { parent = to.folder; name = to.name; folder = false; id = file.id }) (drawn (link_ids file) (with_private tree)))))
@@ -275,10 +302,12 @@ padded size bytes = bytes ++ replicate (size - length bytes) 0
 abbrev pub with_bytes : ℕ → List ℕ → PlainTree → PlainTree
 with_bytes id bytes tree = with_changed id (λ node. record node { bytes = bytes; changed = tree.moment; attribute = tree.moment }) tree
 
+-- the tree behind a `write`: the value stands in the file from a place on, with zeros in a gap before it; no value changes nothing
 abbrev pub written : PlainNode → ℕ → List ℕ → PlainTree → PlainTree
 written file from [] tree = tree
 written file from (byte ∷ value) tree = with_bytes file.id (put_at (padded from file.bytes) from (byte ∷ value)) tree
 
+-- the tree behind a `trunc`: the file's bytes are cut, or zeros are added
 abbrev pub resized : PlainNode → ℕ → PlainTree → PlainTree
 resized file size tree = with_bytes file.id (take size (padded size file.bytes)) tree
 
@@ -293,9 +322,11 @@ abbrev pub on : {X : Type 0} → PlainTree → Result X Refusal → (X → Step)
 on tree (Ok x) next = next x
 on tree (Err why) next = (reply.No why, tree)
 
+-- an entry as `ls` shows it
 abbrev pub listed : PlainEntry → ListedName
 listed entry = record { name = entry.name; folder = entry.folder }
 
+-- an attribute as `lsattr` shows it
 abbrev pub listed_attribute : PlainAttribute → ListedName
 listed_attribute attribute = record { name = attribute.name; folder = false }
 
@@ -343,6 +374,7 @@ step_line tree (Err why) = (reply.No why, tree)
 
 -- ---- what a step says
 
+-- whether a reply is a refusal
 abbrev pub is_refusal : Reply → Bool
 is_refusal (reply.No why) = true
 is_refusal _ = false

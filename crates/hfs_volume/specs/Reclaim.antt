@@ -22,6 +22,7 @@ use Rattle.hfs_volume.specs.Weight.{free_blocks, room_with, needs_for, edits, cu
 
 -- ---- forks of a volume, by their file and kind
 
+-- whether a fork is this one
 abbrev pub is_fork : ℕ → ℕ → Owned → Bool
 is_fork id kind owned = (owned.id == id) && (owned.kind == kind)
 
@@ -61,9 +62,11 @@ abbrev pub least : List Placed → Option ℕ
 least [] = None
 least (placed ∷ rest) = Some (least_from (id_of placed) rest)
 
+-- the first attribute of a folder or file
 abbrev pub first_attribute : List Attribute → ℕ → Option Attribute
 first_attribute attributes id = find (λ attribute. attribute.id == id) attributes
 
+-- whether there is a block among these
 abbrev pub has_blocks : List ℕ → Bool
 has_blocks blocks = not (length blocks == 0)
 
@@ -109,6 +112,7 @@ reclaim_cost_with capacity free volume (CutOrphan id kind) = cut_cost (room_with
 reclaim_cost_with capacity free volume (DropAttribute id name) = cost_of (needs_for free volume (edits 0 0 1 1) None) (room_with capacity free volume)
 reclaim_cost_with capacity free volume (DropOrphan id) = cost_of (needs_for free volume (edits 0 2 0 1) None) (room_with capacity free volume)
 
+-- what a step of reclaiming costs, of all free blocks
 abbrev pub reclaim_cost : ℕ → VolumeState → Reclaim → Cost
 reclaim_cost capacity volume step = reclaim_cost_with capacity (free_blocks volume) volume step
 
@@ -130,6 +134,7 @@ pub record GrowsTrees (grow : List ℕ) (old new : VolumeState) : Type 0 where
   pub catalog : GrowsTree catalog_id (slice_index grow 1) old new
   pub attributes : GrowsTree attributes_id (slice_index grow 2) old new
 
+-- a fork is that of one of the three trees
 abbrev pub IsTreeFork : ℕ → Type 0
 IsTreeFork id = (id ≡ extents_id) ⊎ (id ≡ catalog_id) ⊎ (id ≡ attributes_id)
 
@@ -149,6 +154,7 @@ pub record CutsAlone (id kind keep : ℕ) (old new : VolumeState) : Type 0 where
 abbrev pub SameFiles : VolumeState → VolumeState → Type 0
 SameFiles old new = (id kind : ℕ) → ¬ IsTreeFork id → blocks_at new id kind ≡ blocks_at old id kind
 
+-- whether an attribute is the one of this name of this folder or file
 abbrev pub is_attribute : ℕ → List ℕ → Attribute → Bool
 is_attribute id name attribute = (attribute.id == id) && bytes_eq attribute.name name
 

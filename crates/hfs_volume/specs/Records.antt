@@ -26,6 +26,7 @@ pub record Placed : Type 0 where
   pub name : List ℕ
   pub value : CatRecord
 
+-- a record of the catalog with the folder and the name of its key
 unfoldable pub placed_of : Pair → Placed
 placed_of pair = record { parent = catalog_parent pair.0; name = catalog_units pair.0; value = catalog_of pair.1 }
 
@@ -37,20 +38,24 @@ placed_in pairs = map placed_of pairs
 abbrev pub placed_before : Placed → Placed → Bool
 placed_before one other = is_lt (ordering_then (nat_cmp one.parent other.parent) (slice_cmp nat_cmp one.name other.name))
 
+-- whether a name has no unit
 abbrev pub is_empty : List ℕ → Bool
 is_empty [] = true
 is_empty (unit ∷ units) = false
 
+-- whether a record is a folder's
 abbrev pub is_folder : CatRecord → Bool
 is_folder (Folder folder) = true
 is_folder (File file) = false
 is_folder (Thread thread) = false
 
+-- whether a record is a file's
 abbrev pub is_file : CatRecord → Bool
 is_file (Folder folder) = false
 is_file (File file) = true
 is_file (Thread thread) = false
 
+-- whether a record is a thread: it says where a folder or file with a CNID stands
 abbrev pub is_thread : CatRecord → Bool
 is_thread (Folder folder) = false
 is_thread (File file) = false
@@ -62,6 +67,7 @@ id_in (Folder folder) = folder.fields.id
 id_in (File file) = file.fields.id
 id_in (Thread thread) = 0
 
+-- the CNID in a record
 abbrev pub id_of : Placed → ℕ
 id_of placed = id_in placed.value
 
@@ -75,6 +81,7 @@ valence_in (Thread thread) = 0
 abbrev pub entries_of : List Placed → List Placed
 entries_of records = kept (λ placed. not (is_empty placed.name)) records
 
+-- whether a record has this name in this folder
 abbrev pub is_placed_at : ℕ → List ℕ → Placed → Bool
 is_placed_at parent name placed = (placed.parent == parent) && bytes_eq placed.name name
 
@@ -134,15 +141,18 @@ overflow_of pair = record { fork = extent_fork pair.0; id = extent_file pair.0; 
 
 -- ---- the attributes file
 
+-- A record of the attributes file with what its key says.
 pub record Attribute : Type 0 where
   pub id : ℕ
   pub name : List ℕ
   pub start : ℕ
   pub value : AttrRecord
 
+-- a record of the attributes file, read from its pair
 unfoldable pub attribute_of : Pair → Attribute
 attribute_of pair = record { id = attr_file pair.0; name = attr_units pair.0; start = attr_start pair.0; value = attr_of pair.1 }
 
+-- whether an attribute's value stands in its record
 abbrev pub is_inline : AttrRecord → Bool
 is_inline (attribute.Inline value) = true
 is_inline (attribute.Fork fork) = false

@@ -19,9 +19,11 @@ use Rattle.hfs_model.specs.declared.plain.PlainTree.{PlainTree}
 
 -- ---- the folders above, computed
 
+-- whether a record is that of the folder with this CNID
 abbrev pub is_folder_of : ℕ → Placed → Bool
 is_folder_of id placed = is_folder placed.value && (id_of placed == id)
 
+-- the folder in which a record stands, 0 where there is none
 abbrev pub parent_in : Option Placed → ℕ
 parent_in None = 0
 parent_in (Some placed) = placed.parent
@@ -55,6 +57,7 @@ is_seen records placed =
 abbrev pub shared_file : List Placed → ℕ → Option Placed
 shared_file records reference = find (is_shared_file records reference) (entries_of records)
 
+-- the CNID in a record, 0 where there is none
 abbrev pub id_or_0 : Option Placed → ℕ
 id_or_0 None = 0
 id_or_0 (Some placed) = id_of placed
@@ -63,6 +66,7 @@ id_or_0 (Some placed) = id_of placed
 abbrev pub named_id : List Placed → Placed → ℕ
 named_id records placed = if is_link placed then id_or_0 (shared_file records (special_of placed)) else id_of placed
 
+-- a record as users see its entry; a link names the file to which it leads
 abbrev pub plain_entry : List Placed → Placed → PlainEntry
 plain_entry records placed = record { parent = placed.parent; name = placed.name; folder = is_folder placed.value; id = named_id records placed }
 
@@ -72,6 +76,7 @@ seen_entry records placed = if is_seen records placed then plain_entry records p
 
 -- ---- folders and files
 
+-- an attribute as users see it
 abbrev pub plain_attribute : Attribute → PlainAttribute
 plain_attribute attribute = record { name = attribute.name; value = inline_bytes attribute.value }
 
@@ -79,6 +84,7 @@ plain_attribute attribute = record { name = attribute.name; value = inline_bytes
 abbrev pub plain_attributes : List Attribute → ℕ → List PlainAttribute
 plain_attributes attributes id = map plain_attribute (kept (λ attribute. attribute.id == id) attributes)
 
+-- a folder or file as users see it
 abbrev pub plain_node : List Attribute → EntryFields → Bool → List ℕ → Bool → PlainNode
 plain_node attributes fields folder bytes linked = record {
   id = fields.id;
@@ -110,6 +116,7 @@ node_in attributes records bytes_of placed (Folder folder) = if is_plain_folder 
 node_in attributes records bytes_of placed (File file) = if is_plain_file records placed then plain_node attributes file.fields false (bytes_of file) (is_linked records placed) ∷ [] else []
 node_in attributes records bytes_of placed (Thread thread) = []
 
+-- the folder or file of a record, if there is one
 abbrev pub node_found : List Attribute → List Placed → (FileRecord → List ℕ) → Option Placed → List PlainNode
 node_found attributes records bytes_of None = []
 node_found attributes records bytes_of (Some entry) = node_in attributes records bytes_of entry entry.value

@@ -39,9 +39,11 @@ free_blocks volume = map (λ block. not (is_set volume block)) (range_with_len 0
 abbrev pub free_runs : List Bool → List Extent
 free_runs free = longest_first (runs_of free)
 
+-- how many extents a file's data fork has in use
 abbrev pub extents_in_use : VolumeState → ℕ → ForkRecord → ℕ
 extents_in_use volume id fork = length (extents_of (overflow_in_volume volume) id data_kind fork)
 
+-- the numbers of a tree that costs are counted from
 abbrev pub cost_of_tree : TreeFacts → ℕ → TreeCost
 cost_of_tree tree extents = record {
   node_size = tree.shape.node_size;
@@ -73,6 +75,7 @@ room_with capacity free volume = record {
   trees = trees_of volume;
 }
 
+-- what `df` tells of a tree
 abbrev pub tree_gauge : TreeCost → TreeGauge
 tree_gauge tree = record { depth = tree.depth; nodes = tree.nodes; unused = tree.unused }
 
@@ -97,6 +100,7 @@ written_data from long (Ok file) =
     else Some (record { id = file.id; old_size = length file.bytes; new_size = size_written (length file.bytes) from long; from = from; end = from + long })
 written_data from long (Err why) = None
 
+-- the data that a `trunc` to this size puts, where the file grows
 abbrev pub grown_data : ℕ → Result PlainNode Refusal → Option Data
 grown_data size (Ok file) =
     if nat_lt (length file.bytes) size then Some (record { id = file.id; old_size = length file.bytes; new_size = size; from = length file.bytes; end = size }) else None
@@ -108,6 +112,7 @@ data_of tree (command.Write path from value) = written_data from (length value) 
 data_of tree (command.Trunc path size) = grown_data size (to_file tree path)
 data_of tree _ = None
 
+-- whether data makes its file longer
 abbrev pub grows : Data → Bool
 grows put = nat_lt put.old_size put.new_size
 
@@ -129,6 +134,7 @@ old_blocks_of block put = min (end_block block put) (parts_for put.old_size bloc
 
 -- ---- the forks of a file
 
+-- a fork of a file's record
 abbrev pub file_fork : ℕ → Option Placed → Option ForkRecord
 file_fork kind None = None
 file_fork kind (Some placed) = fork_in placed.value
@@ -147,6 +153,7 @@ extents_found overflow id kind (Some fork) = extents_of overflow id kind fork
 abbrev pub file_extents : VolumeState → ℕ → ℕ → List Extent
 file_extents volume id kind = extents_found (overflow_in_volume volume) id kind (file_fork kind (entry_of (records_of volume) id))
 
+-- the blocks of a fork of the file with this CNID
 abbrev pub file_blocks : VolumeState → ℕ → ℕ → List ℕ
 file_blocks volume id kind = blocks_of (file_extents volume id kind)
 
@@ -163,9 +170,11 @@ pub record Edits : Type 0 where
   pub attributes : ℕ
   pub updates : ℕ
 
+-- the CNIDs that a command takes, its edits of the catalog and the attributes file, and its updates of records
 abbrev pub edits : ℕ → ℕ → ℕ → ℕ → Edits
 edits ids catalog attributes updates = record { ids = ids; catalog = catalog; attributes = attributes; updates = updates }
 
+-- how many folders the first `ln` of a volume makes for itself: one, unless it is there
 abbrev pub folders_made : PlainTree → ℕ
 folders_made tree = if tree.has_private then 0 else 1
 
@@ -177,18 +186,22 @@ rm_edits tree (Some file) =
     else if file.linked then edits 0 5 0 4
     else edits (folders_made tree) (3 + 2 * folders_made tree) 0 4
 
+-- the edits of an `rm` of this entry; none where it is refused
 abbrev pub rm_edits_at : PlainTree → Result PlainEntry Refusal → Edits
 rm_edits_at tree (Ok entry) = rm_edits tree (node_at tree entry.id)
 rm_edits_at tree (Err why) = edits 0 0 0 0
 
+-- how many attributes a folder or file has
 abbrev pub attribute_count : Option PlainNode → ℕ
 attribute_count None = 0
 attribute_count (Some node) = length node.attributes
 
+-- the edits of an `rmdir`; none where it is refused
 abbrev pub rmdir_edits : PlainTree → Result PlainEntry Refusal → Edits
 rmdir_edits tree (Ok entry) = edits 0 2 (attribute_count (node_at tree entry.id)) 1
 rmdir_edits tree (Err why) = edits 0 0 0 0
 
+-- the edits of an `ln`; none where it is refused
 abbrev pub ln_edits : {X : Type 0} → PlainTree → Result (PlainNode × X) Refusal → Edits
 ln_edits tree (Ok pair) = if pair.0.linked then edits 1 2 0 4 else edits (2 + folders_made tree) (7 + 2 * folders_made tree) 0 4
 ln_edits tree (Err why) = edits 0 0 0 0

@@ -18,6 +18,7 @@ use Rattle.jnl_format.specs.declared.structures.JnlRefusal.TheVariants.{BadList,
 abbrev pub Content : Type 0
 Content = List (List ℕ)
 
+-- a sector of a content, no bytes where the content has no such sector
 abbrev pub sector : Content → ℕ → List ℕ
 sector content at = slice_index_or content at []
 
@@ -39,6 +40,7 @@ pub record Journal : Type 0 where
 abbrev pub fresh_header : ℕ → Header
 fresh_header size = record { order = Little; start = 512; end = 512; size = size; blhdr = 4096 }
 
+-- goes on with what was found, unless there is a fault
 abbrev pub and_then : {A B : Type 0} → Result A JnlRefusal → (A → Result B JnlRefusal) → Result B JnlRefusal
 and_then (Ok a) next = next a
 and_then (Err fault) next = Err fault
@@ -89,6 +91,7 @@ journaling_version = 0x4846534A
 abbrev pub foreign_fault : ℕ → Journal → Option JnlRefusal
 foreign_fault version journal = if not (journal.header.start == journal.header.end) && not (version == journaling_version) then Some (ForeignJournal version) else None
 
+-- the first of two faults that stands
 abbrev pub or_else : Option JnlRefusal → Option JnlRefusal → Option JnlRefusal
 or_else None second = second
 or_else (Some first) second = Some first

@@ -47,6 +47,7 @@ pieces_from place (c ∷ rest) = then_rest (step place c) (λ next. pieces_from 
 abbrev pub pieces : List ℕ → Option (List Piece)
 pieces text = pieces_from Between text
 
+-- whether a piece of a name is written as an escape
 abbrev pub is_escaped : Piece → Bool
 is_escaped (Character c) = false
 is_escaped (Escaped u) = true
@@ -74,6 +75,7 @@ is_reserved text = bytes_eq text [] || bytes_eq text (46 ∷ []) || bytes_eq tex
 abbrev pub within_length : List ℕ → Result (List ℕ) NameFault
 within_length units = if nat_lt 255 (length units) then Err NameTooLong else Ok units
 
+-- the name of the pieces that a text was cut into; a text that can't be cut is no name
 abbrev pub name_of_pieces : Option (List Piece) → Result (List ℕ) NameFault
 name_of_pieces None = Err BadName
 name_of_pieces (Some pieces) = within_length (units_of pieces)

@@ -85,6 +85,7 @@ header_node tree used = node_over tree.node_size header_head (header_items tree 
 abbrev pub extents_text : Layout → List ℕ
 extents_text layout = header_node (empty_tree layout.block 10 2) 1
 
+-- the attributes file of a new volume: a header node, and no record
 abbrev pub attributes_text : Layout → List ℕ
 attributes_text layout = header_node (empty_tree layout.block 266 6) 1
 

@@ -103,10 +103,12 @@ shrunk_by tree (Ok (command.Trunc path size)) = shrunk_to (to_file tree path)
     shrunk_to (Err why) = None
 shrunk_by tree asked = None
 
+-- the file that was shrunk last: this one, or else the one before
 abbrev pub or_before : Option ℕ → Option ℕ → Option ℕ
 or_before None old = old
 or_before (Some id) old = Some id
 
+-- whether a reply is `ok` alone
 abbrev pub is_ok : Reply → Bool
 is_ok reply.Ok = true
 is_ok _ = false

@@ -21,10 +21,12 @@ of_entry line kind (Err why) = []
 abbrev pub of_place : ℕ → ChangeKind → ℕ → Place → List Change
 of_place line kind id at = record { line = line; kind = kind; id = id; parent = at.folder; name = at.name } ∷ []
 
+-- what watchers are told of a `mkdir` or `create`
 abbrev pub of_made : ℕ → PlainTree → Result Place Refusal → List Change
 of_made line tree (Ok at) = of_place line change.Made tree.next_id at
 of_made line tree (Err why) = []
 
+-- what watchers are told of an `mv` or `ln`
 abbrev pub of_pair : ℕ → ChangeKind → Result (PlainEntry × Place) Refusal → List Change
 of_pair line kind (Ok pair) = of_place line kind pair.0.id pair.1
 of_pair line kind (Err why) = []
