@@ -1,0 +1,1 @@
+//! Jobs whose replies are made by hand.
