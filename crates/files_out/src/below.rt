@@ -104,7 +104,12 @@ impl Below {
     }
 
     /// Writes the next bytes of the file, and answers whether they were written.
-    pub(crate) fn write(&mut self, notes: &mut Notes<'_>, place: &str, bytes: &[u8]) -> Result<bool, AllocError> {
+    pub(crate) fn write(
+        &mut self,
+        notes: &mut Notes<'_>,
+        place: &str,
+        bytes: &[u8],
+    ) -> Result<bool, AllocError> {
         let written = match &mut self.file {
             Some(file) => file.write_all(bytes),
             None => return Ok(false),
@@ -116,7 +121,12 @@ impl Below {
     }
 
     /// Gives the file its date and its mode, and closes it.
-    pub(crate) fn end(&mut self, notes: &mut Notes<'_>, place: &str, facts: Facts) -> Result<(), AllocError> {
+    pub(crate) fn end(
+        &mut self,
+        notes: &mut Notes<'_>,
+        place: &str,
+        facts: Facts,
+    ) -> Result<(), AllocError> {
         let ended = match &self.file {
             Some(file) => settle(file, facts),
             None => Ok(()),
@@ -134,7 +144,12 @@ impl Below {
     }
 
     /// Gives a file another name, and answers whether it has it.
-    pub(crate) fn link(&mut self, notes: &mut Notes<'_>, first: &str, place: &str) -> Result<bool, AllocError> {
+    pub(crate) fn link(
+        &mut self,
+        notes: &mut Notes<'_>,
+        first: &str,
+        place: &str,
+    ) -> Result<bool, AllocError> {
         if self.over && !remove(notes, place)? {
             return Ok(false);
         }
@@ -207,13 +222,21 @@ fn settle_folder(notes: &mut Notes<'_>, place: &str, facts: Facts) -> Result<(),
 }
 
 // Tells what an entry didn't get.
-fn tell(notes: &mut Notes<'_>, place: &str, facts: Facts, ended: io::Result<()>) -> Result<(), AllocError> {
+fn tell(
+    notes: &mut Notes<'_>,
+    place: &str,
+    facts: Facts,
+    ended: io::Result<()>,
+) -> Result<(), AllocError> {
     if seconds_of(facts.changed) < 0 {
         notes.doubt(place, "its date is before 1970, and can't be set here");
     }
     if let Err(error) = ended {
         let why = error.to_string(notes.rt().alloc())?;
-        let what = format!(in notes.rt().alloc(); "its mode or its date can't be set: {}", why.as_str())?;
+        let what = format!(in notes.rt().alloc();
+            "its mode or its date can't be set: {}",
+            why.as_str()
+        )?;
         notes.doubt(place, what.as_str());
     }
     Ok(())

@@ -25,7 +25,12 @@ impl<'a> Out<'a> {
 
     /// Takes an entry whose facts are known, and answers whether more may be asked with what it asks. What is written at once, as a line or
     /// a header, waits until all that was asked is heard.
-    pub(crate) fn take_entry(&mut self, lines: &mut Vec<u8>, node: Node, facts: Facts) -> Result<bool, AllocError> {
+    pub(crate) fn take_entry(
+        &mut self,
+        lines: &mut Vec<u8>,
+        node: Node,
+        facts: Facts,
+    ) -> Result<bool, AllocError> {
         let mut node = node;
         let at_once = facts.folder || facts.links > 1 || !self.wish.reads();
         if self.walk.awaited() > 0 && (at_once || !node.attributes.is_empty()) {
@@ -44,7 +49,12 @@ impl<'a> Out<'a> {
     }
 
     // Takes a folder.
-    fn take_folder(&mut self, lines: &mut Vec<u8>, node: Node, facts: Facts) -> Result<bool, AllocError> {
+    fn take_folder(
+        &mut self,
+        lines: &mut Vec<u8>,
+        node: Node,
+        facts: Facts,
+    ) -> Result<bool, AllocError> {
         let goes_in = match self.wish {
             Wish::Get { .. } => self.make_folder(&node, facts)?,
             Wish::Tar => self.put_folder(&node, facts)?,
@@ -70,7 +80,12 @@ impl<'a> Out<'a> {
     }
 
     // Takes a file.
-    fn take_file(&mut self, lines: &mut Vec<u8>, node: Node, facts: Facts) -> Result<bool, AllocError> {
+    fn take_file(
+        &mut self,
+        lines: &mut Vec<u8>,
+        node: Node,
+        facts: Facts,
+    ) -> Result<bool, AllocError> {
         match self.wish {
             Wish::List { long, .. } => self.list(&node, &facts, long)?,
             Wish::Stat => self.tell_facts(&node, &facts)?,
@@ -81,7 +96,12 @@ impl<'a> Out<'a> {
     }
 
     // Takes a file out: its bytes are asked, or it becomes another name of one that was made.
-    fn take_out(&mut self, lines: &mut Vec<u8>, node: Node, facts: Facts) -> Result<bool, AllocError> {
+    fn take_out(
+        &mut self,
+        lines: &mut Vec<u8>,
+        node: Node,
+        facts: Facts,
+    ) -> Result<bool, AllocError> {
         let mut node = node;
         if node.top && !self.name_file(&mut node)? {
             return Ok(true);
@@ -173,9 +193,13 @@ impl<'a> Out<'a> {
         };
         let place = place_of(self, folder, name.as_str())?;
         if !name.as_str().is_ascii() && !composed.insert(name)? {
-            return self.lose_for(word.as_str(), "its name in composed form is that of another entry");
+            return self.lose_for(
+                word.as_str(),
+                "its name in composed form is that of another entry",
+            );
         }
-        self.walk.find(Next::Facts(Node::new(alloc, word, place, false)))
+        self.walk
+            .find(Next::Facts(Node::new(alloc, word, place, false)))
     }
 }
 

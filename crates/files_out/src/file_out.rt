@@ -14,7 +14,10 @@ impl<'a> Out<'a> {
     /// Makes a folder, and answers whether it is there.
     pub(crate) fn make_folder(&mut self, node: &Node, facts: Facts) -> Result<bool, AllocError> {
         let place = node.place.as_str();
-        if !self.below.make_folder(&mut self.notes, place, node.top, facts)? {
+        if !self
+            .below
+            .make_folder(&mut self.notes, place, node.top, facts)?
+        {
             return Ok(false);
         }
         if !node.top {
@@ -48,7 +51,8 @@ impl<'a> Out<'a> {
             return Ok(true);
         }
         let place = node.place.as_str();
-        self.tape.start(alloc, &mut self.output, place, facts, attributes)?;
+        self.tape
+            .start(alloc, &mut self.output, place, facts, attributes)?;
         count(&mut self.notes.counts.folders);
         self.notes.name(place);
         Ok(true)
@@ -62,7 +66,8 @@ impl<'a> Out<'a> {
         let place = node.place.as_str();
         if self.wish == Wish::Tar {
             let alloc = self.notes.rt().alloc();
-            self.tape.link(alloc, &mut self.output, first.as_str(), place, facts)?;
+            self.tape
+                .link(alloc, &mut self.output, first.as_str(), place, facts)?;
             self.values.clear();
         } else if !self.below.link(&mut self.notes, first.as_str(), place)? {
             return Ok(true);
@@ -89,12 +94,23 @@ impl<'a> Out<'a> {
     }
 
     /// Begins a file.
-    pub(crate) fn start_file(&mut self, node: Node, facts: Facts, attributes: Vec<Attribute>) -> Result<(), AllocError> {
+    pub(crate) fn start_file(
+        &mut self,
+        node: Node,
+        facts: Facts,
+        attributes: Vec<Attribute>,
+    ) -> Result<(), AllocError> {
         let alloc = self.notes.rt().alloc();
         let whole = match self.wish {
             Wish::Get { .. } => self.below.start(&mut self.notes, node.place.as_str())?,
             Wish::Tar => {
-                self.tape.start(alloc, &mut self.output, node.place.as_str(), facts, attributes)?;
+                self.tape.start(
+                    alloc,
+                    &mut self.output,
+                    node.place.as_str(),
+                    facts,
+                    attributes,
+                )?;
                 true
             }
             _ => true,
@@ -127,7 +143,9 @@ impl<'a> Out<'a> {
         let bytes = content.as_slice();
         let length = bytes.len() as u64;
         let written = match self.wish {
-            Wish::Get { .. } => self.below.write(&mut self.notes, current.node.place.as_str(), bytes)?,
+            Wish::Get { .. } => self
+                .below
+                .write(&mut self.notes, current.node.place.as_str(), bytes)?,
             Wish::Tar => {
                 self.tape.write(&mut self.output, bytes)?;
                 true

@@ -17,7 +17,10 @@ impl<'a> Job for Out<'a> {
         self.walk.settle()?;
         self.expected = 0;
         for _ in 0..u64::MAX {
-            if self.output.has_failed() || self.walk.awaited() >= MOST_REPLIES || self.expected >= MOST_BYTES {
+            if self.output.has_failed()
+                || self.walk.awaited() >= MOST_REPLIES
+                || self.expected >= MOST_BYTES
+            {
                 break;
             }
             match self.walk.pop() {
@@ -43,7 +46,14 @@ impl<'a> Job for Out<'a> {
             Some(Asked::Facts(node)) => self.hear_facts(node, reply),
             Some(Asked::Value(word)) => self.hear_value(word.as_str(), reply),
             Some(Asked::Entries(node)) => self.hear_entries(node, reply),
-            Some(Asked::First { node, facts, attributes, last }) => {
+            Some(
+                Asked::First {
+                    node,
+                    facts,
+                    attributes,
+                    last,
+                },
+            ) => {
                 self.start_file(node, facts, attributes)?;
                 self.hear_piece(reply, last)
             }
@@ -80,13 +90,21 @@ impl<'a> Out<'a> {
     }
 
     // Asks the entries of a folder.
-    pub(crate) fn ask_entries(&mut self, lines: &mut Vec<u8>, node: Node) -> Result<(), AllocError> {
+    pub(crate) fn ask_entries(
+        &mut self,
+        lines: &mut Vec<u8>,
+        node: Node,
+    ) -> Result<(), AllocError> {
         push_line(lines, "ls", node.word.as_str())?;
         self.walk.note(Asked::Entries(node))
     }
 
     // Asks the values of the attributes of a node.
-    pub(crate) fn ask_values(&mut self, lines: &mut Vec<u8>, node: &mut Node) -> Result<(), AllocError> {
+    pub(crate) fn ask_values(
+        &mut self,
+        lines: &mut Vec<u8>,
+        node: &mut Node,
+    ) -> Result<(), AllocError> {
         for _ in 0..u64::MAX {
             let Some(word) = node.attributes.pop() else {
                 break;
@@ -102,14 +120,24 @@ impl<'a> Out<'a> {
     }
 
     // Asks the first piece of a file, and then the others.
-    pub(crate) fn ask_file(&mut self, lines: &mut Vec<u8>, node: Node, facts: Facts) -> Result<(), AllocError> {
+    pub(crate) fn ask_file(
+        &mut self,
+        lines: &mut Vec<u8>,
+        node: Node,
+        facts: Facts,
+    ) -> Result<(), AllocError> {
         let alloc = self.notes.rt().alloc();
         let word = String::from_str(alloc, node.word.as_str())?;
         let mut attributes = Vec::new(alloc);
         mem::swap(&mut attributes, &mut self.values);
         let last = facts.size <= PIECE as u64;
         self.push_read(lines, word.as_str(), 0, facts.size)?;
-        self.walk.note(Asked::First { node, facts, attributes, last })?;
+        self.walk.note(Asked::First {
+            node,
+            facts,
+            attributes,
+            last,
+        })?;
         if last {
             return Ok(());
         }
@@ -117,7 +145,13 @@ impl<'a> Out<'a> {
     }
 
     // Asks the pieces of a file from one on, as many as may be asked at once, and puts the rest back.
-    fn ask_pieces(&mut self, lines: &mut Vec<u8>, word: String, from: u64, size: u64) -> Result<(), AllocError> {
+    fn ask_pieces(
+        &mut self,
+        lines: &mut Vec<u8>,
+        word: String,
+        from: u64,
+        size: u64,
+    ) -> Result<(), AllocError> {
         let mut at = from;
         for _ in 0..MOST_REPLIES {
             if at >= size || self.expected >= MOST_BYTES {
@@ -128,14 +162,26 @@ impl<'a> Out<'a> {
             self.walk.note(Asked::Piece { last: at >= size })?;
         }
         if at < size {
-            self.walk.push(Next::Rest { word, from: at, size })?;
+            self.walk.push(Next::Rest {
+                word,
+                from: at,
+                size,
+            })?;
         }
         Ok(())
     }
 
     // Asks a piece of a file.
-    fn push_read(&mut self, lines: &mut Vec<u8>, word: &str, from: u64, size: u64) -> Result<(), AllocError> {
-        self.expected = self.expected.saturating_add(size.saturating_sub(from).min(PIECE as u64));
+    fn push_read(
+        &mut self,
+        lines: &mut Vec<u8>,
+        word: &str,
+        from: u64,
+        size: u64,
+    ) -> Result<(), AllocError> {
+        self.expected = self
+            .expected
+            .saturating_add(size.saturating_sub(from).min(PIECE as u64));
         lines.extend_from_slice(b"read")?;
         push_path(lines, word)?;
         push_number(lines, from)?;
@@ -178,7 +224,10 @@ impl<'a> Out<'a> {
             let Some(name) = node.attributes.pop() else {
                 break;
             };
-            let why = format!(in alloc; "its attribute {}, which a tar archive would have", name.as_str())?;
+            let why = format!(in alloc;
+                "its attribute {}, which a tar archive would have",
+                name.as_str()
+            )?;
             self.lose_for(node.word.as_str(), why.as_str())?;
         }
         Ok(())

@@ -17,14 +17,34 @@ struct Special {
 }
 
 const SPECIALS: [Special; 3] = [
-    Special { bit: 0o4000, right: 0o100, with: 's', without: 'S' },
-    Special { bit: 0o2000, right: 0o010, with: 's', without: 'S' },
-    Special { bit: 0o1000, right: 0o001, with: 't', without: 'T' },
+    Special {
+        bit: 0o4000,
+        right: 0o100,
+        with: 's',
+        without: 'S',
+    },
+    Special {
+        bit: 0o2000,
+        right: 0o010,
+        with: 's',
+        without: 'S',
+    },
+    Special {
+        bit: 0o1000,
+        right: 0o001,
+        with: 't',
+        without: 'T',
+    },
 ];
 
 /// A line of a list: a path, with a slash behind that of a folder; before it, where it is a long one, the mode, the number of names, the
 /// size and the date. Of a folder the size is the number of its entries, and the number of names a dash.
-pub(crate) fn list_line(alloc: Global, path: &str, facts: &Facts, long: bool) -> Result<String, AllocError> {
+pub(crate) fn list_line(
+    alloc: Global,
+    path: &str,
+    facts: &Facts,
+    long: bool,
+) -> Result<String, AllocError> {
     let slash = if facts.folder && path != "/" { "/" } else { "" };
     if !long {
         return format!(in alloc; "{path}{slash}\n");
@@ -33,11 +53,21 @@ pub(crate) fn list_line(alloc: Global, path: &str, facts: &Facts, long: bool) ->
     let links = links_text(alloc, facts)?;
     let date = moment(alloc, facts.changed)?;
     let size = facts.size;
-    format!(in alloc; "{} {:>4} {size:>12} {} {path}{slash}\n", mode.as_str(), links.as_str(), date.as_str())
+    format!(in alloc;
+        "{} {:>4} {size:>12} {} {path}{slash}\n",
+        mode.as_str(),
+        links.as_str(),
+        date.as_str()
+    )
 }
 
 /// The lines of an entry: a word and what it stands for each.
-pub(crate) fn facts_lines(alloc: Global, path: &str, facts: &Facts, attributes: &[String]) -> Result<String, AllocError> {
+pub(crate) fn facts_lines(
+    alloc: Global,
+    path: &str,
+    facts: &Facts,
+    attributes: &[String],
+) -> Result<String, AllocError> {
     let kind = if facts.folder { "folder" } else { "file" };
     let counted = if facts.folder { "entries" } else { "size" };
     let created = moment(alloc, facts.created)?;

@@ -35,15 +35,23 @@ fn year_day(days: u32) -> YearDay {
     let first = 1904 + days / FOUR_YEARS * 4;
     let rest = days % FOUR_YEARS;
     if rest < 366 {
-        return YearDay { year: first, day: rest, leap: true };
+        return YearDay {
+            year: first,
+            day: rest,
+            leap: true,
+        };
     }
     let behind = rest - 366;
-    YearDay { year: first + 1 + behind / 365, day: behind % 365, leap: false }
+    YearDay {
+        year: first + 1 + behind / 365,
+        day: behind % 365,
+        leap: false,
+    }
 }
 
 // The month and the day of it, both counted from 1.
 fn month_day(of: YearDay) -> (u32, u32) {
-    let mut month = 1;
+    let mut month: u32 = 1;
     let mut rest = of.day;
     for days in MONTHS.iter() {
         let days = if month == 2 && of.leap { 29 } else { *days };

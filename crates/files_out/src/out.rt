@@ -47,7 +47,12 @@ pub struct Out<'a> {
 impl<'a> Out<'a> {
     /// A job for the entries at these paths, which are spelled as in a line. For `Get` and `Tar` it is one, whose entries come into the
     /// folder, or one file, which comes into it under its name.
-    pub fn new(notes: Notes<'a>, wish: Wish, words: Vec<String>, folder: &str) -> Result<Out<'a>, AllocError> {
+    pub fn new(
+        notes: Notes<'a>,
+        wish: Wish,
+        words: Vec<String>,
+        folder: &str,
+    ) -> Result<Out<'a>, AllocError> {
         let rt = notes.rt();
         let mut words = words;
         let mut walk = Walk::new(rt.alloc());
@@ -55,7 +60,11 @@ impl<'a> Out<'a> {
             let Some(word) = words.pop() else {
                 break;
             };
-            let word = if word.as_str() == "/" { String::new(rt.alloc()) } else { word };
+            let word = if word.as_str() == "/" {
+                String::new(rt.alloc())
+            } else {
+                word
+            };
             let place = String::from_str(rt.alloc(), folder)?;
             walk.push(Next::Facts(Node::new(rt.alloc(), word, place, true)))?;
         }
@@ -100,9 +109,16 @@ impl<'a> Out<'a> {
             }
             Wish::Tar => {
                 self.notes.end();
-                let Counts { files, folders, links, bytes } = self.notes.counts;
+                let Counts {
+                    files,
+                    folders,
+                    links,
+                    bytes,
+                } = self.notes.counts;
                 let left_out = self.notes.left_out;
-                let _ = eprintln!(self.notes.rt(); "got files {files} folders {folders} links {links} bytes {bytes} left-out {left_out}");
+                let _ = eprintln!(self.notes.rt();
+                    "got files {files} folders {folders} links {links} bytes {bytes} left-out {left_out}"
+                );
             }
             _ => self.notes.end(),
         }

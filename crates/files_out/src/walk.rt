@@ -57,7 +57,9 @@ pub(crate) enum Asked {
         last: bool,
     },
     /// A piece behind it.
-    Piece { last: bool },
+    Piece {
+        last: bool,
+    },
 }
 
 /// A stack of what is next, what was found for it, and the queue of what was asked.
