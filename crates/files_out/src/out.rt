@@ -60,11 +60,10 @@ impl<'a> Out<'a> {
             let Some(word) = words.pop() else {
                 break;
             };
-            let word = if word.as_str() == "/" {
-                String::new(rt.alloc())
-            } else {
-                word
-            };
+            let mut word = word;
+            if word.as_str() == "/" {
+                word.clear();
+            }
             let place = String::from_str(rt.alloc(), folder)?;
             walk.push(Next::Facts(Node::new(rt.alloc(), word, place, true)))?;
         }
