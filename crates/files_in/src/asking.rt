@@ -1,5 +1,5 @@
 //! Lines that are asked: what each reply is to, and the moment that the volume has.
-use files_talk::{Notes, push_mode, push_number, push_path, push_written};
+use files_talk::{Notes, push_attribute, push_mode, push_number, push_path, push_written};
 use std::alloc::AllocError;
 
 /// The most lines that are asked at once: as many as the server makes durable together.
@@ -160,6 +160,20 @@ impl<'a> Asking<'a> {
         asked: Asked,
     ) -> Result<(), AllocError> {
         push_written(lines, word, from, bytes)?;
+        self.asked.push(asked)?;
+        Ok(())
+    }
+
+    /// The line that sets an attribute.
+    pub(crate) fn attribute(
+        &mut self,
+        lines: &mut Vec<u8>,
+        word: &str,
+        name: &str,
+        value: &[u8],
+        asked: Asked,
+    ) -> Result<(), AllocError> {
+        push_attribute(lines, word, name, value)?;
         self.asked.push(asked)?;
         Ok(())
     }

@@ -378,7 +378,7 @@ impl<'a> FolderIn<'a> {
             if !facts.folder && id == Some(facts.id) {
                 return Ok(());
             }
-            if let Some(why) = self.lack_there(&facts) {
+            if let Some(why) = self.ground.lack_there(&facts) {
                 self.lose(&entry, why);
                 return Ok(());
             }
@@ -395,17 +395,6 @@ impl<'a> FolderIn<'a> {
             .paths(lines, "ln", words, Asked::Link(told))
     }
 
-    // Why what is there can't make way.
-    fn lack_there(&self, there: &Facts) -> Option<&'static str> {
-        if there.folder {
-            Some("a folder is in the way")
-        } else if self.ground.over {
-            None
-        } else {
-            Some("another file is there, which only --over replaces")
-        }
-    }
-
     // Puts a file, unless it is there already.
     fn put_first(
         &mut self,
@@ -418,7 +407,7 @@ impl<'a> FolderIn<'a> {
         };
         let date = self.ground.dates.date(entry.attributes.changed).date;
         if facts.folder || facts.size != entry.attributes.size || facts.changed != date {
-            if let Some(why) = self.lack_there(&facts) {
+            if let Some(why) = self.ground.lack_there(&facts) {
                 self.lose(&entry, why);
                 return Ok(());
             }
@@ -539,7 +528,8 @@ impl<'a> FolderIn<'a> {
     }
 }
 
-const CLAMPED: &str =
+/// What is told of a date that no volume has.
+pub(crate) const CLAMPED: &str =
     "its date is outside of 1904 to 2040, and is kept as the nearest that a volume has";
 
 // Why an entry of this name isn't put.

@@ -238,6 +238,17 @@ impl<'a> Ground<'a> {
         Ok(false)
     }
 
+    /// Why what is there can't make way for a file.
+    pub(crate) fn lack_there(&self, there: &Facts) -> Option<&'static str> {
+        if there.folder {
+            Some("a folder is in the way")
+        } else if self.over {
+            None
+        } else {
+            Some("another file is there, which only --over replaces")
+        }
+    }
+
     /// The folder of what is told is dated at the end.
     pub(crate) fn date_later(&mut self, told: Told) -> Result<(), AllocError> {
         self.undated.push(told)?;
@@ -257,7 +268,10 @@ impl<'a> Ground<'a> {
                 self.staging.hear_step(number, reply)?;
                 Ok(None)
             }
-            Some(Asked::Move(number)) => { self.staging.hear_move(&mut self.asking, number, reply) }
+            Some(Asked::Move(number)) => {
+                self.staging
+                    .hear_move(&mut self.asking, number, reply, self.over)
+            }
             Some(Asked::Folder(told)) => {
                 self.hear_made(told, reply, true)?;
                 Ok(None)

@@ -1,7 +1,7 @@
 //! Files are gathered in a folder of their own, and moved to their places when they are whole: where a run is cut off, no part of a file
 //! stands under its name.
 use crate::asking::{Asked, Asking, Told};
-use files_talk::{child_of, is_ok, reason_of};
+use files_talk::{child_of, is_ok, reason_of, word_of};
 use itoa::Buffer;
 use std::alloc::{AllocError, Global};
 use std::mem;
@@ -140,6 +140,14 @@ impl Staging {
         child_of(self.alloc, self.folder.as_str(), buffer.format(number))
     }
 
+    /// The path of the file that was begun last.
+    pub(crate) fn last_part(&self) -> Result<String, AllocError> {
+        match self.gathered.last() {
+            Some(file) => file.part.clone(),
+            None => Ok(String::new(self.alloc)),
+        }
+    }
+
     /// Adds bytes at the end of the file that was begun last.
     pub(crate) fn add(
         &mut self,
@@ -246,6 +254,7 @@ impl Staging {
         asking: &mut Asking<'_>,
         number: u64,
         reply: &[u8],
+        over: bool,
     ) -> Result<Option<Gathered>, AllocError> {
         let Some(at) = self.moving.iter().position(|file| file.number == number) else {
             return Ok(None);
@@ -256,7 +265,11 @@ impl Staging {
             asking.notes.name(file.wanted.told.shown.as_str());
             return Ok(Some(file));
         }
-        file.lack = Some(reason_of(self.alloc, reply)?);
+        if over && !file.wanted.replaces && reply == b"no Exists".as_slice() {
+            file.wanted.replaces = true;
+        } else {
+            file.lack = Some(reason_of(self.alloc, reply)?);
+        }
         self.gathered.insert(0, file)?;
         Ok(None)
     }
@@ -289,4 +302,28 @@ pub(crate) fn date_folder(
     asking.at(lines, date)?;
     asking.path(lines, "create", mark.as_str(), Asked::Other)?;
     asking.path(lines, "rm", mark.as_str(), Asked::Other)
+}
+
+/// Sets an attribute of an entry, whose name is that of one of the system's: `user.` and a name. False means that a volume can't have it.
+pub(crate) fn push_attribute(
+    asking: &mut Asking<'_>,
+    lines: &mut Vec<u8>,
+    word: &str,
+    name: &[u8],
+    value: &[u8],
+    asked: Asked,
+) -> Result<bool, AllocError> {
+    let Ok(name) = str::from_utf8(name) else {
+        return Ok(false);
+    };
+    let Some(name) = name.strip_prefix("user.") else {
+        return Ok(false);
+    };
+    match word_of(asking.rt().alloc(), name)? {
+        Ok(name) => {
+            asking.attribute(lines, word, name.as_str(), value, asked)?;
+            Ok(true)
+        }
+        Err(_) => Ok(false),
+    }
 }
