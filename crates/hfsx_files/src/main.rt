@@ -19,7 +19,7 @@ use call::{Call, Verb};
 use file_rig::take_closed;
 use options::read_options;
 use std::alloc::AllocError;
-use std::env::FillError;
+use std::env::{Env, FillError};
 use std::io::Write;
 use std::process::ExitCode;
 
