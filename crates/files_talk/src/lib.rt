@@ -15,5 +15,6 @@ pub use notes::{Counts, Notes};
 pub use reasons::reason_of;
 pub use talk::{Job, Lines, Replies, Talk};
 pub use words::{
-    Facts, PIECE, content_of, facts_of, is_ok, push_mode, push_number, push_path, push_written,
+    Facts, PIECE, content_of, facts_of, is_ok, push_attribute, push_mode, push_number, push_path,
+    push_written,
 };

@@ -52,6 +52,25 @@ pub fn push_written(
     lines.extend_from_slice(b"\n")
 }
 
+/// Appends the line that sets an attribute of the entry of a path.
+pub fn push_attribute(
+    lines: &mut Vec<u8>,
+    word: &str,
+    name: &str,
+    value: &[u8],
+) -> Result<(), AllocError> {
+    lines.extend_from_slice(b"setattr")?;
+    push_path(lines, word)?;
+    lines.extend_from_slice(b" ")?;
+    lines.extend_from_slice(name.as_bytes())?;
+    lines.extend_from_slice(b" ")?;
+    match push_value(lines, value) {
+        Ok(()) => {}
+        Err(OutOfMemory) => return Err(AllocError),
+    }
+    lines.extend_from_slice(b"\n")
+}
+
 /// Whether a reply is `ok`, with or without more.
 pub fn is_ok(reply: &[u8]) -> bool {
     reply == b"ok".as_slice() || reply.starts_with(b"ok ".as_slice())
