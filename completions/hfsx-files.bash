@@ -15,7 +15,7 @@ _hfsx_files() {
         -*)
             local words
             case $verb in
-                put) words="--to --size --date --verbose -" ;;
+                put) words="--to --size --date --over --verbose -" ;;
                 get) words="--over --verbose -" ;;
                 ls) words="-l -R -lR" ;;
                 *) words="" ;;
