@@ -13,10 +13,6 @@ pub struct Run {
     pub place: u64,
 }
 
-// No more runs are indexed, so that a journal can't make its reader take what memory there is. Each run has a sector of the journal of
-// its own, so a journal of up to 1 GiB has fewer.
-const MOST_RUNS: usize = 2_097_152;
-
 impl Run {
     /// The sector behind the last one.
     pub(crate) fn end(&self) -> u32
@@ -55,13 +51,10 @@ impl Run {
     }
 }
 
-// Adds a run behind the others. More than the most are answered as want of memory.
+// Adds a run behind the others.
 pub(crate) fn push_run(runs: &mut Vec<Run>, run: Run) -> Result<(), OutOfMemory>
     ensures { OnOk result (runs.new.items ≡ runs.old.items ++ run ∷ []) }
 {
-    if MOST_RUNS <= runs.len() {
-        return Err(OutOfMemory);
-    }
     runs.push(run)?;
     Ok(())
 }
