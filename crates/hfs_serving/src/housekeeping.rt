@@ -1,11 +1,12 @@
 //! Housekeeping within a batch.
 ghost use Rattle.std.specs.Prelude.{◌≡◌, ◌≤◌, ◌+◌, [], ℕ, Option, None, IsErrOf, IsTrue, IfOk, OnOk, OnErr};
 ghost use Rattle.jnl_format.specs.Recovery.{Content};
-ghost use Rattle.hfs_serving.specs.Faults.{Faults};
+ghost use Rattle.hfs_serving.specs.Faults.{Faults, StopFaults};
 ghost use Rattle.hfs_serving.specs.Going.{GoesRested, GoesTidy, SomeStands, Stands, StopsOn};
 
 use crate::basis::Ground;
 use crate::returning::come_back;
+use crate::telling::Stop;
 use crate::volume::{Next, Volume};
 use hx_bytes::Trouble;
 
@@ -92,8 +93,8 @@ pub fn tidy<V: Volume, G: Ground>(volume: &mut V, base: &mut G) -> Result<bool, 
     Ok(false)
 }
 
-/// Reclaims until nothing is left to reclaim, or something is missing for the next step. `Memory` comes too where so many steps don't do.
-pub fn come_to_rest<V: Volume, G: Ground>(volume: &mut V, base: &mut G) -> Result<(), Trouble>
+/// Reclaims until nothing is left to reclaim, or something is missing for the next step. `Steps` comes where so many steps don't do.
+pub fn come_to_rest<V: Volume, G: Ground>(volume: &mut V, base: &mut G) -> Result<(), Stop>
     requires serves { (capacity : ℕ) × G.serves base.old capacity × (G.taken base.old ≤ capacity) }
     requires stands { IsTrue (G.space base.old).tells → SomeStands (V.knows volume.old (G.space base.old)) (G.space base.old) (G.outside base.old) }
     ensures rests { IsTrue (G.space base.old).tells → (capacity : ℕ) (committed now : Content) (shrunk : Option ℕ) → Stands (V.knows volume.old (G.space base.old) capacity) committed now shrunk (G.space base.old) (G.outside base.old)
@@ -103,10 +104,11 @@ pub fn come_to_rest<V: Volume, G: Ground>(volume: &mut V, base: &mut G) -> Resul
     ensures still { (capacity : ℕ) → G.serves base.old capacity → G.taken base.old ≤ capacity → OnOk result (G.serves base.new capacity × (G.taken base.new ≤ capacity)) }
     ensures tells { OnOk result ((G.space base.new).tells ≡ (G.space base.old).tells) }
     ensures anchor { G.anchor base.new ≡ G.anchor base.old }
-    ensures faults { Faults (G.failed base.old) (G.space base.old) (G.failed base.new) (G.space base.new) result }
+    ensures faults { StopFaults (G.failed base.old) (G.space base.old) (G.failed base.new) (G.space base.new) ⊥ result }
+    ensures no_many { IsErrOf result Stop.TooMany → ⊥ }
 {
     if tidy(volume, base)? {
         return Ok(());
     }
-    Err(Trouble::Memory)
+    Err(Stop::Steps)
 }
