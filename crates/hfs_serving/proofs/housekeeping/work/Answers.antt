@@ -29,12 +29,10 @@ tidy_step-requires-clause-stands g c tells_kept =
     let s0 = g.G.SectorView.space c.args.base.now in
     let s1 = g.G.SectorView.space c.keep.new.self in
     let o1 = g.G.Ground.outside c.keep.new.self in
-    let s2 = g.G.SectorView.space c.tidy_step.new.base in
-    let o2 = g.G.Ground.outside c.tidy_step.new.base in
     let knows = g.V.Volume.knows c.args.volume.now s0 capacity in
     let knows_kept = g.V.Volume.knows c.args.volume.now s1 capacity in
     let carries = c.look.ensures c.args.base.now capacity committed now shrunk c.keep.ensures.same in
-    let there = stands_kept committed now shrunk knows knows_kept s0 s1 s2 s2 old o1 o2 o2 stands c.keep.ensures.same c.keep.ensures.quiet carries in
+    let there = stands_kept committed now shrunk knows knows_kept s0 s1 s1 s1 old o1 o1 o1 stands c.keep.ensures.same c.keep.ensures.quiet carries in
     (capacity, committed, now, shrunk, there)
 
 pub returns-in-Ok-Rest-clause-goes : goal.returns-in-Ok-Rest-clause-goes
@@ -52,7 +50,7 @@ returns-in-Ok-Rest-clause-goes g c tells capacity committed now shrunk stands =
     let there = stands_kept committed now shrunk knows knows_kept s0 s1 s2 s2 old o1 o2 o2 stands c.keep.ensures.same c.keep.ensures.quiet carries in
     let touches = kept_touches committed s0 s1 s2 old o1 o2 c.keep.ensures.same c.keep.ensures.quiet (c.tidy_step.ensures.touches tells_kept capacity committed now shrunk there) in
     let knows_new = g.V.Volume.knows c.tidy_step.new.self s2 capacity in
-    let tidied = subst (λ (q : Result Next Trouble). IfOk q (λ next. TidiesTo next capacity knows_new committed now shrunk s2)) c.in-Ok-Rest.is (c.tidy_step.ensures.tidied tells_kept capacity committed now shrunk there) in
+    let tidied = subst (λ (n : Next). TidiesTo n capacity knows_new committed now shrunk s2) c.in-Ok-Rest.field-0-is (subst (λ (q : Result Next Trouble). IfOk q (λ next. TidiesTo next capacity knows_new committed now shrunk s2)) c.in-Ok-Rest.is (c.tidy_step.ensures.tidied tells_kept capacity committed now shrunk there)) in
     first_looks capacity shrunk committed now old knows s0 stands knows_new s2 o2 touches tidied.0
 
 pub returns-in-Ok-Rest-clause-rests : goal.returns-in-Ok-Rest-clause-rests
@@ -70,7 +68,7 @@ returns-in-Ok-Rest-clause-rests g c tells capacity committed now shrunk stands =
     let there = stands_kept committed now shrunk knows knows_kept s0 s1 s2 s2 old o1 o2 o2 stands c.keep.ensures.same c.keep.ensures.quiet carries in
     let touches = kept_touches committed s0 s1 s2 old o1 o2 c.keep.ensures.same c.keep.ensures.quiet (c.tidy_step.ensures.touches tells_kept capacity committed now shrunk there) in
     let knows_new = g.V.Volume.knows c.tidy_step.new.self s2 capacity in
-    let tidied = subst (λ (q : Result Next Trouble). IfOk q (λ next. TidiesTo next capacity knows_new committed now shrunk s2)) c.in-Ok-Rest.is (c.tidy_step.ensures.tidied tells_kept capacity committed now shrunk there) in
+    let tidied = subst (λ (n : Next). TidiesTo n capacity knows_new committed now shrunk s2) c.in-Ok-Rest.field-0-is (subst (λ (q : Result Next Trouble). IfOk q (λ next. TidiesTo next capacity knows_new committed now shrunk s2)) c.in-Ok-Rest.is (c.tidy_step.ensures.tidied tells_kept capacity committed now shrunk there)) in
     λ rests. first_rests capacity shrunk committed now old knows s0 stands knows_new s2 o2 touches tidied.0 tidied.1
 
 pub returns-in-Ok-Rest-clause-still : goal.returns-in-Ok-Rest-clause-still
@@ -105,7 +103,7 @@ returns-in-Ok-Made-clause-goes g c tells capacity committed now shrunk stands =
     let there = stands_kept committed now shrunk knows knows_kept s0 s1 s2 s2 old o1 o2 o2 stands c.keep.ensures.same c.keep.ensures.quiet carries in
     let touches = kept_touches committed s0 s1 s2 old o1 o2 c.keep.ensures.same c.keep.ensures.quiet (c.tidy_step.ensures.touches tells_kept capacity committed now shrunk there) in
     let knows_new = g.V.Volume.knows c.tidy_step.new.self s2 capacity in
-    let tidied = subst (λ (q : Result Next Trouble). IfOk q (λ next. TidiesTo next capacity knows_new committed now shrunk s2)) c.in-Ok-Made.is (c.tidy_step.ensures.tidied tells_kept capacity committed now shrunk there) in
+    let tidied = subst (λ (n : Next). TidiesTo n capacity knows_new committed now shrunk s2) c.in-Ok-Made.field-0-is (subst (λ (q : Result Next Trouble). IfOk q (λ next. TidiesTo next capacity knows_new committed now shrunk s2)) c.in-Ok-Made.is (c.tidy_step.ensures.tidied tells_kept capacity committed now shrunk there)) in
     first_tidied capacity shrunk committed now old knows s0 stands knows_new s2 o2 touches tidied
 
 pub returns-in-Ok-Made-clause-still : goal.returns-in-Ok-Made-clause-still
@@ -154,7 +152,7 @@ commit-requires-clause-stands g c tells_new =
     let there = stands_kept committed now shrunk knows knows_kept s0 s1 s2 s2 old o1 o2 o2 stands c.keep.ensures.same c.keep.ensures.quiet carries in
     let touches = kept_touches committed s0 s1 s2 old o1 o2 c.keep.ensures.same c.keep.ensures.quiet (c.tidy_step.ensures.touches tells_kept capacity committed now shrunk there) in
     let knows_new = g.V.Volume.knows c.tidy_step.new.self s2 capacity in
-    let tidied = subst (λ (q : Result Next Trouble). IfOk q (λ next. TidiesTo next capacity knows_new committed now shrunk s2)) c.in-Ok-CommitFirst.is (c.tidy_step.ensures.tidied tells_kept capacity committed now shrunk there) in
+    let tidied = subst (λ (n : Next). TidiesTo n capacity knows_new committed now shrunk s2) c.in-Ok-CommitFirst.field-0-is (subst (λ (q : Result Next Trouble). IfOk q (λ next. TidiesTo next capacity knows_new committed now shrunk s2)) c.in-Ok-CommitFirst.is (c.tidy_step.ensures.tidied tells_kept capacity committed now shrunk there)) in
     (capacity, committed, now, shrunk, first_stands capacity shrunk committed now old knows s0 stands knows_new s2 o2 touches tidied)
 
 pub returns-in_err-commit-in-Ok-CommitFirst-clause-stops : goal.returns-in_err-commit-in-Ok-CommitFirst-clause-stops
@@ -172,7 +170,7 @@ returns-in_err-commit-in-Ok-CommitFirst-clause-stops g c tells capacity committe
     let there = stands_kept committed now shrunk knows knows_kept s0 s1 s2 s2 old o1 o2 o2 stands c.keep.ensures.same c.keep.ensures.quiet carries in
     let touches = kept_touches committed s0 s1 s2 old o1 o2 c.keep.ensures.same c.keep.ensures.quiet (c.tidy_step.ensures.touches tells_kept capacity committed now shrunk there) in
     let knows_new = g.V.Volume.knows c.tidy_step.new.self s2 capacity in
-    let tidied = subst (λ (q : Result Next Trouble). IfOk q (λ next. TidiesTo next capacity knows_new committed now shrunk s2)) c.in-Ok-CommitFirst.is (c.tidy_step.ensures.tidied tells_kept capacity committed now shrunk there) in
+    let tidied = subst (λ (n : Next). TidiesTo n capacity knows_new committed now shrunk s2) c.in-Ok-CommitFirst.field-0-is (subst (λ (q : Result Next Trouble). IfOk q (λ next. TidiesTo next capacity knows_new committed now shrunk s2)) c.in-Ok-CommitFirst.is (c.tidy_step.ensures.tidied tells_kept capacity committed now shrunk there)) in
     on_err c.from_residual.result (then_commit_stops capacity shrunk committed now old knows s0 stands knows_new s2 o2 touches tidied (g.G.Ground.outside c.commit.new.base) (c.commit.ensures.crash (c.tidy_step.ensures.tells ∙ tells_kept)))
 
 pub returns-in_ok-commit-in-Ok-CommitFirst-clause-goes : goal.returns-in_ok-commit-in-Ok-CommitFirst-clause-goes
@@ -190,7 +188,7 @@ returns-in_ok-commit-in-Ok-CommitFirst-clause-goes g c tells capacity committed 
     let there = stands_kept committed now shrunk knows knows_kept s0 s1 s2 s2 old o1 o2 o2 stands c.keep.ensures.same c.keep.ensures.quiet carries in
     let touches = kept_touches committed s0 s1 s2 old o1 o2 c.keep.ensures.same c.keep.ensures.quiet (c.tidy_step.ensures.touches tells_kept capacity committed now shrunk there) in
     let knows_new = g.V.Volume.knows c.tidy_step.new.self s2 capacity in
-    let tidied = subst (λ (q : Result Next Trouble). IfOk q (λ next. TidiesTo next capacity knows_new committed now shrunk s2)) c.in-Ok-CommitFirst.is (c.tidy_step.ensures.tidied tells_kept capacity committed now shrunk there) in
+    let tidied = subst (λ (n : Next). TidiesTo n capacity knows_new committed now shrunk s2) c.in-Ok-CommitFirst.field-0-is (subst (λ (q : Result Next Trouble). IfOk q (λ next. TidiesTo next capacity knows_new committed now shrunk s2)) c.in-Ok-CommitFirst.is (c.tidy_step.ensures.tidied tells_kept capacity committed now shrunk there)) in
     let s3 = g.G.SectorView.space c.commit.new.base in
     then_commits capacity shrunk committed now old knows s0 stands knows_new s2 o2 touches tidied (g.V.Volume.knows c.commit.new.self s3 capacity) s3 (g.G.Ground.outside c.commit.new.base) (c.in_ok-commit-in-Ok-CommitFirst.ensures.done (c.tidy_step.ensures.tells ∙ tells_kept))
     (c.in_ok-commit-in-Ok-CommitFirst.ensures.knows (c.tidy_step.ensures.tells ∙ tells_kept) capacity committed now shrunk (first_stands capacity shrunk committed now old knows s0 stands knows_new s2 o2 touches tidied))
