@@ -28,11 +28,7 @@ fn take_try(tries: &mut u8) -> Result<(), Trouble>
 
 /// Makes a step of housekeeping, or the commit before it. Where memory is missing for the step and a try is left, what it put is dropped, what was
 /// put before it is committed, and the volume comes into service anew. Answers whether it rests.
-fn work<V: Volume, G: Ground>(
-    volume: &mut V,
-    base: &mut G,
-    tries: &mut u8,
-) -> Result<bool, Trouble>
+fn work<V: Volume, G: Ground>(volume: &mut V, base: &mut G, tries: &mut u8) -> Result<bool, Trouble>
     requires serves { (capacity : ℕ) × G.serves base.old capacity × (G.taken base.old ≤ capacity) }
     requires stands { IsTrue (G.space base.old).tells → SomeStands (V.knows volume.old (G.space base.old)) (G.space base.old) (G.outside base.old) }
     ensures goes { IsTrue (G.space base.old).tells → (capacity : ℕ) (committed now : Content) (shrunk : Option ℕ) → Stands (V.knows volume.old (G.space base.old) capacity) committed now shrunk (G.space base.old) (G.outside base.old)

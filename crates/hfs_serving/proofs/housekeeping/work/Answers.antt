@@ -1,12 +1,11 @@
-use Rattle.std.proofs.Common.{◌≡◌, ◌≤◌, [], ℕ, refl, sym, ◌∙◌, subst, Result, Ok, Err}
-use Rattle.std.specs.Prelude.{IsTrue, IfOk, OnOk, Option}
+use Rattle.std.proofs.Common.{◌≤◌, sym, ◌∙◌, subst, Result}
+use Rattle.std.specs.Prelude.{IsTrue, IfOk, OnOk}
 use Rattle.std.proofs.lemmas.Result.{err_from_is_err_and}
 use Rattle.hx_bytes.specs.declared.faults.Trouble.{Trouble}
-use Rattle.hfs_serving.specs.Faults.{Faults}
 use Rattle.hfs_serving.specs.Going.{TidiesTo}
 use Rattle.hfs_serving.specs.Grounds.{Anchor, ShowsJournal}
 use Rattle.hfs_serving.specs.declared.volume.Next.{Next}
-use Rattle.hfs_serving.proofs.Causes.{counts_both, counts_none, fine, handed}
+use Rattle.hfs_serving.proofs.Causes.{counts_both, fine, handed}
 use Rattle.hfs_serving.proofs.Going.{first_looks, first_rests, first_stands, first_stops, first_tidied, on_err, then_commits, then_commit_stops}
 use Rattle.hfs_serving.proofs.Undoing.{falls_short, kept_touches, stands_kept}
 use Rattle.hfs_serving.proofs.housekeeping.work.Goals as goal
@@ -127,7 +126,7 @@ pub commit-requires-clause-serves : goal.commit-requires-clause-serves
 commit-requires-clause-serves g c =
     let there = c.requires.serves in
     let last = subst (λ (q : Result Next Trouble). OnOk q (g.G.Ground.serves c.tidy_step.new.base there.0 × (g.G.Ground.taken c.tidy_step.new.base ≤ there.0))) c.in-Ok-CommitFirst.is
-        (c.tidy_step.ensures.still there.0 (c.keep.ensures.still there.0 there.1) (subst (λ n. n ≤ there.0) (sym c.keep.ensures.taken) there.2)) in
+    (c.tidy_step.ensures.still there.0 (c.keep.ensures.still there.0 there.1) (subst (λ n. n ≤ there.0) (sym c.keep.ensures.taken) there.2)) in
     (there.0, last.0, last.1)
 
 pub commit-requires-clause-stands : goal.commit-requires-clause-stands
@@ -327,4 +326,3 @@ pub returns-in_err-come_back-in-Err-Memory-clause-faults : goal.returns-in_err-c
 returns-in_err-come_back-in-Err-Memory-clause-faults g c =
     let p = err_from_is_err_and c.from_residual-in_err-come_back-in-Err-Memory.result c.from_residual-in_err-come_back-in-Err-Memory.ensures.1 in
     handed (counts_both c.keep.ensures.counts c.tidy_step.ensures.faults.counts) _ p.0 c.from_residual-in_err-come_back-in-Err-Memory.result c.in_err-come_back-in-Err-Memory.ensures.faults p.1 p.2
-

@@ -1,10 +1,8 @@
-use Rattle.std.proofs.Common.{◌≡◌, ◌≤◌, [], ℕ, refl, sym, ◌∙◌, ap, arith, subst}
+use Rattle.std.proofs.Common.{ℕ, ◌∙◌, arith, subst}
 use Rattle.std.specs.Prelude.{IsTrue, Option}
-use Rattle.std.proofs.lemmas.Result.{err_from_is_err_and}
 use Rattle.hfs_serving.specs.Going.{Stays}
 use Rattle.hfs_serving.specs.Grounds.{Anchor, ShowsJournal}
 use Rattle.hfs_serving.specs.Trying.{unknown}
-use Rattle.hfs_serving.proofs.Causes.{counts_both, fine, handed}
 use Rattle.hfs_serving.proofs.Going.{on_err}
 use Rattle.hfs_serving.proofs.Undoing.{comes_back, falls_back, falls_renew, renew_stops, undone_commit_stops}
 use Rattle.hfs_serving.proofs.returning.come_back.Goals as goal
@@ -62,8 +60,8 @@ renew-requires-clause-may g c tells_last =
     let s4 = g.G.SectorView.space c.commit.new.self in
     let shows = subst (λ (n : Anchor). ShowsJournal n.journal s4) (c.commit.ensures.anchor ∙ c.undo.ensures.anchor) (c.look-2.ensures.shows there.0 serves_then tells_last heads) in
     let renew =
-        falls_renew c.args.recalled was.3 was.4 was.5 was.6 (g.G.Ground.anchor c.args.base.now).journal (g.G.SectorView.space begun) (g.G.SectorView.space kept) (g.G.SectorView.space c.args.base.now) (g.G.Ground.outside begun) (g.G.Ground.outside kept) (g.G.Ground.outside c.args.base.now) short
-        (g.G.SectorView.space c.undo.new.self) s4 (g.G.Ground.outside c.undo.new.self) (g.G.Ground.outside c.commit.new.self) undoes c.undo.ensures.quiet (c.in_ok-commit.ensures.done tells_back) heads shows
+    falls_renew c.args.recalled was.3 was.4 was.5 was.6 (g.G.Ground.anchor c.args.base.now).journal (g.G.SectorView.space begun) (g.G.SectorView.space kept) (g.G.SectorView.space c.args.base.now) (g.G.Ground.outside begun) (g.G.Ground.outside kept) (g.G.Ground.outside c.args.base.now) short
+    (g.G.SectorView.space c.undo.new.self) s4 (g.G.Ground.outside c.undo.new.self) (g.G.Ground.outside c.commit.new.self) undoes c.undo.ensures.quiet (c.in_ok-commit.ensures.done tells_back) heads shows
     in
     (was.5, renew)
 

@@ -1,15 +1,13 @@
-use Rattle.std.proofs.Common.{◌≡◌, ◌≤◌, [], ℕ, refl, sym, ◌∙◌, subst, Result, Ok, Err}
-use Rattle.std.specs.Prelude.{IsTrue, IfOk, OnErr, OnOk, Option}
-use Rattle.std.proofs.lemmas.Result.{err_from_is_err_and}
+use Rattle.std.proofs.Common.{◌≡◌, ◌≤◌, sym, ◌∙◌, subst, Result}
+use Rattle.std.specs.Prelude.{IsTrue, IfOk, OnErr, OnOk}
 use Rattle.hx_bytes.specs.declared.faults.Trouble.{Trouble}
-use Rattle.hfs_serving.specs.Faults.{Faults}
 use Rattle.hfs_serving.specs.Going.{AnswersTo}
 use Rattle.hfs_serving.specs.Grounds.{Anchor, ShowsJournal}
 use Rattle.hfs_serving.specs.Said.{joined}
 use Rattle.hfs_serving.specs.Undoing.{short}
 use Rattle.hfs_serving.specs.declared.volume.ToTell.{ToTell}
 use Rattle.hfs_serving.specs.declared.volume.Step.{Step}
-use Rattle.hfs_serving.proofs.Causes.{counts_both, counts_none, fine, handed}
+use Rattle.hfs_serving.proofs.Causes.{counts_both, fine}
 use Rattle.hfs_serving.proofs.Going.{first_stops, memory_stops_tidy, on_err}
 use Rattle.hfs_serving.proofs.Tries.{made_tries}
 use Rattle.hfs_serving.proofs.Undoing.{falls_short, kept_touches, stands_kept}
