@@ -6,7 +6,7 @@ use Rattle.std.proofs.lemmas.List.{get_or_append_left, length-append, get_or-dro
 use Rattle.std.proofs.Math.Seq.{get_or-append_seam}
 use Rattle.jnl_replay.specs.Runs.{place_in_run, or_else, place_in_runs, place_in_both, IsRun, AreWhole, AreRuns, EndBy, IsNext, HaveNone}
 use Rattle.jnl_replay.specs.declared.runs.Run.{Run}
-use Rattle.jnl_replay.proofs.RunLaws.{in_run, out_of_run, none_of, runs_append, first_behind, all_before, whole_pushed}
+use Rattle.jnl_replay.proofs.RunLaws.{in_run, out_of_run, none_of, runs_append, first_behind, all_before, whole_pushed, whole_front}
 
 pub ended_later : (runs : List Run) (i at q : ℕ) → at ≤ q → EndBy runs i at → EndBy runs i q
 ended_later runs i at q up before none k less = omega (arith, up, before none k less)
@@ -144,12 +144,16 @@ merged_all older newer out at was none q = ⊎_elim
 -- ---- in order
 
 -- the two halves of some runs
-pub halved : (runs older newer : List Run) (n q : ℕ) → ((k : ℕ) → place_in_runs older k ≡ place_in_runs (take n runs) k) → ((k : ℕ) → place_in_runs newer k ≡ place_in_runs (drop n runs) k) → place_in_both older newer q ≡ place_in_runs runs q
-halved runs older newer n q front back =
-    (λ i. or_else (back q i) (front q i)) ∙ sym (runs_append (take n runs) (drop n runs) q) ∙ ap (λ (l : List Run). place_in_runs l q) (take-append-drop n runs)
+pub halved : (runs front back older newer : List Run) (n q : ℕ) → front ≡ take n runs → back ≡ drop n runs → place_in_runs older q ≡ place_in_runs front q → place_in_runs newer q ≡ place_in_runs back q
+    → place_in_both older newer q ≡ place_in_runs runs q
+halved runs front back older newer n q front_is back_is old new =
+    (λ i. or_else (new i) (old i)) ∙ (λ i. or_else (place_in_runs (back_is i) q) (place_in_runs (front_is i) q)) ∙ sym (runs_append (take n runs) (drop n runs) q) ∙ ap (λ (l : List Run). place_in_runs l q) (take-append-drop n runs)
 
-pub whole_back : (xs : List Run) (n : ℕ) → AreWhole xs → AreWhole (drop n xs)
-whole_back xs n whole none k inside = subst (λ (r : Run). IsRun r) (sym (get_or-drop n xs k none)) (whole none (n + k) (omega (arith, inside, length-drop n xs)))
+pub front_whole : (runs front : List Run) (n : ℕ) → front ≡ take n runs → n ≤ length runs → AreWhole runs → AreWhole front
+front_whole runs front n is few whole = subst (λ (l : List Run). AreWhole l) (sym is) (whole_front runs n whole few)
+
+pub back_whole : (runs back : List Run) (n : ℕ) → back ≡ drop n runs → AreWhole runs → AreWhole back
+back_whole runs back n is whole = subst (λ (l : List Run). AreWhole l) (sym is) (λ none k inside. subst (λ (r : Run). IsRun r) (sym (get_or-drop n runs k none)) (whole none (n + k) (omega (arith, inside, length-drop n runs))))
 
 pub one_in_order : (runs : List Run) → length runs < 2 → AreWhole runs → AreRuns runs
 one_in_order runs few whole = record { whole = whole; apart = λ none i j less inside. absurd (omega (arith, few, less, inside)) }

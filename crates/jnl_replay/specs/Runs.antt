@@ -16,10 +16,10 @@ abbrev pub place_in_runs : List Run → ℕ → Option ℕ
 place_in_runs [] at = None
 place_in_runs (run ∷ runs) at = or_else (place_in_runs runs at) (place_in_run run at)
 
--- A run has a sector, and its ends are numbers of 64 bits.
+-- A run has a sector, its end is a number of 32 bits, and that of its bytes one of 64 bits.
 pub record IsRun (run : Run) : Type 0 where
   pub some : 0 < run.many
-  pub sectors : run.first + run.many < 2 ^ 64
+  pub sectors : run.first + run.many < 2 ^ 32
   pub bytes : run.place + run.many * 512 < 2 ^ 64
 
 -- each of them is one

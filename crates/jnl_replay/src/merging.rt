@@ -1,5 +1,5 @@
 //! Runs of sectors in the order of their sectors, of which a later one stands before an earlier one.
-ghost use Rattle.std.specs.Prelude.{◌≡◌, ◌<◌, ◌≤◌, ◌+◌, ◌^◌, min, max, ℕ, length, slice_index_or, IfOk, MatchOption};
+ghost use Rattle.std.specs.Prelude.{◌≡◌, ◌<◌, ◌≤◌, ◌+◌, ◌^◌, min, max, ℕ, length, slice_index_or, take, drop, IfOk, OnOk, MatchOption};
 ghost use Rattle.jnl_replay.specs.Runs.{place_in_run, place_in_runs, place_in_both, IsRun, AreWhole, AreRuns, EndBy, IsNext, HaveNone};
 
 use crate::runs::{Run, push_run};
@@ -7,7 +7,7 @@ use hx_bytes::OutOfMemory;
 use std::alloc::Global;
 
 // What a run has from a sector on.
-fn from_sector(run: &Run, at: u64) -> Run
+fn from_sector(run: &Run, at: u32) -> Run
     requires run { IsRun run.now }
     requires inside { at < run.now.first + run.now.many }
     ensures run { IsRun result }
@@ -22,12 +22,12 @@ fn from_sector(run: &Run, at: u64) -> Run
     Run {
         first: at,
         many: run.many - into,
-        place: run.place + into * 512,
+        place: run.place + u64::from(into) * 512,
     }
 }
 
 // What a run has before a sector.
-fn before_sector(run: &Run, at: u64) -> Run
+fn before_sector(run: &Run, at: u32) -> Run
     requires run { IsRun run.now }
     requires inside { run.now.first < at }
     ensures run { IsRun result }
@@ -43,7 +43,7 @@ fn before_sector(run: &Run, at: u64) -> Run
 }
 
 // How many runs end by a sector, if so many do.
-fn skip(runs: &[Run], from: usize, at: u64) -> usize
+fn skip(runs: &[Run], from: usize, at: u32) -> usize
     requires runs { AreRuns runs.now }
     requires inside { from ≤ length runs.now }
     requires ended { EndBy runs.now from at }
@@ -63,7 +63,7 @@ fn skip(runs: &[Run], from: usize, at: u64) -> usize
 }
 
 // What two lists of runs have next from a sector on, by which so many of each end. Where both have a sector the newer one has the word.
-fn next_run(older: &[Run], i: usize, newer: &[Run], j: usize, at: u64) -> Option<Run>
+fn next_run(older: &[Run], i: usize, newer: &[Run], j: usize, at: u32) -> Option<Run>
     requires older { AreRuns older.now }
     requires newer { AreRuns newer.now }
     requires ended_older { EndBy older.now i at }
@@ -96,7 +96,7 @@ fn merge(alloc: Global, older: &[Run], newer: &[Run]) -> Result<Vec<Run>, OutOfM
     ensures runs { IfOk result (λ runs. AreRuns runs.items) }
     ensures same { IfOk result (λ runs. (q : ℕ) → place_in_runs runs.items q ≡ place_in_both older.now newer.now q) }
 {
-    let mut out = Vec::new(alloc);
+    let mut out = Vec::with_capacity(alloc, older.len() + newer.len())?;
     let mut i = 0;
     let mut j = 0;
     let mut at = 0;
@@ -111,26 +111,30 @@ fn merge(alloc: Global, older: &[Run], newer: &[Run]) -> Result<Vec<Run>, OutOfM
     }
 }
 
+// Takes the runs from an index on away, and gives them.
+fn take_back(alloc: Global, runs: &mut Vec<Run>, index: usize) -> Result<Vec<Run>, OutOfMemory>
+    requires { index ≤ length runs.old.items }
+    ensures front { OnOk result (runs.new.items ≡ take index runs.old.items) }
+    ensures back { IfOk result (λ back. back.items ≡ drop index runs.old.items) }
+{
+    let back = Vec::from_slice(alloc, &runs[index..])?;
+    runs.truncate(index);
+    Ok(back)
+}
+
 /// Puts runs into the order of their sectors. A later one stands before an earlier one, which keeps what lies on its sides.
-pub(crate) fn sort_runs(alloc: Global, runs: &[Run]) -> Result<Vec<Run>, OutOfMemory>
-    requires { AreWhole runs.now }
+pub(crate) fn sort_runs(alloc: Global, mut runs: Vec<Run>) -> Result<Vec<Run>, OutOfMemory>
+    requires { AreWhole runs.items }
     ensures runs { IfOk result (λ sorted. AreRuns sorted.items) }
-    ensures same { IfOk result (λ sorted. (q : ℕ) → place_in_runs sorted.items q ≡ place_in_runs runs.now q) }
+    ensures same { IfOk result (λ sorted. (q : ℕ) → place_in_runs sorted.items q ≡ place_in_runs runs.items q) }
 {
     let count = runs.len();
     if count < 2 {
-        return copy_runs(alloc, runs);
+        return Ok(runs);
     }
-    let middle = count / 2;
-    let older = sort_runs(alloc, &runs[..middle])?;
-    let newer = sort_runs(alloc, &runs[middle..])?;
+    let back = take_back(alloc, &mut runs, count / 2)?;
+    let older = sort_runs(alloc, runs)?;
+    let newer = sort_runs(alloc, back)?;
     let sorted = merge(alloc, &older, &newer)?;
     Ok(sorted)
-}
-
-fn copy_runs(alloc: Global, runs: &[Run]) -> Result<Vec<Run>, OutOfMemory>
-    ensures { IfOk result (λ copy. copy.items ≡ runs.now) }
-{
-    let copy = Vec::from_slice(alloc, runs)?;
-    Ok(copy)
 }

@@ -35,7 +35,7 @@ impl Peek {
         while let Some(home) = homes.next(disk)? {
             add_home(&mut runs, &home)?;
         }
-        let index = sort_runs(alloc, &runs)?;
+        let index = sort_runs(alloc, runs)?;
         Ok(Peek {
             text,
             sectors,

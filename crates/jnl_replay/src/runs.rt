@@ -8,14 +8,14 @@ use jnl_format::Home;
 /// So many sectors from a first one on, with the place of the first one's bytes in the text.
 #[derive(Clone, Copy, Debug, PartialEq, Eq)]
 pub struct Run {
-    pub first: u64,
-    pub many: u64,
+    pub first: u32,
+    pub many: u32,
     pub place: u64,
 }
 
 impl Run {
     /// The sector behind the last one.
-    pub(crate) fn end(&self) -> u64
+    pub(crate) fn end(&self) -> u32
         requires { IsRun self.now }
         ensures { result ≡ self.now.first + self.now.many }
     {
@@ -27,11 +27,12 @@ impl Run {
         requires { IsRun self.now }
         ensures { result ≡ place_in_run self.now at }
     {
-        if at < self.first {
+        let first = u64::from(self.first);
+        if at < first {
             return None;
         }
-        let into = at - self.first;
-        if into >= self.many {
+        let into = at - first;
+        if into >= u64::from(self.many) {
             return None;
         }
         Some(self.place + into * 512)
@@ -43,10 +44,10 @@ impl Run {
         ensures sector { IsTrue result → home.now.sector ≡ self.now.first + self.now.many }
         ensures place { IsTrue result → home.now.place ≡ self.now.place + self.now.many * 512 }
     {
-        if home.sector != self.first + self.many {
+        if home.sector != u64::from(self.end()) {
             return false;
         }
-        home.place == self.place + self.many * 512
+        home.place == self.place + u64::from(self.many) * 512
     }
 }
 
@@ -69,7 +70,7 @@ fn put_last(runs: &mut Vec<Run>, run: Run)
 
 /// Adds a home behind the runs that there are: to the last of them, where it goes on there. It stands in place of an earlier one of its sector.
 pub(crate) fn add_home(runs: &mut Vec<Run>, home: &Home) -> Result<(), OutOfMemory>
-    requires sector { home.now.sector + 1 < 2 ^ 64 }
+    requires sector { home.now.sector + 1 < 2 ^ 32 }
     requires place { home.now.place + 512 < 2 ^ 64 }
     requires whole { AreWhole runs.old.items }
     ensures puts { OnOk result ((q : ℕ) → place_in_runs runs.new.items q ≡ (if home.now.sector == q then Some home.now.place else place_in_runs runs.old.items q)) }
@@ -92,7 +93,7 @@ pub(crate) fn add_home(runs: &mut Vec<Run>, home: &Home) -> Result<(), OutOfMemo
     push_run(
         runs,
         Run {
-            first: home.sector,
+            first: home.sector as u32,
             many: 1,
             place: home.place,
         },
@@ -110,7 +111,7 @@ fn count_up_to(runs: &[Run], at: u64) -> usize
     let mut high = runs.len();
     while low < high {
         let middle = low + (high - low) / 2;
-        if runs[middle].first <= at {
+        if u64::from(runs[middle].first) <= at {
             low = middle + 1;
         } else {
             high = middle;

@@ -13,4 +13,4 @@ invariant-runs l = record {
 }
 
 abbrev pub decreases-runs : goal.decreases-runs
-decreases-runs l = 2 ^ 64 - l.at
+decreases-runs l = 2 ^ 32 - l.at

@@ -91,7 +91,7 @@ returns-clause-shows g c tells =
     let place : ℕ → Option ℕ = place_in_runs c.loop-runs.runs.items in
     let n : words cur.text (content s1) ≡ w = ap (λ (x : Text). words x (content s1)) inv.text ∙ same_words t s0 s1 inv.reads in
     let none = given_none volume w (words cur.text (content s1)) cur c.next.new.self i.rest c.in_ok-home.field-0 n c.in_default.is (c.in_ok-home.ensures.gives (tells_then s0 s1 inv.reads tells)) i.pending in
-    shown_is w c0 homes (place_in_runs c.in_ok-index.index.items) (λ at. c.in_ok-index.ensures.same at ∙ ap (λ (l : List Run). place_in_runs l at) c.deref.ensures.value ∙ indexed_end volume w cur homes place i none at)
+    shown_is w c0 homes (place_in_runs c.in_ok-index.index.items) (λ at. c.in_ok-index.ensures.same at ∙ indexed_end volume w cur homes place i none at)
     ∙ ap (λ (b : List ℕ). with_homes b homes c0) (words_of_plan c0 plan t same)
 
 pub add_home-requires-clause-sector : goal.add_home-requires-clause-sector
@@ -104,4 +104,4 @@ invariant_of-result-clause-runs g c = c.in_ok-index.ensures.runs
 
 pub invariant_of-result-clause-placed : goal.invariant_of-result-clause-placed
 invariant_of-result-clause-placed g c at place is =
-    c.loop-runs.invariant.placed at place (sym (c.in_ok-index.ensures.same at ∙ ap (λ (l : List Run). place_in_runs l at) c.deref.ensures.value) ∙ is)
+    c.loop-runs.invariant.placed at place (sym (c.in_ok-index.ensures.same at) ∙ is)
