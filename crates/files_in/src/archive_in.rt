@@ -55,9 +55,8 @@ impl<'a, R: Read + Drop> ArchiveIn<'a, R> {
         wishes: Wishes<'_>,
     ) -> Result<ArchiveIn<'a, R>, AllocError> {
         let alloc = notes.rt().alloc();
-        let date = wishes.dates.date(0).date;
         Ok(ArchiveIn {
-            ground: Ground::new(notes, wishes, date)?,
+            ground: Ground::new(notes, wishes, None)?,
             archive: Archive::new(alloc, input),
             waiting: None,
             is_reading: false,
@@ -403,7 +402,8 @@ impl<'a, R: Read + Drop> ArchiveIn<'a, R> {
     ) -> Result<(), AllocError> {
         let mut replaces = false;
         if let Found::There(facts) = found {
-            if !facts.folder && facts.size == item.size && facts.changed == item.date {
+            let is_same = facts.size == item.size && facts.changed == item.date;
+            if !facts.folder && is_same && !self.ground.is_doubtful() {
                 return self.keep(lines, item, &facts);
             }
             if let Some(why) = self.ground.lack_there(&facts) {

@@ -33,6 +33,8 @@ pub struct FolderIn<'a> {
     piece: Vec<u8>,
     /// Where the files are that have further names, by device and number.
     seen: BTreeMap<(u64, u64), First>,
+    /// The image itself, where it is a file.
+    image: Option<Identity>,
 }
 
 impl<'a> FolderIn<'a> {
@@ -45,7 +47,7 @@ impl<'a> FolderIn<'a> {
             return Err(io::Error::from(io::ErrorKind::NotADirectory));
         }
         let date = wishes.dates.date(attributes.changed).date;
-        let ground = Ground::new(notes, wishes, date)?;
+        let ground = Ground::new(notes, wishes, Some(date))?;
         let mut open = Vec::new(alloc);
         open.push(Open {
             shown: String::from_str(alloc, folder)?,
@@ -63,7 +65,13 @@ impl<'a> FolderIn<'a> {
             reading: None,
             piece: vec![in alloc; 0u8; PIECE]?,
             seen: BTreeMap::new(alloc),
+            image: None,
         })
+    }
+
+    /// This file is the image itself, and isn't put.
+    pub fn pass_over(&mut self, image: Option<Identity>) {
+        self.image = image;
     }
 
     /// The notes.
@@ -200,6 +208,13 @@ impl<'a> FolderIn<'a> {
                 return Ok(None);
             }
         };
+        if self.image == Some(attributes.identity) {
+            self.ground
+                .asking
+                .notes
+                .leave_out(shown.as_str(), "it is the image itself");
+            return Ok(None);
+        }
         if let Some(why) = lack_of(name, &attributes) {
             self.ground.asking.notes.leave_out(shown.as_str(), why);
             return Ok(None);
@@ -406,7 +421,8 @@ impl<'a> FolderIn<'a> {
             return self.gather(lines, entry, false);
         };
         let date = self.ground.dates.date(entry.attributes.changed).date;
-        if facts.folder || facts.size != entry.attributes.size || facts.changed != date {
+        let is_same = facts.size == entry.attributes.size && facts.changed == date;
+        if facts.folder || !is_same || self.ground.is_doubtful() {
             if let Some(why) = self.ground.lack_there(&facts) {
                 self.lose(&entry, why);
                 return Ok(());

@@ -51,7 +51,7 @@ pub(crate) struct Ground<'a> {
     pub(crate) over: bool,
     pub(crate) fresh: bool,
     top: String,
-    top_date: u32,
+    top_date: Option<u32>,
     /// The date that the folder has, as far as it is known.
     pub(crate) top_has: Option<u32>,
     stage: Stage,
@@ -62,11 +62,11 @@ pub(crate) struct Ground<'a> {
 }
 
 impl<'a> Ground<'a> {
-    /// Nothing was asked yet. The date is the one that the folder is to have.
+    /// Nothing was asked yet. The date is the one that the folder is to have, where that is known.
     pub(crate) fn new(
         notes: Notes<'a>,
         wishes: Wishes<'_>,
-        top_date: u32,
+        top_date: Option<u32>,
     ) -> Result<Ground<'a>, AllocError> {
         let alloc = notes.rt().alloc();
         let stage = if wishes.fresh {
@@ -154,6 +154,14 @@ impl<'a> Ground<'a> {
         }
     }
 
+    // Sets the moment to the date of the folder.
+    fn date_top(&mut self, lines: &mut Vec<u8>) -> Result<(), AllocError> {
+        match self.top_date {
+            Some(date) => self.asking.at(lines, date),
+            None => Ok(()),
+        }
+    }
+
     // Makes each folder on the way that isn't there, and asks for the last one.
     fn make_top(&mut self, lines: &mut Vec<u8>) -> Result<bool, AllocError> {
         let alloc = self.alloc();
@@ -162,7 +170,7 @@ impl<'a> Ground<'a> {
             if !name.is_empty() {
                 path.push('/')?;
                 path.push_str(name)?;
-                self.asking.at(lines, self.top_date)?;
+                self.date_top(lines)?;
                 self.asking
                     .path(lines, "mkdir", path.as_str(), Asked::Other)?;
             }
@@ -213,10 +221,14 @@ impl<'a> Ground<'a> {
         Ok(true)
     }
 
-    // Dates the folders that are left, and removes the folder of gathered files when none is in it.
+    // Removes the folder of gathered files when none is in it, and dates the folders that are left.
     fn end(&mut self, lines: &mut Vec<u8>) -> Result<bool, AllocError> {
         if !self.staging.is_idle() {
             return Ok(false);
+        }
+        if self.staging.is_made() {
+            self.date_top(lines)?;
+            self.staging.remove(&mut self.asking, lines)?;
         }
         if let Some(told) = self.undated.pop() {
             let alloc = self.alloc();
@@ -229,13 +241,13 @@ impl<'a> Ground<'a> {
             )?;
             return Ok(true);
         }
-        if self.staging.is_made() {
-            self.asking.at(lines, self.top_date)?;
-            self.asking
-                .path(lines, "rmdir", self.staging.folder(), Asked::Other)?;
-        }
         self.stage = Stage::Ended;
         Ok(false)
+    }
+
+    /// Whether a file that has the size and the date of another one may well differ from it, and is replaced.
+    pub(crate) fn is_doubtful(&self) -> bool {
+        self.over && matches!(self.dates, Dates::One(_))
     }
 
     /// Why what is there can't make way for a file.

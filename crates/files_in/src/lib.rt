@@ -16,4 +16,6 @@ pub use archive_in::ArchiveIn;
 pub use dates::Dates;
 pub use folder::FolderIn;
 pub use ground::Wishes;
+pub use listing::identity_of;
 pub use measure::sectors_for;
+pub use staging::Identity;

@@ -1,5 +1,6 @@
 //! How large a volume has to be that holds a folder.
 use crate::listing::{Kind, attributes_of, list};
+use crate::staging::Identity;
 use files_talk::child_of;
 use std::alloc::AllocError;
 use std::collections::BTreeSet;
@@ -30,14 +31,21 @@ struct Sum {
     bytes: u64,
 }
 
-/// The sectors of a volume that has room for all that a folder holds, as it stands now.
-pub fn sectors_for(rt: &HostRuntime, folder: &str) -> Result<u64, AllocError> {
+/// The sectors of a volume that has room for all that a folder holds, as it stands now, but for the image itself.
+pub fn sectors_for(
+    rt: &HostRuntime,
+    folder: &str,
+    image: Option<Identity>,
+) -> Result<u64, AllocError> {
     let alloc = rt.alloc();
     let mut sum = Sum {
         blocks: 0,
         bytes: 0,
     };
     let mut seen = BTreeSet::new(alloc);
+    if let Some(image) = image {
+        let _ = seen.insert(image.key())?;
+    }
     let mut open = Vec::new(alloc);
     open.push(String::from_str(alloc, folder)?)?;
     for _ in 0..u64::MAX {
@@ -68,8 +76,12 @@ fn measure(
         match found.kind {
             Kind::Folder => open.push(below)?,
             Kind::File => {
-                if found.names < 2 || seen.insert(found.identity.key())? {
+                let key = found.identity.key();
+                if !seen.contains(&key) {
                     sum.add_file(found.size);
+                    if found.names > 1 {
+                        let _ = seen.insert(key)?;
+                    }
                 }
             }
             Kind::Other(_) => {}

@@ -15,11 +15,11 @@ pub(crate) const MARK: &str = ".hfsx-files";
 /// The mode with which the volume makes a file.
 const USUAL_MODE: u16 = 0o644;
 
-/// Which file of the system a name is one of.
+/// Which file of the system a name is one of: its device, and its number there.
 #[derive(Clone, Copy, Debug, PartialEq, Eq)]
-pub(crate) struct Identity {
-    pub(crate) device: u64,
-    pub(crate) number: u64,
+pub struct Identity {
+    pub device: u64,
+    pub number: u64,
 }
 
 impl Identity {
@@ -92,6 +92,16 @@ impl Staging {
     /// The folder is there already.
     pub(crate) fn is_there(&mut self) {
         self.is_made = true;
+    }
+
+    /// Removes the folder, in which nothing is.
+    pub(crate) fn remove(
+        &mut self,
+        asking: &mut Asking<'_>,
+        lines: &mut Vec<u8>,
+    ) -> Result<(), AllocError> {
+        self.is_made = false;
+        asking.path(lines, "rmdir", self.folder.as_str(), Asked::Other)
     }
 
     /// Whether nothing is gathered and nothing is moved.
