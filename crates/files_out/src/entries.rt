@@ -73,9 +73,10 @@ impl<'a> Out<'a> {
                 false
             }
         };
-        if goes_in {
-            self.ask_entries(lines, node)?;
+        if !goes_in {
+            return Ok(true);
         }
+        self.ask_entries(lines, node)?;
         Ok(true)
     }
 
@@ -87,10 +88,13 @@ impl<'a> Out<'a> {
         facts: Facts,
     ) -> Result<bool, AllocError> {
         match self.wish {
+            Wish::Cat => {
+                self.ask_file(lines, node, facts)?;
+                return Ok(true);
+            }
+            Wish::Get { .. } | Wish::Tar => return self.take_out(lines, node, facts),
             Wish::List { long, .. } => self.list(&node, &facts, long)?,
             Wish::Stat => self.tell_facts(&node, &facts)?,
-            Wish::Cat => self.ask_file(lines, node, facts)?,
-            _ => return self.take_out(lines, node, facts),
         }
         Ok(true)
     }
@@ -192,7 +196,7 @@ impl<'a> Out<'a> {
             }
         };
         let place = place_of(self, folder, name.as_str())?;
-        if !name.as_str().is_ascii() && !composed.insert(name)? {
+        if !is_new(composed, name)? {
             return self.lose_for(
                 word.as_str(),
                 "its name in composed form is that of another entry",
@@ -201,6 +205,14 @@ impl<'a> Out<'a> {
         self.walk
             .find(Next::Facts(Node::new(alloc, word, place, false)))
     }
+}
+
+// Whether a name isn't that of an entry before it. Names of ASCII alone differ anyway.
+fn is_new(composed: &mut BTreeSet<String>, name: String) -> Result<bool, AllocError> {
+    if name.as_str().is_ascii() {
+        return Ok(true);
+    }
+    Ok(composed.insert(name)?)
 }
 
 // The place of an entry of a folder. An archive's members have no slash before them.

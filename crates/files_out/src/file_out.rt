@@ -60,12 +60,13 @@ impl<'a> Out<'a> {
 
     /// Gives a file that was made another name, and answers whether there was such a file.
     pub(crate) fn link(&mut self, node: &Node, facts: Facts) -> Result<bool, AllocError> {
-        let Some(first) = self.made.get(&facts.id) else {
-            return Ok(false);
+        let alloc = self.notes.rt().alloc();
+        let first = match self.made.get(&facts.id) {
+            Some(first) => String::from_str(alloc, first.as_str())?,
+            None => return Ok(false),
         };
         let place = node.place.as_str();
         if self.wish == Wish::Tar {
-            let alloc = self.notes.rt().alloc();
             self.tape
                 .link(alloc, &mut self.output, first.as_str(), place, facts)?;
             self.values.clear();
@@ -100,19 +101,24 @@ impl<'a> Out<'a> {
         facts: Facts,
         attributes: Vec<Attribute>,
     ) -> Result<(), AllocError> {
-        let alloc = self.notes.rt().alloc();
+        if self.wish == Wish::Tar {
+            let alloc = self.notes.rt().alloc();
+            self.tape.start(
+                alloc,
+                &mut self.output,
+                node.place.as_str(),
+                facts,
+                attributes,
+            )?;
+            self.current = Some(Current {
+                node,
+                facts,
+                whole: true,
+            });
+            return Ok(());
+        }
         let whole = match self.wish {
             Wish::Get { .. } => self.below.start(&mut self.notes, node.place.as_str())?,
-            Wish::Tar => {
-                self.tape.start(
-                    alloc,
-                    &mut self.output,
-                    node.place.as_str(),
-                    facts,
-                    attributes,
-                )?;
-                true
-            }
             _ => true,
         };
         self.current = Some(Current { node, facts, whole });

@@ -161,14 +161,14 @@ impl<'a> Out<'a> {
             at = at.saturating_add(PIECE as u64);
             self.walk.note(Asked::Piece { last: at >= size })?;
         }
-        if at < size {
-            self.walk.push(Next::Rest {
-                word,
-                from: at,
-                size,
-            })?;
+        if at >= size {
+            return Ok(());
         }
-        Ok(())
+        self.walk.push(Next::Rest {
+            word,
+            from: at,
+            size,
+        })
     }
 
     // Asks a piece of a file.

@@ -60,11 +60,10 @@ impl<'a> Out<'a> {
             let Some(word) = words.pop() else {
                 break;
             };
-            let word = if word.as_str() == "/" {
-                String::new(rt.alloc())
-            } else {
-                word
-            };
+            let mut word = word;
+            if word.as_str() == "/" {
+                word.clear();
+            }
             let place = String::from_str(rt.alloc(), folder)?;
             walk.push(Next::Facts(Node::new(rt.alloc(), word, place, true)))?;
         }
@@ -83,11 +82,11 @@ impl<'a> Out<'a> {
         })
     }
 
-    /// Ends the work when the volume was served: folders get their modes and dates, an archive its end, standard output what is left for
-    /// it. The sum of a `Get` is told on standard output, that of a `Tar` on standard error.
-    pub fn finish(&mut self) -> Result<(), AllocError> {
+    /// Ends the work: folders get their modes and dates, and standard output what is left for it. Where the volume was served to the end, an
+    /// archive gets its end, and the sum is told: that of a `Get` on standard output, that of a `Tar` on standard error.
+    pub fn finish(&mut self, served: bool) -> Result<(), AllocError> {
         self.below.finish(&mut self.notes)?;
-        if self.wish == Wish::Tar {
+        if served && self.wish == Wish::Tar {
             self.tape.finish(self.notes.rt().alloc(), &mut self.output)?;
         }
         self.output.flush();
@@ -95,7 +94,11 @@ impl<'a> Out<'a> {
             let why = error.to_string(self.notes.rt().alloc())?;
             self.notes.fail("standard output", why.as_str());
         }
-        self.tell_sum();
+        if served {
+            self.tell_sum();
+        } else {
+            self.notes.end();
+        }
         Ok(())
     }
 

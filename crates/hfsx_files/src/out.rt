@@ -33,7 +33,7 @@ pub(crate) fn take_out(rt: &HostRuntime, call: &Call) -> Result<u8, AllocError> 
     };
     match &mut talk.job().task {
         Task::Out(job) => {
-            job.finish()?;
+            job.finish(status == 0)?;
             Ok(if status == 0 { job.status() } else { status })
         }
         _ => Ok(status),
