@@ -113,33 +113,34 @@ impl<'a, R: Read + Drop> ArchiveIn<'a, R> {
         match self.archive.next_member(alloc) {
             Ok(Some(member)) => self.look_at(lines, member),
             Ok(None) => {
-                self.close();
+                self.close()?;
                 Ok(true)
             }
             Err(fault) => {
-                self.break_off(&fault);
+                self.break_off(&fault)?;
                 Ok(true)
             }
         }
     }
 
     // There are no more members.
-    fn close(&mut self) {
+    fn close(&mut self) -> Result<(), AllocError> {
         if self.owned > 0 {
             let owned = self.owned;
-            self.ground.asking.notes.remark(
-                "-",
-                format_args!("the owners of {owned} members aren't kept"),
-            );
+            let what = format!(in self.ground.alloc();
+                "the owners of {owned} members aren't kept"
+            )?;
+            self.ground.asking.notes.remark("-", what.as_str());
         }
         self.ground.close();
+        Ok(())
     }
 
     // The archive can't be read further.
-    fn break_off(&mut self, fault: &TarFault) {
+    fn break_off(&mut self, fault: &TarFault) -> Result<(), AllocError> {
         self.is_broken = true;
         self.ground.asking.notes.fail("the archive", fault.reason());
-        self.close();
+        self.close()
     }
 
     // Looks at a member, makes the folders above it, and asks whether it is there where it may be.
@@ -422,9 +423,7 @@ impl<'a, R: Read + Drop> ArchiveIn<'a, R> {
             replaces,
             identity: None,
         };
-        self.ground
-            .staging
-            .begin(&mut self.ground.asking, lines, wanted)?;
+        self.ground.begin(lines, wanted)?;
         let part = self.ground.staging.last_part()?;
         self.set_attributes(lines, part.as_str(), &item)?;
         self.is_reading = true;
@@ -467,11 +466,11 @@ impl<'a, R: Read + Drop> ArchiveIn<'a, R> {
                 asked,
             )? {
                 let name = String::from_utf8_lossy(alloc, attribute.name.as_slice())?;
-                let notes = &mut self.ground.asking.notes;
-                notes.doubt(
-                    item.shown.as_str(),
-                    format_args!("its attribute {name} isn't kept"),
-                );
+                let what = format!(in alloc; "its attribute {name} isn't kept")?;
+                self.ground
+                    .asking
+                    .notes
+                    .doubt(item.shown.as_str(), what.as_str());
             }
         }
         Ok(())
@@ -485,15 +484,12 @@ impl<'a, R: Read + Drop> ArchiveIn<'a, R> {
                 self.is_reading = false;
                 let why = String::from_str(self.ground.alloc(), fault.reason())?;
                 self.ground.staging.end(Some(why));
-                self.break_off(&fault);
-                return Ok(());
+                return self.break_off(&fault);
             }
         };
         if let Some(bytes) = self.piece.as_slice().get(..count) {
             if count > 0 && !self.ground.staging.is_lost() {
-                self.ground
-                    .staging
-                    .add(&mut self.ground.asking, lines, bytes)?;
+                self.ground.add(lines, bytes)?;
             }
         }
         if count < PIECE {
@@ -529,8 +525,7 @@ fn component_of(name: &str) -> Option<&'static str> {
 
 impl<'a, R: Read + Drop> Job for ArchiveIn<'a, R> {
     fn ask(&mut self, lines: &mut Vec<u8>) -> Result<(), AllocError> {
-        self.ground.asking.notes.progress();
-        self.ground.staging.settle(&mut self.ground.asking, lines)?;
+        self.ground.settle(lines)?;
         for _ in 0..u64::MAX {
             if self.ground.asking.is_full(lines.as_slice()) || !self.step(lines)? {
                 break;

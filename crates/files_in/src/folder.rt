@@ -482,8 +482,7 @@ impl<'a> FolderIn<'a> {
             ..
         } = entry.attributes;
         self.touch();
-        self.ground.staging.begin(
-            &mut self.ground.asking,
+        self.ground.begin(
             lines,
             Wanted {
                 word: entry.word,
@@ -529,9 +528,7 @@ impl<'a> FolderIn<'a> {
         let Some(bytes) = self.piece.as_slice().get(..count) else {
             return Ok(());
         };
-        self.ground
-            .staging
-            .add(&mut self.ground.asking, lines, bytes)
+        self.ground.add(lines, bytes)
     }
 
     // The file that is read has all its bytes.
@@ -566,8 +563,7 @@ fn further_names(identity: Identity, names: u64) -> Option<Identity> {
 
 impl<'a> Job for FolderIn<'a> {
     fn ask(&mut self, lines: &mut Vec<u8>) -> Result<(), AllocError> {
-        self.ground.asking.notes.progress();
-        self.ground.staging.settle(&mut self.ground.asking, lines)?;
+        self.ground.settle(lines)?;
         for _ in 0..u64::MAX {
             if self.ground.asking.is_full(lines.as_slice()) || !self.step(lines)? {
                 break;
@@ -580,7 +576,7 @@ impl<'a> Job for FolderIn<'a> {
         let Some(file) = self.ground.hear(reply)? else {
             return Ok(());
         };
-        let Wanted { word, identity, .. } = file.wanted;
+        let Wanted { word, identity, .. } = file.into_wanted();
         if let Some(identity) = identity {
             self.seen.insert(identity.key(), First { word, id: None })?;
         }

@@ -261,6 +261,22 @@ impl<'a> Ground<'a> {
         }
     }
 
+    /// Moves the files that are whole to their places. Each line before was answered.
+    pub(crate) fn settle(&mut self, lines: &mut Vec<u8>) -> Result<(), AllocError> {
+        self.asking.notes.progress();
+        self.staging.settle(&mut self.asking, lines)
+    }
+
+    /// Begins to gather a file.
+    pub(crate) fn begin(&mut self, lines: &mut Vec<u8>, wanted: Wanted) -> Result<(), AllocError> {
+        self.staging.begin(&mut self.asking, lines, wanted)
+    }
+
+    /// Adds bytes to the file that was begun last.
+    pub(crate) fn add(&mut self, lines: &mut Vec<u8>, bytes: &[u8]) -> Result<(), AllocError> {
+        self.staging.add(&mut self.asking, lines, bytes)
+    }
+
     /// The folder of what is told is dated at the end.
     pub(crate) fn date_later(&mut self, told: Told) -> Result<(), AllocError> {
         self.undated.push(told)?;

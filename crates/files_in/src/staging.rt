@@ -55,6 +55,14 @@ pub(crate) struct Gathered {
     is_whole: bool,
 }
 
+impl Gathered {
+    /// What it was gathered for.
+    pub(crate) fn into_wanted(self) -> Wanted {
+        let Gathered { wanted, .. } = self;
+        wanted
+    }
+}
+
 /// The folder of gathered files, those that are in it, and those that are on their way to their places.
 #[derive(Drop)]
 pub(crate) struct Staging {
