@@ -231,8 +231,8 @@ fn try_from(
     try_in_pieces(alloc, start, b"", lines, PIECE, reads, choice)
 }
 
-// Whether this was told, and is wanted after so many lines at least.
-fn is_one_of(wanted: &[Vec<u8>], least: u64, told: Option<Vec<u8>>) -> bool {
+/// Whether this was told, and is wanted after so many lines at least.
+pub fn is_one_of(wanted: &[Vec<u8>], least: u64, told: Option<Vec<u8>>) -> bool {
     let Some(told) = told else {
         return false;
     };

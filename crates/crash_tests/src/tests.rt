@@ -2,6 +2,7 @@
 use crate::crashes::{
     try_all, try_bytes, try_growth, try_one_batch, try_removals, try_two_growths, try_worn, worn,
 };
+use crate::faults::try_faults;
 use crate::journals::{Damage, HEADER, changed_sectors, is_refused, told_before_the_journal};
 use crate::reclaims::try_reclaims;
 use crate::replays::{is_replayed_after_two_stops, start_of};
@@ -386,5 +387,13 @@ fn a_journal_to_be_initialised_counts_as_empty(rt: HostRuntime) -> Result<(), Fa
 #[test]
 fn a_skipped_block_is_stepped_over(rt: HostRuntime) -> Result<(), Fail> {
     assert_eq!(rt; changed_sectors(rt.alloc())?, 2);
+    Ok(())
+}
+
+#[test]
+fn a_call_that_fails_ends_the_run_and_leaves_a_prefix(rt: HostRuntime) -> Result<(), Fail> {
+    let tried = try_faults(rt.alloc())?;
+    assert_eq!(rt; tried.wrong, None);
+    assert!(rt; 50 < tried.faults);
     Ok(())
 }

@@ -1,6 +1,6 @@
 -- The bits of an extent's blocks by the numbers of those that are set before blocks of the volume.
 use Rattle.std.proofs.Common.{◌≡◌, ◌<◌, ◌≤◌, ℕ, ◌+◌, ◌-◌, ◌*◌, ◌/◌, ◌%◌, ◌^◌, min, max, Bool, List, [], ◌∷◌, ◌++◌, length, take, get_or, refl, sym, ◌∙◌, ap, subst, arith, ⊎_elim}
-use Rattle.std.specs.Prelude.{Some, option_map, slice_get, slice_index}
+use Rattle.std.specs.Prelude.{Some, option_map, slice_get}
 use Rattle.std.specs.List.{count_by, range_with_len}
 use Rattle.std.proofs.lemmas.Bool.{cases_lt}
 use Rattle.std.proofs.lemmas.List.Sums.{count_by-le-length}
@@ -16,7 +16,8 @@ use Rattle.fork_map.specs.Blocks.{blocks_of, fork_sectors}
 use Rattle.fork_map.proofs.Laws.{sector_at_place}
 use Rattle.fork_map.proofs.SumLaws.{block_here}
 use Rattle.fsck_scan.specs.Read.{sector_or_zeros}
-use Rattle.fsck_core.specs.Behind.{fork_bit, set_up_to, reached, all_blocks, set_before, HasSums, IsWhole, IsExtentAt}
+use Rattle.fsck_core.specs.Behind.{fork_bit, set_up_to, reached, all_blocks, set_before, told_before, HasSums, IsWhole, IsExtentAt}
+use Rattle.fsck_core.specs.declared.sums.BlockSum.{BlockSum}
 use Rattle.fsck_core.proofs.BehindLaws.{same_on, split_count, saturated}
 
 abbrev none : Extent
@@ -92,11 +93,11 @@ module _ (content : Content) (limit total per : ℕ) where
       omega (arith, before_is blocks few, bits, most)
 
   -- the numbers of two blocks tell the bits between them
-  between : (sums : List ℕ) (start inside : ℕ) → total < 2 ^ 32 → per ≤ 128 → start + inside < length sums → start + inside ≤ total → HasSums content limit total per sums
-      → slice_index sums (start + inside) - slice_index sums start ≡ count_by volume_bit (range_with_len (start * per * 4096) (inside * per * 4096))
-  between sums start inside small short told within has =
-      let end : slice_index sums (start + inside) ≡ count_by volume_bit (range_with_len 0 ((start + inside) * per * 4096)) = has (start + inside) told ∙ before_fits (start + inside) within small short in
-      let begin : slice_index sums start ≡ count_by volume_bit (range_with_len 0 (start * per * 4096)) = has start (omega (arith, told)) ∙ before_fits start (omega (arith, within)) small short in
+  between : (start inside : ℕ) → total < 2 ^ 32 → per ≤ 128 → start + inside ≤ total
+      → told_before content limit total per (start + inside) - told_before content limit total per start ≡ count_by volume_bit (range_with_len (start * per * 4096) (inside * per * 4096))
+  between start inside small short within =
+      let end : told_before content limit total per (start + inside) ≡ count_by volume_bit (range_with_len 0 ((start + inside) * per * 4096)) = before_fits (start + inside) within small short in
+      let begin : told_before content limit total per start ≡ count_by volume_bit (range_with_len 0 (start * per * 4096)) = before_fits start (omega (arith, within)) small short in
       let split : (start + inside) * per ≡ start * per + inside * per = add-mul start inside per in
       let none_before : 0 + start * per * 4096 ≡ start * per * 4096 = omega arith in
       let long : (start + inside) * per * 4096 ≡ start * per * 4096 + inside * per * 4096 = omega (arith, split) in
@@ -115,22 +116,24 @@ sectors_more p total size at more first last =
     ap (λ n. count_by p (range_with_len total n)) whole ∙ split_count p total m (more * 4096) ∙ ap (λ a. count_by p (range_with_len total m) + count_by p (range_with_len a (more * 4096))) begin
 
 -- an extent whose blocks are whole sectors is counted by the numbers
-pub whole_counted : (content : Content) (limit total per size : ℕ) (sums : List ℕ) (es : List Extent) (index start inside front at upto before new : ℕ) → 0 < per → per ≤ 128 → total < 2 ^ 32
-    → IsExtentAt es index total start inside front → IsWhole total per size start inside front at upto (length sums) → HasSums content limit total per sums
-    → before ≡ min (set_up_to content limit (fork_sectors es per) total (8 * size) at) (2 ^ 64 - 1) → new ≡ min (before + (slice_index sums (start + inside) - slice_index sums start)) (2 ^ 64 - 1)
+pub whole_counted : (content : Content) (limit total per size : ℕ) (es : List Extent) (index start inside front at upto before new : ℕ) → 0 < per → per ≤ 128 → total < 2 ^ 32
+    → IsExtentAt es index total start inside front → IsWhole total per size inside front at upto
+    → before ≡ min (set_up_to content limit (fork_sectors es per) total (8 * size) at) (2 ^ 64 - 1) → new ≡ min (before + (told_before content limit total per (start + inside) - told_before content limit total per start)) (2 ^ 64 - 1)
     → new ≡ min (set_up_to content limit (fork_sectors es per) total (8 * size) (max at upto)) (2 ^ 64 - 1)
-whole_counted content limit total per size sums es index start inside front at upto before new some short small here whole has was is =
+whole_counted content limit total per size es index start inside front at upto before new some short small here whole was is =
     let sectors : List ℕ = fork_sectors es per in
+    let bits : ℕ = told_before content limit total per (start + inside) - told_before content limit total per start in
     let split : (front + inside) * per ≡ front * per + inside * per = add-mul front inside per in
     let next : max at upto ≡ at + inside * per = omega (arith, whole.begins, whole.ends, split) in
     let last : (at + inside * per) * 512 ≤ size = omega (arith, whole.last, whole.ends, whole.begins, split) in
     let more = sectors_more (fork_bit content limit sectors) total size at (inside * per) whole.first last in
-    let own : count_by (fork_bit content limit sectors) (range_with_len (at * 4096) (inside * per * 4096)) ≡ slice_index sums (start + inside) - slice_index sums start =
+    let own : count_by (fork_bit content limit sectors) (range_with_len (at * 4096) (inside * per * 4096)) ≡ bits =
     ⊎_elim
     (λ (outside : total < start).
     let empty : inside ≡ 0 = omega (arith, here.inside_is, outside) in
     let same : start + inside ≡ start = omega (arith, empty) in
-    ap (λ n. count_by (fork_bit content limit sectors) (range_with_len (at * 4096) n)) (none_long empty) ∙ nothing (slice_index sums start) ∙ ap (λ n. slice_index sums n - slice_index sums start) (sym same))
+    ap (λ n. count_by (fork_bit content limit sectors) (range_with_len (at * 4096) n)) (none_long empty) ∙ nothing (told_before content limit total per start)
+    ∙ ap (λ n. told_before content limit total per n - told_before content limit total per start) (sym same))
     (λ (within : start ≤ total).
     let few : inside ≤ (get_or es index none).count = omega (arith, here.inside_is) in
     let there : start + inside ≤ total = omega (arith, here.inside_is, within) in
@@ -138,9 +141,9 @@ whole_counted content limit total per size sums es index start inside front at u
     ap (λ n. count_by (fork_bit content limit sectors) (range_with_len (n * 4096) (inside * per * 4096))) whole.begins
     ∙ same_bits content limit total per es index front inside some here.within here.front_is few there_so
     ∙ ap (λ n. count_by (volume_bit content limit total per) (range_with_len (n * per * 4096) (inside * per * 4096))) (sym here.start_is)
-    ∙ sym (between content limit total per sums start inside small short whole.told there has))
+    ∙ sym (between content limit total per start inside small short there))
     (cases_lt total start) in
-    saturated (set_up_to content limit sectors total (8 * size) at) (slice_index sums (start + inside) - slice_index sums start) before new (2 ^ 64 - 1) was is
+    saturated (set_up_to content limit sectors total (8 * size) at) bits before new (2 ^ 64 - 1) was is
     ∙ ap (λ n. min (set_up_to content limit sectors total (8 * size) at + n) (2 ^ 64 - 1)) (sym own)
     ∙ ap (λ n. min n (2 ^ 64 - 1)) (sym more ∙ ap (λ n. set_up_to content limit sectors total (8 * size) n) (sym next))
   where
@@ -152,23 +155,38 @@ whole_counted content limit total per size sums es index start inside front at u
 
 -- ---- the numbers, one after the other
 
-pub sums_begin : (content : Content) (limit total per : ℕ) → 0 ≡ min (set_before content limit total per 0) (2 ^ 64 - 1)
+pub sums_begin : (content : Content) (limit total per : ℕ) → 0 ≡ told_before content limit total per 0
 sums_begin content limit total per =
     let whole : reached 0 (8 * (total * per * 512)) (0 * per) - 0 ≡ 0 = omega arith in
     sym (ap (λ n. min (count_by (volume_bit content limit total per) (range_with_len 0 n)) (2 ^ 64 - 1)) whole)
 
-pub sums_more : (content : Content) (limit total per block count : ℕ) (old new : List ℕ) → new ≡ old ++ count ∷ [] → length old ≡ block → HasSums content limit total per old
-    → count ≡ min (set_before content limit total per block) (2 ^ 64 - 1) → HasSums content limit total per new
-sums_more content limit total per block count old new is long has here i inside = ⊎_elim
-    (λ (before : i < length old). ap (λ (l : List ℕ). slice_index l i) is ∙ get_or_append_left old (count ∷ []) 0 i before ∙ has i before)
+pub sums_none : (content : Content) (limit total per : ℕ) (sums : List BlockSum) → sums ≡ [] → HasSums content limit total per sums
+sums_none content limit total per sums is none i inside = absurd (omega (arith, inside, ap (λ (l : List BlockSum). length l) is))
+
+pub sums_more : (content : Content) (limit total per : ℕ) (sum : BlockSum) (old new : List BlockSum) → new ≡ old ++ sum ∷ [] → HasSums content limit total per old → sum.bits ≡ told_before content limit total per sum.block
+    → HasSums content limit total per new
+sums_more content limit total per sum old new is has here d i inside = ⊎_elim
+    (λ (before : i < length old).
+    let same : get_or new i d ≡ get_or old i d = ap (λ (l : List BlockSum). get_or l i d) is ∙ get_or_append_left old (sum ∷ []) d i before in
+    subst (λ (s : BlockSum). s.bits ≡ told_before content limit total per s.block) (sym same) (has d i before))
     (λ (last : length old ≤ i).
-    let same : i ≡ length old = omega (arith, last, inside, longer) in
-    let at : i ≡ block = same ∙ long in
-    ap (λ (l : List ℕ). slice_index l i) is ∙ ap (λ k. slice_index (old ++ count ∷ []) k) same ∙ get_or-append_seam old count [] 0 ∙ here ∙ ap (λ k. min (set_before content limit total per k) (2 ^ 64 - 1)) (sym at))
+    let at : i ≡ length old = omega (arith, last, inside, longer) in
+    let same : get_or new i d ≡ sum = ap (λ (l : List BlockSum). get_or l i d) is ∙ ap (λ k. get_or (old ++ sum ∷ []) k d) at ∙ get_or-append_seam old sum [] d in
+    subst (λ (s : BlockSum). s.bits ≡ told_before content limit total per s.block) (sym same) here)
     (cases_lt i (length old))
   where
     longer : length new ≡ length old + 1
-    longer = ap (λ (l : List ℕ). length l) is ∙ length-append old (count ∷ [])
+    longer = ap (λ (l : List BlockSum). length l) is ∙ length-append old (sum ∷ [])
 
-pub sums_long : (block count : ℕ) (old new : List ℕ) → new ≡ old ++ count ∷ [] → length old ≡ block → length new ≡ block + 1
-sums_long block count old new is long = ap (λ (l : List ℕ). length l) is ∙ length-append old (count ∷ []) ∙ ap (λ n. n + 1) long
+-- ---- a number that is found
+
+pub found_sum : (content : Content) (limit total per : ℕ) (sums : List BlockSum) (k block : ℕ) (d : BlockSum) → HasSums content limit total per sums → k < length sums → (get_or sums k d).block ≡ block
+    → (get_or sums k d).bits ≡ told_before content limit total per block
+found_sum content limit total per sums k block d has inside is = has d k inside ∙ ap (λ n. told_before content limit total per n) is
+
+pub bits_between : (upto before last first bits : ℕ) → bits ≡ upto - before → upto ≡ last → before ≡ first → bits ≡ last - first
+bits_between upto before last first bits is last_is first_is = is ∙ (λ i. last_is i - first_is i)
+
+-- the sectors before a block of the volume are some of it
+pub ends_inside : (end total per : ℕ) → end ≤ total → end * per ≤ (total * per * 512 + 511) / 512
+ends_inside end total per few = let most : end * per ≤ total * per = mul-le-mul_right per few in omega (arith, most)

@@ -1,11 +1,12 @@
 -- The bits of a fork's bytes, and how many are set behind a place.
-use Rattle.std.specs.Prelude.{◌≡◌, ◌<◌, ◌≤◌, ℕ, ◌+◌, ◌-◌, ◌*◌, ◌/◌, ◌%◌, ◌^◌, min, max, Bool, List, [], ◌∷◌, length, take, slice_get, slice_index, slice_index_or}
+use Rattle.std.specs.Prelude.{◌≡◌, ◌<◌, ◌≤◌, ℕ, ◌+◌, ◌-◌, ◌*◌, ◌/◌, ◌%◌, ◌^◌, min, max, Bool, List, [], ◌∷◌, length, take, slice_get, slice_index_or}
 use Rattle.std.specs.List.{count_by, range_with_len}
 use Rattle.hx_bytes.specs.declared.extents.Extent.{Extent}
 use Rattle.fork_map.specs.Blocks.{blocks_of, fork_sectors}
 use Rattle.jnl_format.specs.Recovery.{Content}
 use Rattle.flag_rows.specs.Bits.{bit_of}
 use Rattle.fsck_scan.specs.Read.{sector_or_zeros}
+use Rattle.fsck_core.specs.declared.sums.BlockSum.{BlockSum}
 
 -- bit k of the bytes of a fork with these sectors, of which those below a limit belong to the volume
 unfoldable pub fork_bit : Content → ℕ → List ℕ → ℕ → Bool
@@ -31,17 +32,20 @@ all_blocks total = record { start = 0; count = total } ∷ []
 abbrev pub set_before : Content → ℕ → ℕ → ℕ → ℕ → ℕ
 set_before content limit total per blocks = set_up_to content limit (fork_sectors (all_blocks total) per) 0 (8 * (total * per * 512)) (blocks * per)
 
--- These are the numbers of bits set before each of the first blocks, one after the other.
-abbrev pub HasSums : Content → ℕ → ℕ → ℕ → List ℕ → Type 0
-HasSums content limit total per sums = (i : ℕ) → i < length sums → slice_index sums i ≡ min (set_before content limit total per i) (2 ^ 64 - 1)
+-- the number that is told of these
+abbrev pub told_before : Content → ℕ → ℕ → ℕ → ℕ → ℕ
+told_before content limit total per blocks = min (set_before content limit total per blocks) (2 ^ 64 - 1)
 
--- The blocks of an extent that lie in the volume are whole sectors of what is counted, from a place of the fork up to another, and there are numbers for them.
-pub record IsWhole (total per size start inside front at upto long : ℕ) : Type 0 where
+-- Each of these is how many bits are set before a block.
+abbrev pub HasSums : Content → ℕ → ℕ → ℕ → List BlockSum → Type 0
+HasSums content limit total per sums = (none : BlockSum) (i : ℕ) → i < length sums → (slice_index_or sums i none).bits ≡ told_before content limit total per (slice_index_or sums i none).block
+
+-- The blocks of an extent that lie in the volume are whole sectors of what is counted, from a place of the fork up to another.
+pub record IsWhole (total per size inside front at upto : ℕ) : Type 0 where
   pub begins : at ≡ front * per
   pub ends : upto ≡ (front + inside) * per
   pub first : total ≤ at * 4096
   pub last : upto * 512 ≤ size
-  pub told : start + inside < long
 
 -- An extent stands at a place of a fork, behind so many blocks of it, and so many of its own lie in the volume.
 pub record IsExtentAt (extents : List Extent) (index total start inside front : ℕ) : Type 0 where

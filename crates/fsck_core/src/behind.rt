@@ -1,5 +1,5 @@
 //! The bits of the allocation file behind those of blocks (rule 3).
-ghost use Rattle.std.specs.Prelude.{◌≡◌, ◌<◌, ◌≤◌, ◌-◌, ◌*◌, ◌/◌, ◌^◌, ◌+◌, ◌++◌, ◌∷◌, ℕ, [], min, max, length, slice_index, IsTrue, IfOk, OnOk, IsErrOf};
+ghost use Rattle.std.specs.Prelude.{◌≡◌, ◌<◌, ◌≤◌, ◌-◌, ◌*◌, ◌/◌, ◌^◌, ◌+◌, ℕ, min, max, length, IsTrue, IfOk, IsErrOf};
 ghost use Rattle.std.specs.List.{count_by, range_with_len};
 ghost use Rattle.hx_bytes.specs.declared.faults.Trouble.TheVariants.{Disk};
 ghost use Rattle.sector_disk.specs.Cause.{HasCause, Rose};
@@ -14,10 +14,11 @@ ghost use Rattle.fsck_core.specs.Behind.{set_between, set_up_to, all_blocks, Has
 ghost use Rattle.fsck_core.specs.Overflows.{overflows_in};
 
 use crate::overflow::{OverflowRow, fork_extents};
+use crate::sums::{BlockSum, blocks_inside, extent_ends, next_end, push_sum, sums_between};
 use flag_rows::bytes::bit;
 use fork_map::{ExtentList, SummedFork};
 use fsck_scan::{Fork, read_sector};
-use hx_bytes::{Extent, Failed, OutOfMemory, Sector, Trouble};
+use hx_bytes::{Extent, Failed, Sector, Trouble};
 use sector_disk::SectorView;
 use std::alloc::Global;
 use volume_header::VolumeHeader;
@@ -115,13 +116,6 @@ fn count_stretch<V: SectorView>(
     Ok(count)
 }
 
-/// How many blocks of an extent lie in a volume of so many.
-fn blocks_inside(extent: Extent, total: u32) -> u32
-    ensures { result ≡ min extent.count (total - extent.start) }
-{
-    extent.count.min(total.saturating_sub(extent.start))
-}
-
 /// The place of the first sector behind so many blocks of a fork, or an end that comes before it.
 fn place_behind(blocks: u128, per_block: u32, end: u64) -> u64
     requires { blocks < 2 ^ 96 }
@@ -130,20 +124,18 @@ fn place_behind(blocks: u128, per_block: u32, end: u64) -> u64
     (blocks * per_block as u128).min(end as u128) as u64
 }
 
-/// Whether the blocks of an extent that lie in the volume are whole sectors of what is counted, and there are so many numbers of bits.
+/// Whether the blocks of an extent that lie in the volume are whole sectors of what is counted.
 fn is_whole(
     total: u32,
     per_block: u32,
     size: u64,
-    start: u32,
     inside: u32,
     front: u128,
     at: u64,
     upto: u64,
-    long: usize,
 ) -> bool
     requires { front < 2 ^ 95 }
-    ensures { IsTrue result → IsWhole total per_block size start inside front at upto long }
+    ensures { IsTrue result → IsWhole total per_block size inside front at upto }
 {
     if at as u128 != front * per_block as u128 {
         return false;
@@ -157,29 +149,17 @@ fn is_whole(
     if upto > size / 512 {
         return false;
     }
-    if start as u64 + inside as u64 >= long as u64 {
-        return false;
-    }
     true
 }
 
-/// How many bits are set in blocks of a volume, by the numbers of those before each block.
-fn sums_between(sums: &[u64], start: u32, inside: u32) -> u64
-    requires { start + inside < length sums.now }
-    ensures { result ≡ slice_index sums.now (start + inside) - slice_index sums.now start }
-{
-    let end = sums[start as usize + inside as usize];
-    end.saturating_sub(sums[start as usize])
-}
-
-/// Adds to a count how many bits are set in the blocks of an extent that lie in the volume. Where there are the numbers of bits before each
-/// block, these tell it, and no sector is read.
+/// Adds to a count how many bits are set in the blocks of an extent that lie in the volume. Where the numbers of bits before its ends are told,
+/// no sector is read.
 fn count_extent<V: SectorView>(
     view: &mut V,
     fork: &Fork,
     total: u32,
     size: u64,
-    sums: &[u64],
+    sums: &[BlockSum],
     start: u32,
     inside: u32,
     front: u128,
@@ -200,53 +180,49 @@ fn count_extent<V: SectorView>(
     ensures below { V.follows view.old view.new }
     ensures cause { HasCause (V.space view.old).faults (V.space view.new).faults result }
 {
-    if is_whole(
-        total,
-        fork.per_block,
-        size,
-        start,
-        inside,
-        front,
-        at,
-        upto,
-        sums.len(),
-    ) {
-        return Ok(before.saturating_add(sums_between(sums, start, inside)));
+    if is_whole(total, fork.per_block, size, inside, front, at, upto) {
+        if let Some(bits) = sums_between(sums, start, inside) {
+            return Ok(before.saturating_add(bits));
+        }
     }
     count_stretch(view, fork, total, size, at, upto, before)
 }
 
-/// The numbers of bits that are set before each block of a volume, and before its end.
+/// The numbers of bits that are set before some blocks of a volume, read in one pass.
+#[tactic(auto, using(crate::proofs::BehindSums::ends_inside))]
 fn sum_bits<V: SectorView>(
     alloc: Global,
     view: &mut V,
     whole: &Fork,
     total: u32,
-) -> Result<Vec<u64>, Trouble>
+    ends: &[u32],
+) -> Result<Vec<BlockSum>, Trouble>
     requires few { whole.now.per_block ≤ 128 }
     ensures value { IsTrue (V.space view.old).tells → whole.now.extents.now ≡ all_blocks total → IfOk result (λ sums. HasSums (V.space view.old).content whole.now.limit total whole.now.per_block sums.items) }
     ensures reads { ReadsSpace (V.space view.old) (V.space view.new) }
     ensures below { V.follows view.old view.new }
     ensures disk { IsErrOf result Disk → Rose (V.space view.old).faults (V.space view.new).faults }
 {
-    let size = total as u64 * whole.per_block as u64 * 512;
+    let per_block = whole.per_block as u64;
+    let size = total as u64 * per_block * 512;
     let mut sums = Vec::new(alloc);
     let mut count = 0;
-    push_sum(&mut sums, count)?;
-    for block in 0..total {
-        let at = block as u64 * whole.per_block as u64;
-        let upto = at + whole.per_block as u64;
+    let mut done = 0;
+    for k in 0..ends.len() {
+        let end = next_end(ends[k], done, total);
+        let at = done as u64 * per_block;
+        let upto = end as u64 * per_block;
         count = count_stretch(view, whole, 0, size, at, upto, count)?;
-        push_sum(&mut sums, count)?;
+        push_sum(
+            &mut sums,
+            BlockSum {
+                block: end as u64,
+                bits: count,
+            },
+        )?;
+        done = end;
     }
     Ok(sums)
-}
-
-fn push_sum(sums: &mut Vec<u64>, sum: u64) -> Result<(), OutOfMemory>
-    ensures { OnOk result (sums.new.items ≡ sums.old.items ++ sum ∷ []) }
-{
-    sums.push(sum)?;
-    Ok(())
 }
 
 /// Whether so few sectors of a fork hold bits behind those of blocks that reading them all reads the volume once at most.
@@ -274,7 +250,7 @@ fn has_few(fork: &Fork, total: u32, size: u64) -> bool {
     true
 }
 
-/// The numbers of bits that are set before each block of a volume, where more sectors of a fork hold bits behind those of blocks than the volume
+/// The numbers of bits that are set before the ends of a fork's extents, where more sectors of it hold bits behind those of blocks than the volume
 /// has; none for any other fork, of which each of these sectors is read.
 fn read_sums<V: SectorView>(
     alloc: Global,
@@ -282,7 +258,7 @@ fn read_sums<V: SectorView>(
     fork: &Fork,
     total: u32,
     size: u64,
-) -> Result<Vec<u64>, Trouble>
+) -> Result<Vec<BlockSum>, Trouble>
     requires few { fork.now.per_block ≤ 128 }
     ensures value { IsTrue (V.space view.old).tells → IfOk result (λ sums. HasSums (V.space view.old).content fork.now.limit total fork.now.per_block sums.items) }
     ensures reads { ReadsSpace (V.space view.old) (V.space view.new) }
@@ -303,7 +279,8 @@ fn read_sums<V: SectorView>(
         per_block: fork.per_block,
         limit: fork.limit,
     };
-    sum_bits(alloc, view, &whole, total)
+    let ends = extent_ends(alloc, fork.extents, total)?;
+    sum_bits(alloc, view, &whole, total, &ends)
 }
 
 /// How many of a fork's bits are set behind so many, up to the end of so many bytes; no more than the largest number is told. Blocks outside
@@ -313,7 +290,7 @@ fn count_past<V: SectorView>(
     fork: &Fork,
     total: u32,
     size: u64,
-    sums: &[u64],
+    sums: &[BlockSum],
 ) -> Result<u64, Failed>
     requires few { fork.now.per_block ≤ 128 }
     requires some { 0 < fork.now.per_block }

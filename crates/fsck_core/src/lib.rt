@@ -30,6 +30,7 @@ mod rows;
 mod shared;
 mod sizes;
 mod stretch;
+mod sums;
 mod threads;
 mod trees;
 mod used;

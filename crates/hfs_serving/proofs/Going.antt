@@ -8,7 +8,7 @@ use Rattle.hfs_language.specs.declared.command.Command.{Command}
 use Rattle.hfs_volume.specs.Content.{volume_of}
 use Rattle.volume_runs.specs.Rest.{IsAtRest, IsTidiedFor, TidiesFor, no_step, one_step}
 use Rattle.volume_runs.specs.Run.{Entry, IsRunFrom, content_after, shrunk_in, lines_of}
-use Rattle.hfs_serving.specs.Going.{Knowing, Stands, Stays, Tidied, Answered, AnswersTo, ahead_of, asked_in, is_answered, wants_commit, GoesTidy, GoesRested, GoesOn, GoesWhole, ServesBatch, ServesLine, ServesLines, StopsLines, StopsOn, line_if}
+use Rattle.hfs_serving.specs.Going.{Knowing, Stands, Stays, Tidied, Answered, AnswersTo, ahead_of, asked_in, is_answered, wants_commit, GoesTidy, GoesRested, GoesOn, ServesBatch, ServesLine, ServesLines, StopsLines, StopsOn, line_if}
 use Rattle.hfs_serving.specs.declared.volume.Step.{Step}
 use Rattle.hfs_serving.specs.declared.volume.Step.TheVariants as step
 use Rattle.hfs_serving.specs.Outside.{Outside}

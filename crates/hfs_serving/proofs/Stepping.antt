@@ -20,7 +20,7 @@ use Rattle.hfs_serving.specs.Outside.{Outside}
 use Rattle.hfs_serving.specs.Serving.{TellsOut}
 use Rattle.hfs_serving.specs.Steps.{CrashesStep, IsStill, ServesStep}
 use Rattle.hfs_serving.proofs.Agreeing.{agrees_more, stands_durable}
-use Rattle.hfs_serving.proofs.Lists.{lines_of-append, replies_of-append, shrunk_in-append, shrunk_in-none}
+use Rattle.hfs_serving.proofs.Lists.{lines_of-append, replies_of-append, shrunk_in-append}
 use Rattle.hfs_serving.proofs.Stretches.{crashes_both, serves_both, serves_crashes, serves_none}
 use Rattle.hfs_serving.proofs.Leading.{leads_to_rest}
 use Rattle.hfs_serving.proofs.Batches.{stops_crashes, batch_tells_partly, batch_ends}

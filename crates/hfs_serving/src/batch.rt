@@ -1,11 +1,12 @@
 //! A batch: lines are answered in memory, housekeeping rests before each and behind the last, and one commit makes all durable.
-ghost use Rattle.std.specs.Prelude.{◌≡◌, ◌↔◌, ◌≤◌, ◌<◌, ◌+◌, ◌&&◌, [], ℕ, Bool, Option, None, IsTrue, IfOk, OnOk, OnErr, length};
+ghost use Rattle.std.specs.Prelude.{◌≡◌, ◌↔◌, ◌≤◌, ◌<◌, ◌+◌, ◌&&◌, [], ℕ, Bool, Option, None, IsTrue, IfOk, IsErrOf, OnOk, OnErr, length};
 ghost use Rattle.jnl_format.specs.Recovery.{Content};
-ghost use Rattle.hfs_serving.specs.Faults.{Faults};
+ghost use Rattle.hfs_serving.specs.Faults.{Faults, StopFaults};
 ghost use Rattle.hfs_serving.specs.Going.{GoesTidy, HasNoSync, ServesBatch, ServesLine, ServesLines, SomeStands, Stands, StopsLines, StopsOn, is_answered, sync_line, wants_commit};
 
 use crate::basis::Ground;
 use crate::housekeeping::{come_to_rest, tidy};
+use crate::telling::Stop;
 use crate::trying::attempt;
 use crate::volume::{Step, ToTell, Volume};
 use hx_bytes::{Bytes, Trouble};
@@ -14,7 +15,7 @@ use hx_bytes::{Bytes, Trouble};
 pub const MOST_LINES: usize = 32;
 
 /// Serves a line, before which housekeeping comes to rest. Where the line isn't the first of its batch and wants a commit before anything is done for
-/// it, it is left for the next batch. Answers whether it was served. `Memory` comes too where the line's steps are used up, `Disk` where a device failed.
+/// it, it is left for the next batch. Answers whether it was served. `Steps` comes where the line's steps are used up.
 pub fn serve_line<V: Volume, G: Ground>(
     volume: &mut V,
     base: &mut G,
@@ -22,7 +23,7 @@ pub fn serve_line<V: Volume, G: Ground>(
     line: &[u8],
     first: bool,
     told: &mut ToTell,
-) -> Result<bool, Trouble>
+) -> Result<bool, Stop>
     requires serves { (capacity : ℕ) × G.serves base.old capacity × (G.taken base.old ≤ capacity) }
     requires stands { IsTrue (G.space base.old).tells → SomeStands (V.knows volume.old (G.space base.old)) (G.space base.old) (G.outside base.old) }
     ensures goes { IsTrue (G.space base.old).tells → (capacity : ℕ) (committed now : Content) (shrunk : Option ℕ) → Stands (V.knows volume.old (G.space base.old) capacity) committed now shrunk (G.space base.old) (G.outside base.old)
@@ -32,7 +33,8 @@ pub fn serve_line<V: Volume, G: Ground>(
     ensures still { (capacity : ℕ) → G.serves base.old capacity → G.taken base.old ≤ capacity → OnOk result (G.serves base.new capacity × (G.taken base.new ≤ capacity)) }
     ensures tells { OnOk result ((G.space base.new).tells ≡ (G.space base.old).tells) }
     ensures anchor { G.anchor base.new ≡ G.anchor base.old }
-    ensures faults { Faults (G.failed base.old) (G.space base.old) (G.failed base.new) (G.space base.new) result }
+    ensures faults { StopFaults (G.failed base.old) (G.space base.old) (G.failed base.new) (G.space base.new) ⊥ result }
+    ensures no_many { IsErrOf result Stop.TooMany → ⊥ }
 {
     if !tidy(volume, base)? {
         return Ok(false);
@@ -49,8 +51,8 @@ pub fn serve_line<V: Volume, G: Ground>(
         make_room(volume, base, step == Step::CommitFirst)?;
         may_wait = false;
     }
-    // Its steps are used up; something was done for it, so it isn't left.
-    Err(Trouble::Memory)
+    // Something was done for it, so it isn't left.
+    Err(Stop::Steps)
 }
 
 fn is_answered(step: Step) -> bool
@@ -114,7 +116,7 @@ fn serve_lines<V: Volume, G: Ground>(
     number: u64,
     lines: &[Bytes],
     told: &mut ToTell,
-) -> Result<usize, Trouble>
+) -> Result<usize, Stop>
     requires serves { (capacity : ℕ) × G.serves base.old capacity × (G.taken base.old ≤ capacity) }
     requires numbers { number + length lines.now ≤ 4294967295 }
     requires stands { IsTrue (G.space base.old).tells → SomeStands (V.knows volume.old (G.space base.old)) (G.space base.old) (G.outside base.old) }
@@ -128,7 +130,8 @@ fn serve_lines<V: Volume, G: Ground>(
     ensures still { (capacity : ℕ) → G.serves base.old capacity → G.taken base.old ≤ capacity → OnOk result (G.serves base.new capacity × (G.taken base.new ≤ capacity)) }
     ensures tells { OnOk result ((G.space base.new).tells ≡ (G.space base.old).tells) }
     ensures anchor { G.anchor base.new ≡ G.anchor base.old }
-    ensures faults { Faults (G.failed base.old) (G.space base.old) (G.failed base.new) (G.space base.new) result }
+    ensures faults { StopFaults (G.failed base.old) (G.space base.old) (G.failed base.new) (G.space base.new) ⊥ result }
+    ensures no_many { IsErrOf result Stop.TooMany → ⊥ }
 {
     for at in 0..lines.len() {
         if at == MOST_LINES {
@@ -160,7 +163,7 @@ pub fn serve_batch<V: Volume, G: Ground>(
     number: u64,
     lines: &[Bytes],
     told: &mut ToTell,
-) -> Result<usize, Trouble>
+) -> Result<usize, Stop>
     requires serves { (capacity : ℕ) × G.serves base.old capacity × (G.taken base.old ≤ capacity) }
     requires numbers { number + length lines.now ≤ 4294967295 }
     requires stands { IsTrue (G.space base.old).tells → SomeStands (V.knows volume.old (G.space base.old)) (G.space base.old) (G.outside base.old) }
@@ -177,7 +180,8 @@ pub fn serve_batch<V: Volume, G: Ground>(
     ensures still { (capacity : ℕ) → G.serves base.old capacity → G.taken base.old ≤ capacity → OnOk result (G.serves base.new capacity × (G.taken base.new ≡ 0)) }
     ensures tells { OnOk result ((G.space base.new).tells ≡ (G.space base.old).tells) }
     ensures anchor { G.anchor base.new ≡ G.anchor base.old }
-    ensures faults { Faults (G.failed base.old) (G.space base.old) (G.failed base.new) (G.space base.new) result }
+    ensures faults { StopFaults (G.failed base.old) (G.space base.old) (G.failed base.new) (G.space base.new) ⊥ result }
+    ensures no_many { IsErrOf result Stop.TooMany → ⊥ }
 {
     let count = serve_lines(volume, base, number, lines, told)?;
     // (what they left is reclaimed)

@@ -7,5 +7,4 @@ returns c whole = record {
   ends = c.if-upto-front.false;
   first = omega (arith, c.if-at-div_ceil.false, c.div_ceil.ensures);
   last = omega (arith, c.if-upto-size.false);
-  told = c.if-start-inside.false;
 }

@@ -2,7 +2,8 @@ use Rattle.std.proofs.Common.{◌∙◌, sym, subst}
 use Rattle.std.specs.Prelude.{IsTrue}
 use Rattle.hfs_serving.proofs.Going.{batch_rests, lines_stop, on_err, rested_stops, stands_in_lines, stands_rested, stands_there}
 use Rattle.std.proofs.lemmas.Result.{err_from_is_err_and}
-use Rattle.hfs_serving.proofs.Causes.{counts_both, counts_none, fine, handed}
+use Rattle.hfs_serving.proofs.Numbering.{no_trouble, too_many}
+use Rattle.hfs_serving.proofs.Causes.{counts_both, counts_none, fine_stop, handed_on, handed_stop}
 use Rattle.hfs_serving.proofs.batch.serve_batch.Goals as goal
 
 pub returns-in_err-count-clause-stops : goal.returns-in_err-count-clause-stops
@@ -97,18 +98,33 @@ returns-clause-serves g c tells capacity start shrunk stands =
 pub returns-in_err-count-clause-faults : goal.returns-in_err-count-clause-faults
 returns-in_err-count-clause-faults g c =
     let p = err_from_is_err_and c.from_residual.result c.from_residual.ensures.1 in
-    handed (counts_none _ _) _ p.0 c.from_residual.result c.in_err-count.ensures.faults p.1 p.2
+    handed_on (counts_none _ _) ⊥ ⊥ _ p.0 c.from_residual.result (λ never. never) c.in_err-count.ensures.faults p.1 p.2
 
 pub returns-in_err-come_to_rest-clause-faults : goal.returns-in_err-come_to_rest-clause-faults
 returns-in_err-come_to_rest-clause-faults g c =
     let p = err_from_is_err_and c.from_residual-in_err-come_to_rest.result c.from_residual-in_err-come_to_rest.ensures.1 in
-    handed (c.serve_lines.ensures.faults.counts) _ p.0 c.from_residual-in_err-come_to_rest.result c.in_err-come_to_rest.ensures.faults p.1 p.2
+    handed_on (c.serve_lines.ensures.faults.counts) ⊥ ⊥ _ p.0 c.from_residual-in_err-come_to_rest.result (λ never. never) c.in_err-come_to_rest.ensures.faults p.1 p.2
 
 pub returns-in_err-commit-clause-faults : goal.returns-in_err-commit-clause-faults
 returns-in_err-commit-clause-faults g c =
     let p = err_from_is_err_and c.from_residual-in_err-commit.result c.from_residual-in_err-commit.ensures.1 in
-    handed (counts_both c.serve_lines.ensures.faults.counts c.come_to_rest.ensures.faults.counts) _ p.0 c.from_residual-in_err-commit.result c.in_err-commit.ensures.faults p.1 p.2
+    handed_stop (counts_both c.serve_lines.ensures.faults.counts c.come_to_rest.ensures.faults.counts) ⊥ _ p.0 c.from_residual-in_err-commit.result c.in_err-commit.ensures.faults p.1 p.2
 
 pub returns-clause-faults : goal.returns-clause-faults
 returns-clause-faults g c =
-    fine (counts_both (counts_both c.serve_lines.ensures.faults.counts c.come_to_rest.ensures.faults.counts) c.commit.ensures.faults.counts) _
+    fine_stop (counts_both (counts_both c.serve_lines.ensures.faults.counts c.come_to_rest.ensures.faults.counts) c.commit.ensures.faults.counts) ⊥ _
+
+pub returns-in_err-count-clause-no_many : goal.returns-in_err-count-clause-no_many
+returns-in_err-count-clause-no_many g c is =
+    let p = err_from_is_err_and c.from_residual.result c.from_residual.ensures.1 in
+    c.in_err-count.ensures.no_many (too_many _ p.0 c.from_residual.result p.1 p.2 is)
+
+pub returns-in_err-come_to_rest-clause-no_many : goal.returns-in_err-come_to_rest-clause-no_many
+returns-in_err-come_to_rest-clause-no_many g c is =
+    let p = err_from_is_err_and c.from_residual-in_err-come_to_rest.result c.from_residual-in_err-come_to_rest.ensures.1 in
+    c.in_err-come_to_rest.ensures.no_many (too_many _ p.0 c.from_residual-in_err-come_to_rest.result p.1 p.2 is)
+
+pub returns-in_err-commit-clause-no_many : goal.returns-in_err-commit-clause-no_many
+returns-in_err-commit-clause-no_many g c is =
+    let p = err_from_is_err_and c.from_residual-in_err-commit.result c.from_residual-in_err-commit.ensures.1 in
+    no_trouble _ p.0 c.from_residual-in_err-commit.result p.1 p.2 is

@@ -6,7 +6,8 @@ use Rattle.volume_runs.specs.Run.{shrunk_in}
 use Rattle.hfs_serving.proofs.Going.{lines_none, lines_on, lines_stop, on_err, stands_in_lines}
 use Rattle.hfs_serving.proofs.Syncing.{no_sync_more, no_sync_yet}
 use Rattle.std.proofs.lemmas.Result.{err_from_is_err_and}
-use Rattle.hfs_serving.proofs.Causes.{counts_both, counts_none, fine, handed}
+use Rattle.hfs_serving.proofs.Numbering.{too_many}
+use Rattle.hfs_serving.proofs.Causes.{counts_both, counts_none, fine_stop, handed_on}
 use Rattle.hfs_serving.proofs.batch.serve_lines.Goals as goal
 
 pub loop-at-init : goal.loop-at-init
@@ -126,21 +127,26 @@ returns-clause-tells g c = c.loop-at.invariant.tells
 
 pub returns-then-at-eq-MOST_LINES-clause-faults : goal.returns-then-at-eq-MOST_LINES-clause-faults
 returns-then-at-eq-MOST_LINES-clause-faults g c =
-    fine c.loop-at.invariant.counts _
+    fine_stop c.loop-at.invariant.counts ⊥ _
 
 pub returns-in_err-serve_line-clause-faults : goal.returns-in_err-serve_line-clause-faults
 returns-in_err-serve_line-clause-faults g c =
     let p = err_from_is_err_and c.from_residual.result c.from_residual.ensures.1 in
-    handed (c.loop-at.invariant.counts) _ p.0 c.from_residual.result c.in_err-serve_line.ensures.faults p.1 p.2
+    handed_on (c.loop-at.invariant.counts) ⊥ ⊥ _ p.0 c.from_residual.result (λ never. never) c.in_err-serve_line.ensures.faults p.1 p.2
 
 pub returns-then-not-branch-clause-faults : goal.returns-then-not-branch-clause-faults
 returns-then-not-branch-clause-faults g c =
-    fine (counts_both c.loop-at.invariant.counts c.serve_line.ensures.faults.counts) _
+    fine_stop (counts_both c.loop-at.invariant.counts c.serve_line.ensures.faults.counts) ⊥ _
 
 pub returns-then-is_sync-clause-faults : goal.returns-then-is_sync-clause-faults
 returns-then-is_sync-clause-faults g c =
-    fine (counts_both c.loop-at.invariant.counts c.serve_line.ensures.faults.counts) _
+    fine_stop (counts_both c.loop-at.invariant.counts c.serve_line.ensures.faults.counts) ⊥ _
 
 pub returns-clause-faults : goal.returns-clause-faults
 returns-clause-faults g c =
-    fine c.loop-at.invariant.counts _
+    fine_stop c.loop-at.invariant.counts ⊥ _
+
+pub returns-in_err-serve_line-clause-no_many : goal.returns-in_err-serve_line-clause-no_many
+returns-in_err-serve_line-clause-no_many g c is =
+    let p = err_from_is_err_and c.from_residual.result c.from_residual.ensures.1 in
+    c.in_err-serve_line.ensures.no_many (too_many _ p.0 c.from_residual.result p.1 p.2 is)

@@ -1,4 +1,4 @@
-use Rattle.std.proofs.Common.{[], refl, ◌∙◌, subst}
+use Rattle.std.proofs.Common.{refl, ◌∙◌, subst}
 use Rattle.std.specs.Prelude.{IsTrue}
 use Rattle.hfs_serving.proofs.Going.{begins, on_err, stands_there, tidy_both, tidy_rested, tidy_stops}
 use Rattle.std.proofs.lemmas.Result.{err_from_is_err_and}

@@ -9,8 +9,8 @@ use Rattle.hfs_serving.specs.Serving.{TellsOut}
 use Rattle.hfs_serving.proofs.Going.{on_err}
 use Rattle.hfs_serving.proofs.Stepping.{partly_heard, step_heard, step_serves, step_stops, step_tells_partly, stops_heard}
 use Rattle.std.proofs.lemmas.Result.{err_from_is_err_and}
-use Rattle.hfs_serving.proofs.Causes.{counts_both, counts_none, fine_stop, handed_stop, sink_stop}
-use Rattle.hfs_serving.proofs.Numbering.{no_trouble}
+use Rattle.hfs_serving.proofs.Causes.{counts_both, counts_none, fine_stop, handed_on, sink_stop}
+use Rattle.hfs_serving.proofs.Numbering.{too_many}
 use Rattle.hfs_serving.proofs.telling.serve_step.Goals as goal
 
 pub returns-in_err-count-clause-stops : goal.returns-in_err-count-clause-stops
@@ -51,7 +51,7 @@ returns-clause-stops g c tells capacity start shrunk stands =
 pub returns-in_err-count-clause-faults : goal.returns-in_err-count-clause-faults
 returns-in_err-count-clause-faults g c =
     let p = err_from_is_err_and c.from_residual.result c.from_residual.ensures.1 in
-    handed_stop (counts_none _ _) (⊥) _ p.0 c.from_residual.result c.in_err-count.ensures.faults p.1 p.2
+    handed_on (counts_none _ _) ⊥ ⊥ _ p.0 c.from_residual.result (λ never. never) c.in_err-count.ensures.faults p.1 p.2
 
 pub returns-in-Ok-clause-faults : goal.returns-in-Ok-clause-faults
 returns-in-Ok-clause-faults g c =
@@ -62,9 +62,9 @@ returns-clause-faults g c =
     sink_stop c.serve_batch.ensures.faults.counts c.tell_all-2.ensures.counts c.in-Err.ensures.cause.failed
 
 pub returns-in_err-count-clause-no_many : goal.returns-in_err-count-clause-no_many
-returns-in_err-count-clause-no_many g c =
+returns-in_err-count-clause-no_many g c is =
     let p = err_from_is_err_and c.from_residual.result c.from_residual.ensures.1 in
-    no_trouble _ p.0 c.from_residual.result p.1 p.2
+    c.in_err-count.ensures.no_many (too_many _ p.0 c.from_residual.result p.1 p.2 is)
 
 pub returns-in-Ok-clause-no_many : goal.returns-in-Ok-clause-no_many
 returns-in-Ok-clause-no_many g c is = absurd (cc is)

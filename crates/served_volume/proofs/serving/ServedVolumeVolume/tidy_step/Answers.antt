@@ -3,6 +3,7 @@ use Rattle.std.specs.Prelude.{Option, Result}
 use Rattle.alloc_bitmap.specs.Untold.{told_none}
 use Rattle.hx_bytes.specs.declared.faults.Trouble.{Trouble}
 use Rattle.hfs_serving.specs.Faults.{Faults}
+use Rattle.hfs_serving.proofs.Agreeing.{agrees_self}
 use Rattle.hfs_serving.proofs.Causes.{counts_none, handed}
 use Rattle.volume_space.proofs.Sounding.{sound_here}
 use Rattle.volume_base.specs.Keeping.{shrunk_of}
@@ -11,6 +12,7 @@ use Rattle.volume_base.specs.Standing.{IsSettled, StandsOver}
 use Rattle.volume_space.specs.declared.tidying.Tidying.{Tidying}
 use Rattle.volume_step.specs.Steps.{KeepsJournal}
 use Rattle.volume_step.specs.Tidying.{ReclaimsAs}
+use Rattle.served_volume.proofs.Anew.{own_then}
 use Rattle.served_volume.proofs.Calls.{faults_of_call, on_any, on_value, quiet, short, value_of}
 use Rattle.served_volume.proofs.Heading.{journal_alike}
 use Rattle.served_volume.proofs.Seen.{touches_space}
@@ -97,6 +99,24 @@ returns-in-Err-clause-faults g c =
     let counts = c.look.ensures.counts c.args.base.now c.tidy-came.ensures.below (c.tidy-came.ensures.touches []).same.sink_faults in
     handed (counts_none _ _) c.in-Err.trouble c.in-Err.trouble _
     (subst (λ (r : Result Tidying Trouble). Faults (g.G.Ground.failed c.args.base.now) (g.G.SectorView.space c.args.base.now) (g.G.Ground.failed c.tidy-came.new.space) (g.G.SectorView.space c.tidy-came.new.space) r) c.in-Err.is (faults_of_call c.tidy-came.result counts c.tidy-came.ensures.cause)) refl refl
+
+pub returns-then-is_elsewhere-clause-own : goal.returns-then-is_elsewhere-clause-own
+returns-then-is_elsewhere-clause-own g c tells capacity committed now shrunk stands = agrees_self _ _
+
+pub returns-in-Ok-clause-own : goal.returns-in-Ok-clause-own
+returns-in-Ok-clause-own g c tells capacity committed now shrunk stands = own_then c.args.self.now.volume capacity committed now shrunk _ (g.G.SectorView.space c.args.base.now) (g.G.SectorView.space c.tidy-came.new.space) tells stands.known (λ content holds laid. c.tidy-came.ensures.touches content)
+
+pub returns-in-Err-clause-own : goal.returns-in-Err-clause-own
+returns-in-Err-clause-own g c tells capacity committed now shrunk stands = own_then c.args.self.now.volume capacity committed now shrunk _ (g.G.SectorView.space c.args.base.now) (g.G.SectorView.space c.tidy-came.new.space) tells stands.known (λ content holds laid. c.tidy-came.ensures.touches content)
+
+pub returns-then-is_elsewhere-clause-below : goal.returns-then-is_elsewhere-clause-below
+returns-then-is_elsewhere-clause-below g c = g.met.G.SectorView.follows_refl c.args.base.now
+
+pub returns-in-Ok-clause-below : goal.returns-in-Ok-clause-below
+returns-in-Ok-clause-below g c = c.tidy-came.ensures.below
+
+pub returns-in-Err-clause-below : goal.returns-in-Err-clause-below
+returns-in-Err-clause-below g c = c.tidy-came.ensures.below
 
 pub invariant_of-self : goal.invariant_of-self
 invariant_of-self g c =
