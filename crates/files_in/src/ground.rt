@@ -166,7 +166,8 @@ impl<'a> Ground<'a> {
     fn make_top(&mut self, lines: &mut Vec<u8>) -> Result<bool, AllocError> {
         let alloc = self.alloc();
         let mut path = String::new(alloc);
-        for name in self.top.as_str().split('/') {
+        let top = self.top.clone()?;
+        for name in top.as_str().split('/') {
             if !name.is_empty() {
                 path.push('/')?;
                 path.push_str(name)?;
