@@ -1,7 +1,7 @@
 //! What the job asks, and how it hears the replies.
 
 use crate::out::Out;
-use crate::walk::{Asked, Next, Node};
+use crate::walk::{Asked, Next, Node, Rest};
 use crate::wish::Wish;
 use files_talk::{Facts, Job, PIECE, facts_of, push_number, push_path, reason_of};
 use std::alloc::AllocError;
@@ -14,8 +14,11 @@ const MOST_BYTES: u64 = 720_896;
 
 impl<'a> Job for Out<'a> {
     fn ask(&mut self, lines: &mut Vec<u8>) -> Result<(), AllocError> {
-        self.walk.settle()?;
         self.expected = 0;
+        if let Some(rest) = self.walk.take_rest() {
+            self.ask_pieces(lines, rest)?;
+        }
+        self.walk.settle()?;
         for _ in 0..u64::MAX {
             if self.output.has_failed()
                 || self.walk.awaited() >= MOST_REPLIES
@@ -72,10 +75,6 @@ impl<'a> Out<'a> {
                 Ok(true)
             }
             Next::Entry { node, facts } => self.take_entry(lines, node, facts),
-            Next::Rest { word, from, size } => {
-                self.ask_pieces(lines, word, from, size)?;
-                Ok(true)
-            }
         }
     }
 
@@ -141,34 +140,32 @@ impl<'a> Out<'a> {
         if last {
             return Ok(());
         }
-        self.ask_pieces(lines, word, PIECE as u64, facts.size)
+        let rest = Rest {
+            word,
+            from: PIECE as u64,
+            size: facts.size,
+        };
+        self.ask_pieces(lines, rest)
     }
 
-    // Asks the pieces of a file from one on, as many as may be asked at once, and puts the rest back.
-    fn ask_pieces(
-        &mut self,
-        lines: &mut Vec<u8>,
-        word: String,
-        from: u64,
-        size: u64,
-    ) -> Result<(), AllocError> {
-        let mut at = from;
+    // Asks pieces of a file, as many as may be asked at once, and keeps the others for the next time.
+    fn ask_pieces(&mut self, lines: &mut Vec<u8>, rest: Rest) -> Result<(), AllocError> {
+        let mut rest = rest;
         for _ in 0..MOST_REPLIES {
-            if at >= size || self.expected >= MOST_BYTES {
+            if rest.from >= rest.size || self.expected >= MOST_BYTES {
                 break;
             }
-            self.push_read(lines, word.as_str(), at, size)?;
-            at = at.saturating_add(PIECE as u64);
-            self.walk.note(Asked::Piece { last: at >= size })?;
+            self.push_read(lines, rest.word.as_str(), rest.from, rest.size)?;
+            rest.from = rest.from.saturating_add(PIECE as u64);
+            self.walk.note(Asked::Piece {
+                last: rest.from >= rest.size,
+            })?;
         }
-        if at >= size {
+        if rest.from >= rest.size {
             return Ok(());
         }
-        self.walk.push(Next::Rest {
-            word,
-            from: at,
-            size,
-        })
+        self.walk.keep_rest(rest);
+        Ok(())
     }
 
     // Asks a piece of a file.

@@ -36,8 +36,14 @@ pub(crate) enum Next {
     Facts(Node),
     /// A node of which the facts are known.
     Entry { node: Node, facts: Facts },
-    /// The bytes of a file from a piece on that isn't its first.
-    Rest { word: String, from: u64, size: u64 },
+}
+
+/// The pieces of a file that weren't asked yet.
+#[derive(Drop)]
+pub(crate) struct Rest {
+    pub(crate) word: String,
+    pub(crate) from: u64,
+    pub(crate) size: u64,
 }
 
 /// What a reply is to.
@@ -62,9 +68,10 @@ pub(crate) enum Asked {
     },
 }
 
-/// A stack of what is next, what was found for it, and the queue of what was asked.
+/// A stack of what is next, what was found for it, and the queue of what was asked. The rest of a file comes before all that is next.
 #[derive(Drop)]
 pub(crate) struct Walk {
+    rest: Option<Rest>,
     next: Vec<Next>,
     found: Vec<Next>,
     asked: Vec<Asked>,
@@ -74,6 +81,7 @@ impl Walk {
     /// Nothing is to be done.
     pub(crate) fn new(alloc: Global) -> Walk {
         Walk {
+            rest: None,
             next: Vec::new(alloc),
             found: Vec::new(alloc),
             asked: Vec::new(alloc),
@@ -95,6 +103,16 @@ impl Walk {
             }
         }
         Ok(())
+    }
+
+    /// Keeps the rest of a file.
+    pub(crate) fn keep_rest(&mut self, rest: Rest) {
+        self.rest = Some(rest);
+    }
+
+    /// Takes the rest of a file.
+    pub(crate) fn take_rest(&mut self) -> Option<Rest> {
+        self.rest.take()
     }
 
     /// Takes what is next.
