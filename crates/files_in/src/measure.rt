@@ -104,9 +104,10 @@ impl Sum {
     }
 }
 
-// The sectors for so much: blocks of files, a catalog whose nodes are half full, what a volume takes for itself, a journal, and a little more.
+// The sectors for so much: blocks of files, a catalog whose nodes are half full and whose file grew by a quarter and more at once, what a volume
+// takes for itself, a journal, and a little more.
 fn sectors_of(sum: Sum) -> u64 {
-    let catalog = sum.bytes.saturating_mul(2).div_ceil(BLOCK);
+    let catalog = sum.bytes.saturating_mul(11).div_ceil(4 * BLOCK);
     let blocks = sum
         .blocks
         .saturating_add(catalog)
