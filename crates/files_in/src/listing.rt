@@ -1,5 +1,5 @@
 //! The entries of a folder of the system.
-use crate::staging::Identity;
+use crate::gathered::Identity;
 use files_talk::{Notes, child_of};
 use std::alloc::{AllocError, Global};
 use std::fs::{self, FileType, Metadata};

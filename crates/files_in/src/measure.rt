@@ -1,6 +1,6 @@
 //! How large a volume has to be that holds a folder.
+use crate::gathered::Identity;
 use crate::listing::{Kind, attributes_of, list};
-use crate::staging::Identity;
 use files_talk::child_of;
 use std::alloc::AllocError;
 use std::collections::BTreeSet;
