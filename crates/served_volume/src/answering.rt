@@ -20,7 +20,7 @@ ghost use Rattle.volume_step.specs.Steps.{FitsNow, KeepsJournal, OwnOf, PutsNow}
 ghost use Rattle.volume_step.specs.declared.outcome.Outcome.TheVariants as outcome;
 ghost use Rattle.served_volume.specs.Answering.{AnswersAs, IsDecidedAs, IsDecidedOrWaits, IsRefusedAs, ShrinksBy, refusal_of, refused, unless_short};
 
-use crate::fitting::fits_command;
+use crate::fitting::look_at_command;
 use cmd_lang::{LineFault, read_line};
 use hfs_language::{Changes, Command, Refusal, Reply};
 use hfs_serving::Ground;
@@ -75,9 +75,7 @@ fn read_command(alloc: Global, line: &[u8]) -> Result<Command, Refusal>
 {
     match read_line(alloc, line) {
         Ok(command) => {
-            if !fits_command(&command) {
-                return Err(Refusal::OutOfMemory);
-            }
+            look_at_command(&command);
             Ok(command)
         }
         Err(fault) => Err(refusal_of(fault)),

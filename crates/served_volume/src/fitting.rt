@@ -1,8 +1,8 @@
-//! Whether a command is such as a line can have.
-ghost use Rattle.std.specs.Prelude.{◌↔◌, ◌<◌, ◌^◌, IsTrue};
+//! A command that a line spells is such as a line can have: nothing of it is tested.
 ghost use Rattle.hx_bytes.specs.Field.{AreBytes};
 ghost use Rattle.name_text.specs.Laws.{AreUnits};
 ghost use Rattle.hfs_language.specs.Written.{FitsCommand, FitsPath, IsName};
+ghost use Rattle.served_volume.specs.Parts.{HasLength, HasNames, HasParts};
 
 use hfs_language::Command;
 use hx_bytes::Units;
@@ -12,119 +12,71 @@ fn look_at_units(name: &[u16])
     ensures { AreUnits name.now }
 {}
 
-/// Whether a name is as long as names may be.
-fn fits_name(name: &[u16], most: usize) -> bool
-    ensures { IsTrue result ↔ IsName most name.now }
-{
-    look_at_units(name);
-    if name.is_empty() {
-        return false;
-    }
-    if name.len() > most {
-        return false;
-    }
-    true
-}
-
-/// Whether each name of a path is.
-fn fits_path(path: &[Units]) -> bool
-    ensures { IsTrue result ↔ FitsPath path.now }
-{
-    let mut at = path.len();
-    while at > 0 {
-        if !fits_name(path[at - 1].as_slice(), 255) {
-            return false;
-        }
-        at -= 1;
-    }
-    true
-}
-
 /// Bytes are numbers of eight bits.
 fn look_at_bytes(value: &[u8])
     ensures { AreBytes value.now }
 {}
 
-/// Whether a path fits, beside a number.
-fn fits_place(path: &[Units], from: u64) -> bool
-    ensures { IsTrue result ↔ FitsPath path.now × (from < 2 ^ 64) }
+/// A name of an attribute's length is a name of an attribute.
+fn look_at_name(name: &[u16])
+    ensures { HasLength 127 name.now → IsName 127 name.now }
 {
-    fits_path(path)
+    look_at_units(name);
 }
 
-/// Whether a path fits, beside two numbers.
-fn fits_span(path: &[Units], from: u64, length: u64) -> bool
-    ensures { IsTrue result ↔ FitsPath path.now × (from < 2 ^ 64) × (length < 2 ^ 64) }
+/// A path whose names have their lengths is a path.
+fn look_at_path(path: &[Units])
+    ensures { HasNames path.now → FitsPath path.now }
 {
-    fits_path(path)
+    let mut at = path.len();
+    while at > 0 {
+        look_at_units(path[at - 1].as_slice());
+        at -= 1;
+    }
 }
 
-/// Whether a path fits, beside a place and a value.
-fn fits_value(path: &[Units], from: u64, value: &[u8]) -> bool
-    ensures { IsTrue result ↔ FitsPath path.now × (from < 2 ^ 64) × AreBytes value.now }
-{
-    look_at_bytes(value);
-    fits_path(path)
-}
-
-/// Whether a path and the name of an attribute fit.
-fn fits_attribute(path: &[Units], name: &[u16]) -> bool
-    ensures { IsTrue result ↔ FitsPath path.now × IsName 127 name.now }
-{
-    fits_path(path) && fits_name(name, 127)
-}
-
-/// The same, with the attribute's value.
-fn fits_setting(path: &[Units], name: &[u16], value: &[u8]) -> bool
-    ensures { IsTrue result ↔ FitsPath path.now × IsName 127 name.now × AreBytes value.now }
-{
-    look_at_bytes(value);
-    fits_path(path) && fits_name(name, 127)
-}
-
-/// Whether a path and a mode fit.
-fn fits_mode(path: &[Units], mode: u16) -> bool
-    ensures { IsTrue result ↔ FitsPath path.now × (mode < 2 ^ 12) }
-{
-    fits_path(path) && mode < 4096
-}
-
-/// Whether a moment fits: each number of 32 bits does.
-fn fits_moment(moment: u32) -> bool
-    ensures { IsTrue result ↔ moment < 2 ^ 32 }
-{
-    let _ = moment;
-    true
-}
-
-/// Whether each part of a command is such as a line can have: names within their lengths, and a mode of twelve bits. A command that was read of a
-/// line always is.
-pub(crate) fn fits_command(command: &Command) -> bool
-    ensures { IsTrue result ↔ FitsCommand command.now }
+/// A command whose names have their lengths, and whose numbers are below their limits, is such as a line can have.
+pub(crate) fn look_at_command(command: &Command)
+    ensures { HasParts command.now → FitsCommand command.now }
 {
     match command {
-        Command::Mkdir(path) => fits_path(path.as_slice()),
-        Command::Create(path) => fits_path(path.as_slice()),
-        Command::Rm(path) => fits_path(path.as_slice()),
-        Command::Rmdir(path) => fits_path(path.as_slice()),
-        Command::Mv(from, to) => fits_path(from.as_slice()) && fits_path(to.as_slice()),
-        Command::Ln(from, to) => fits_path(from.as_slice()) && fits_path(to.as_slice()),
+        Command::Mkdir(path) => look_at_path(path.as_slice()),
+        Command::Create(path) => look_at_path(path.as_slice()),
+        Command::Rm(path) => look_at_path(path.as_slice()),
+        Command::Rmdir(path) => look_at_path(path.as_slice()),
+        Command::Mv(from, to) => {
+            look_at_path(from.as_slice());
+            look_at_path(to.as_slice());
+        }
+        Command::Ln(from, to) => {
+            look_at_path(from.as_slice());
+            look_at_path(to.as_slice());
+        }
         Command::Write { path, from, value } => {
-            fits_value(path.as_slice(), *from, value.as_slice())
+            look_at_path(path.as_slice());
+            look_at_bytes(value.as_slice());
         }
-        Command::Read { path, from, length } => fits_span(path.as_slice(), *from, *length),
-        Command::Trunc { path, size } => fits_place(path.as_slice(), *size),
-        Command::Ls(path) => fits_path(path.as_slice()),
-        Command::Stat(path) => fits_path(path.as_slice()),
-        Command::Chmod { path, mode } => fits_mode(path.as_slice(), *mode),
+        Command::Read { path, from, length } => look_at_path(path.as_slice()),
+        Command::Trunc { path, size } => look_at_path(path.as_slice()),
+        Command::Ls(path) => look_at_path(path.as_slice()),
+        Command::Stat(path) => look_at_path(path.as_slice()),
+        Command::Chmod { path, mode } => look_at_path(path.as_slice()),
         Command::SetAttr { path, name, value } => {
-            fits_setting(path.as_slice(), name.as_slice(), value.as_slice())
+            look_at_path(path.as_slice());
+            look_at_name(name.as_slice());
+            look_at_bytes(value.as_slice());
         }
-        Command::GetAttr { path, name } => fits_attribute(path.as_slice(), name.as_slice()),
-        Command::DelAttr { path, name } => fits_attribute(path.as_slice(), name.as_slice()),
-        Command::LsAttr(path) => fits_path(path.as_slice()),
-        Command::At(moment) => fits_moment(*moment),
-        Command::Df => true,
-        Command::Sync => true,
+        Command::GetAttr { path, name } => {
+            look_at_path(path.as_slice());
+            look_at_name(name.as_slice());
+        }
+        Command::DelAttr { path, name } => {
+            look_at_path(path.as_slice());
+            look_at_name(name.as_slice());
+        }
+        Command::LsAttr(path) => look_at_path(path.as_slice()),
+        Command::At(_) => {}
+        Command::Df => {}
+        Command::Sync => {}
     }
 }
