@@ -3,7 +3,7 @@ _hfsx_files() {
     local now=${COMP_WORDS[COMP_CWORD]} before=${COMP_WORDS[COMP_CWORD-1]} verb=${COMP_WORDS[1]}
     COMPREPLY=()
     if [ "$COMP_CWORD" = 1 ]; then
-        mapfile -t COMPREPLY < <(compgen -W "put get ls cat stat --help --version" -- "$now")
+        mapfile -t COMPREPLY < <(compgen -W "put get ls cat stat salvage explain --help --version" -- "$now")
         return
     fi
     case $before in
@@ -18,6 +18,7 @@ _hfsx_files() {
                 put) words="--to --size --date --over --verbose -" ;;
                 get) words="--over --verbose -" ;;
                 ls) words="-l -R -lR" ;;
+                salvage | explain) words="--json" ;;
                 *) words="" ;;
             esac
             mapfile -t COMPREPLY < <(compgen -W "$words" -- "$now")

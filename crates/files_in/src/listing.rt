@@ -1,8 +1,8 @@
 //! The entries of a folder of the system.
-use crate::staging::Identity;
+use crate::gathered::Identity;
 use files_talk::{Notes, child_of};
 use std::alloc::{AllocError, Global};
-use std::fs::{FileType, Metadata};
+use std::fs::{self, FileType, Metadata};
 use std::io::{self, Read};
 use std::os::unix::fs::{FileTypeExt, MetadataExt};
 use std::rt::Files;
@@ -30,6 +30,14 @@ pub(crate) struct Attributes {
     pub(crate) identity: Identity,
     /// How many names it has.
     pub(crate) names: u64,
+}
+
+/// Which file has this name, where there is one.
+pub fn identity_of(rt: &HostRuntime, path: &str) -> Option<Identity> {
+    match fs::metadata(rt, path) {
+        Ok(found) => Some(attributes_of(&found).identity),
+        Err(_) => None,
+    }
 }
 
 /// What the system's record of an entry tells.

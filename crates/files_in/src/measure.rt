@@ -1,4 +1,5 @@
 //! How large a volume has to be that holds a folder.
+use crate::gathered::Identity;
 use crate::listing::{Kind, attributes_of, list};
 use files_talk::child_of;
 use std::alloc::AllocError;
@@ -30,14 +31,21 @@ struct Sum {
     bytes: u64,
 }
 
-/// The sectors of a volume that has room for all that a folder holds, as it stands now.
-pub fn sectors_for(rt: &HostRuntime, folder: &str) -> Result<u64, AllocError> {
+/// The sectors of a volume that has room for all that a folder holds, as it stands now, but for the image itself.
+pub fn sectors_for(
+    rt: &HostRuntime,
+    folder: &str,
+    image: Option<Identity>,
+) -> Result<u64, AllocError> {
     let alloc = rt.alloc();
     let mut sum = Sum {
         blocks: 0,
         bytes: 0,
     };
     let mut seen = BTreeSet::new(alloc);
+    if let Some(image) = image {
+        let _ = seen.insert(image.key())?;
+    }
     let mut open = Vec::new(alloc);
     open.push(String::from_str(alloc, folder)?)?;
     for _ in 0..u64::MAX {
@@ -68,8 +76,12 @@ fn measure(
         match found.kind {
             Kind::Folder => open.push(below)?,
             Kind::File => {
-                if found.names < 2 || seen.insert(found.identity.key())? {
+                let key = found.identity.key();
+                if !seen.contains(&key) {
                     sum.add_file(found.size);
+                    if found.names > 1 {
+                        let _ = seen.insert(key)?;
+                    }
                 }
             }
             Kind::Other(_) => {}
@@ -92,9 +104,10 @@ impl Sum {
     }
 }
 
-// The sectors for so much: blocks of files, a catalog whose nodes are half full, what a volume takes for itself, a journal, and a little more.
+// The sectors for so much: blocks of files, a catalog whose nodes are half full and whose file grew by a quarter and more at once, what a volume
+// takes for itself, a journal, and a little more.
 fn sectors_of(sum: Sum) -> u64 {
-    let catalog = sum.bytes.saturating_mul(2).div_ceil(BLOCK);
+    let catalog = sum.bytes.saturating_mul(11).div_ceil(4 * BLOCK);
     let blocks = sum
         .blocks
         .saturating_add(catalog)

@@ -1,7 +1,8 @@
 //! Files are gathered in a folder of their own, and moved to their places when they are whole: where a run is cut off, no part of a file
 //! stands under its name.
-use crate::asking::{Asked, Asking, Told};
-use files_talk::{child_of, is_ok, reason_of, word_of};
+use crate::asking::{Asked, Asking};
+use crate::gathered::{Gathered, Identity, Wanted};
+use files_talk::{child_of, is_ok, reason_of};
 use itoa::Buffer;
 use std::alloc::{AllocError, Global};
 use std::mem;
@@ -14,46 +15,6 @@ pub(crate) const MARK: &str = ".hfsx-files";
 
 /// The mode with which the volume makes a file.
 const USUAL_MODE: u16 = 0o644;
-
-/// Which file of the system a name is one of.
-#[derive(Clone, Copy, Debug, PartialEq, Eq)]
-pub(crate) struct Identity {
-    pub(crate) device: u64,
-    pub(crate) number: u64,
-}
-
-impl Identity {
-    /// It as a key.
-    pub(crate) fn key(self) -> (u64, u64) {
-        (self.device, self.number)
-    }
-}
-
-/// A file that is to be made.
-#[derive(Drop)]
-pub(crate) struct Wanted {
-    /// Its path, as lines spell it.
-    pub(crate) word: String,
-    /// How it is told, the folder that it goes to, and that folder's date.
-    pub(crate) told: Told,
-    pub(crate) mode: u16,
-    pub(crate) date: u32,
-    /// Whether another file is there, which makes way.
-    pub(crate) replaces: bool,
-    /// Which file it is, where it has further names.
-    pub(crate) identity: Option<Identity>,
-}
-
-/// A file that is gathered.
-#[derive(Drop)]
-pub(crate) struct Gathered {
-    number: u64,
-    part: String,
-    pub(crate) wanted: Wanted,
-    pub(crate) bytes: u64,
-    lack: Option<String>,
-    is_whole: bool,
-}
 
 /// The folder of gathered files, those that are in it, and those that are on their way to their places.
 #[derive(Drop)]
@@ -92,6 +53,16 @@ impl Staging {
     /// The folder is there already.
     pub(crate) fn is_there(&mut self) {
         self.is_made = true;
+    }
+
+    /// Removes the folder, in which nothing is.
+    pub(crate) fn remove(
+        &mut self,
+        asking: &mut Asking<'_>,
+        lines: &mut Vec<u8>,
+    ) -> Result<(), AllocError> {
+        self.is_made = false;
+        asking.path(lines, "rmdir", self.folder.as_str(), Asked::Other)
     }
 
     /// Whether nothing is gathered and nothing is moved.
@@ -288,42 +259,4 @@ fn has_file(files: &[Gathered], identity: Identity) -> bool {
 
 fn are_zeros(bytes: &[u8]) -> bool {
     bytes.iter().all(|byte| *byte == 0)
-}
-
-/// Dates a folder by a file that is made in it and removed.
-pub(crate) fn date_folder(
-    asking: &mut Asking<'_>,
-    lines: &mut Vec<u8>,
-    alloc: Global,
-    folder: &str,
-    date: u32,
-) -> Result<(), AllocError> {
-    let mark = child_of(alloc, folder, MARK)?;
-    asking.at(lines, date)?;
-    asking.path(lines, "create", mark.as_str(), Asked::Other)?;
-    asking.path(lines, "rm", mark.as_str(), Asked::Other)
-}
-
-/// Sets an attribute of an entry, whose name is that of one of the system's: `user.` and a name. False means that a volume can't have it.
-pub(crate) fn push_attribute(
-    asking: &mut Asking<'_>,
-    lines: &mut Vec<u8>,
-    word: &str,
-    name: &[u8],
-    value: &[u8],
-    asked: Asked,
-) -> Result<bool, AllocError> {
-    let Ok(name) = str::from_utf8(name) else {
-        return Ok(false);
-    };
-    let Some(name) = name.strip_prefix("user.") else {
-        return Ok(false);
-    };
-    match word_of(asking.rt().alloc(), name)? {
-        Ok(name) => {
-            asking.attribute(lines, word, name.as_str(), value, asked)?;
-            Ok(true)
-        }
-        Err(_) => Ok(false),
-    }
 }

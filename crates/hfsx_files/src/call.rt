@@ -9,6 +9,8 @@ pub(crate) enum Verb {
     List,
     Cat,
     Stat,
+    Salvage,
+    Explain,
     Help,
     Version,
 }
@@ -34,6 +36,7 @@ pub(crate) struct Call {
     pub(crate) verbose: bool,
     pub(crate) long: bool,
     pub(crate) deep: bool,
+    pub(crate) json: bool,
 }
 
 impl Call {
@@ -48,6 +51,7 @@ impl Call {
             verbose: false,
             long: false,
             deep: false,
+            json: false,
         }
     }
 
@@ -91,7 +95,11 @@ impl Call {
             return wrong(alloc, "a value is missing behind", "the last option");
         }
         let Some(verb) = verb else {
-            return wrong(alloc, "a verb is missing", "put, get, ls, cat or stat");
+            return wrong(
+                alloc,
+                "a verb is missing",
+                "put, get, ls, cat, stat, salvage or explain",
+            );
         };
         call.verb = verb;
         call.checked(alloc)
@@ -110,6 +118,7 @@ impl Call {
     fn take_flag(&mut self, word: &str) -> bool {
         match word {
             "--over" => self.over = true,
+            "--json" => self.json = true,
             "--verbose" | "-v" => self.verbose = true,
             "-l" => self.long = true,
             "-R" => self.deep = true,
@@ -143,7 +152,8 @@ impl Call {
             Verb::Put => (2, 2),
             Verb::Get => (2, 3),
             Verb::List => (1, usize::MAX),
-            Verb::Cat => (2, 2),
+            Verb::Cat | Verb::Salvage => (2, 2),
+            Verb::Explain => (1, 1),
             Verb::Stat => (2, usize::MAX),
             Verb::Help | Verb::Version => (0, usize::MAX),
         };
@@ -175,6 +185,7 @@ impl Call {
         let puts = self.verb == Verb::Put;
         let makes = puts || self.verb == Verb::Get;
         let lists = self.verb == Verb::List;
+        let reports = self.verb == Verb::Salvage || self.verb == Verb::Explain;
         if self.to.is_some() && !puts {
             return Some("--to");
         }
@@ -195,6 +206,9 @@ impl Call {
         }
         if self.deep && !lists {
             return Some("-R");
+        }
+        if self.json && !reports {
+            return Some("--json");
         }
         None
     }
@@ -227,6 +241,8 @@ fn verb_of(word: &str) -> Option<Verb> {
         "ls" => Some(Verb::List),
         "cat" => Some(Verb::Cat),
         "stat" => Some(Verb::Stat),
+        "salvage" => Some(Verb::Salvage),
+        "explain" => Some(Verb::Explain),
         "help" => Some(Verb::Help),
         _ => None,
     }

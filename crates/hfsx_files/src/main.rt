@@ -17,6 +17,8 @@ mod texts;
 
 use call::{Call, Verb};
 use file_rig::take_closed;
+use hfsx_explain::explain;
+use hfsx_salvage::salvage;
 use options::read_options;
 use std::alloc::AllocError;
 use std::env::{Env, FillError};
@@ -65,6 +67,8 @@ fn work(rt: &HostRuntime, call: Call) -> Result<u8, AllocError> {
             Ok(options) => put::put(rt, &call, &options),
             Err(why) => Ok(refuse(rt, why.as_str())),
         },
+        Verb::Salvage => salvage(rt, call.image(), call.word(1), call.json),
+        Verb::Explain => explain(rt, call.image(), call.json),
         Verb::Get | Verb::List | Verb::Cat | Verb::Stat => out::take_out(rt, &call),
     }
 }

@@ -2,12 +2,17 @@
 use crate::errand::{Errand, Task};
 use crate::options::Size;
 use crate::serving::make;
-use crate::status::{NO_IMAGE, REFUSED};
-use files_in::sectors_for;
+use crate::status::{NO_IMAGE, WRONG_WORDS};
+use files_in::{identity_of, sectors_for};
 use files_talk::Talk;
 use std::alloc::AllocError;
 use std::fs::{self, OpenOptions};
 use std::io;
+
+/// The fewest sectors of a volume, and the most.
+const FEWEST: u64 = 16_384;
+
+const MOST: u64 = 2_147_483_648;
 
 /// Makes an image anew, and gives the exit status. Of a file that is there nothing is kept.
 pub(crate) fn make_image(
@@ -16,13 +21,16 @@ pub(crate) fn make_image(
     size: Size,
     folder: &str,
 ) -> Result<u8, AllocError> {
-    let sectors = match size {
-        Size::Sectors(sectors) => sectors,
-        Size::Auto => sectors_for(rt, folder)?,
+    let (sectors, is_auto) = match size {
+        Size::Sectors(sectors) => (sectors, false),
+        Size::Auto => (sectors_for(rt, folder, identity_of(rt, image))?, true),
     };
-    if let Err(error) = empty(rt, image) {
-        let _ = eprintln!(rt; "hfsx-files: making {image} empty: {error}");
-        return Ok(NO_IMAGE);
+    // What is refused for its size is left as it is.
+    if sectors >= FEWEST && sectors <= MOST {
+        if let Err(error) = empty(rt, image) {
+            let _ = eprintln!(rt; "hfsx-files: making {image} empty: {error}");
+            return Ok(NO_IMAGE);
+        }
     }
     let alloc = rt.alloc();
     let talk = Talk::new(
@@ -30,9 +38,11 @@ pub(crate) fn make_image(
         Vec::new(alloc),
         Vec::new(alloc),
     );
-    let status = make(rt, image, sectors, &talk)?;
-    if status == REFUSED && sectors < 16_384 {
-        let _ = eprintln!(rt; "hfsx-files: a volume has 16384 sectors at least");
+    let status = make(rt, image, sectors, is_auto, &talk)?;
+    if status == WRONG_WORDS {
+        let _ = eprintln!(rt;
+            "hfsx-files: {image}: it has another number of sectors than {sectors}"
+        );
     }
     Ok(status)
 }

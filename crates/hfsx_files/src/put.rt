@@ -6,7 +6,7 @@ use crate::options::Options;
 use crate::serving::serve;
 use crate::status::{LEFT_OUT, NO_IMAGE, NO_INPUT, NO_OUTPUT, REFUSED};
 use file_rig::Waiting;
-use files_in::{ArchiveIn, FolderIn, Wishes};
+use files_in::{ArchiveIn, FolderIn, Wishes, identity_of};
 use files_talk::{Notes, Talk};
 use std::alloc::AllocError;
 
@@ -37,6 +37,10 @@ pub(crate) fn put(rt: &HostRuntime, call: &Call, options: &Options) -> Result<u8
         if status != 0 {
             return Ok(status);
         }
+    }
+    let mut task = task;
+    if let Task::Folder(job) = &mut task {
+        job.pass_over(identity_of(rt, call.image()));
     }
     put_all(rt, call.image(), task)
 }

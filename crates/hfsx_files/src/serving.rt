@@ -37,18 +37,20 @@ pub(crate) fn look(
     run(rt, words.as_slice(), image, opened, talk)
 }
 
-/// Makes a volume of so many sectors in an image, and gives the exit status.
+/// Makes a volume of so many sectors in an image, or where the number isn't the user's as large as a device is, and gives the exit status.
 pub(crate) fn make(
     rt: &HostRuntime,
     image: &str,
     sectors: u64,
+    is_auto: bool,
     talk: &RefCell<Talk<Errand<'_>>>,
 ) -> Result<u8, AllocError> {
-    let opened = match Image::to_format(rt, image, sectors) {
-        Ok((place, sectors)) => Ok((Site::Image(place), sectors)),
-        Err(failure) => Err(failure),
+    let (opened, found) = match Image::to_format(rt, image, sectors) {
+        Ok((place, found)) => (Ok((Site::Image(place), found)), found),
+        Err(failure) => (Err(failure), sectors),
     };
-    let size = sectors.to_string(rt.alloc())?;
+    let size = if is_auto { found } else { sectors };
+    let size = size.to_string(rt.alloc())?;
     let words = vec![in rt.alloc(); copy(rt, "format")?, copy(rt, image)?, size]?;
     run(rt, words.as_slice(), image, opened, talk)
 }

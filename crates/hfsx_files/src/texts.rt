@@ -7,6 +7,8 @@ pub(crate) const USAGE: &str =
        hfsx-files ls [-lR] IMAGE [/P ..]
        hfsx-files cat IMAGE /P
        hfsx-files stat IMAGE /P ..
+       hfsx-files salvage IMAGE FOLDER [--json]
+       hfsx-files explain IMAGE [--json]
        hfsx-files --help | --version";
 
 /// What `--help` tells.
@@ -16,15 +18,19 @@ pub(crate) const HELP: &str =
        hfsx-files ls [-lR] IMAGE [/P ..]
        hfsx-files cat IMAGE /P
        hfsx-files stat IMAGE /P ..
+       hfsx-files salvage IMAGE FOLDER [--json]
+       hfsx-files explain IMAGE [--json]
        hfsx-files --help | --version
 
 Puts files into a journaled HFSX volume in an image or on a block device, and takes them out.
 
-  put    puts what FOLDER holds, or the tar archive of standard input, into the volume
-  get    makes what the volume holds in FOLDER, or writes it to standard output as a tar archive
-  ls     lists folders
-  cat    writes a file's bytes to standard output
-  stat   tells what is known of entries
+  put      puts what FOLDER holds, or the tar archive of standard input, into the volume
+  get      makes what the volume holds in FOLDER, or writes it to standard output as a tar archive
+  ls       lists folders
+  cat      writes a file's bytes to standard output
+  stat     tells what is known of entries
+  salvage  makes in FOLDER what can still be read of a damaged volume
+  explain  says in words what is wrong with a volume
 
   --to /P        put: into this folder of the volume, which is made where it is missing
   --size auto    put: makes the image anew, just large enough for FOLDER
@@ -33,9 +39,10 @@ Puts files into a journaled HFSX volume in an image or on a block device, and ta
   --date N       put: all entries have this date, in seconds since 1970
   --over         files that are there make way
   --verbose, -v  tells each entry
+  --json         salvage, explain: lines for programs
   -l, -R         ls: modes, sizes and dates; all that is below
 
-What can't be kept is told on standard error with its reason, and then the exit status is 9. get, ls, cat and stat never change the image.
+What can't be kept is told on standard error with its reason, and then the exit status is 9. All but put never change the image.
 The manual is hfsx-files(1).
 ";
 
