@@ -1,0 +1,23 @@
+//! Files of a volume are listed, told, made below a folder of the system, or written as a tar archive, by a job that asks lines of
+//! `ls`, `stat` and `read` and hears their replies.
+#![tactic(auto)]
+
+mod below;
+mod entries;
+mod file_out;
+mod job;
+mod listing;
+mod moment;
+mod out;
+mod output;
+mod shown;
+mod tape;
+mod walk;
+mod wish;
+
+pub use out::Out;
+pub use shown::path_word;
+pub use wish::Wish;
+
+#[cfg(test)]
+mod tests;

@@ -1,0 +1,137 @@
+//! The job that takes files out of a volume: what it is to do, and where it is.
+
+use crate::below::Below;
+use crate::output::Output;
+use crate::tape::Tape;
+use crate::walk::{Next, Node, Walk};
+use crate::wish::Wish;
+use files_talk::{Counts, Facts, Notes};
+use std::alloc::AllocError;
+use std::collections::BTreeMap;
+use tar_text::Attribute;
+
+/// The status where all was served and something was left out, and where standard output failed.
+const LEFT_OUT: u8 = 9;
+
+const NO_OUTPUT: u8 = 5;
+
+/// A file whose bytes are heard.
+#[derive(Drop)]
+pub(crate) struct Current {
+    pub(crate) node: Node,
+    pub(crate) facts: Facts,
+    /// Whether its bytes are written; else they are passed over.
+    pub(crate) whole: bool,
+}
+
+/// A job that takes files out of a volume.
+#[derive(Drop)]
+pub struct Out<'a> {
+    pub(crate) notes: Notes<'a>,
+    pub(crate) wish: Wish,
+    pub(crate) walk: Walk,
+    pub(crate) below: Below,
+    pub(crate) tape: Tape,
+    pub(crate) output: Output<'a>,
+    /// The words of the attributes of the node whose facts come next.
+    pub(crate) names: Vec<String>,
+    /// The attributes of the node that is next.
+    pub(crate) values: Vec<Attribute>,
+    /// Where the first name of each file with several names was made, by the number of the file.
+    pub(crate) made: BTreeMap<u64, String>,
+    pub(crate) current: Option<Current>,
+    /// The bytes that the replies to what was asked may have.
+    pub(crate) expected: u64,
+}
+
+impl<'a> Out<'a> {
+    /// A job for the entries at these paths, which are spelled as in a line. For `Get` and `Tar` it is one, whose entries come into the
+    /// folder, or one file, which comes into it under its name.
+    pub fn new(
+        notes: Notes<'a>,
+        wish: Wish,
+        words: Vec<String>,
+        folder: &str,
+    ) -> Result<Out<'a>, AllocError> {
+        let rt = notes.rt();
+        let mut words = words;
+        let mut walk = Walk::new(rt.alloc());
+        for _ in 0..u64::MAX {
+            let Some(word) = words.pop() else {
+                break;
+            };
+            let mut word = word;
+            if word.as_str() == "/" {
+                word.clear();
+            }
+            let place = String::from_str(rt.alloc(), folder)?;
+            walk.push(Next::Facts(Node::new(rt.alloc(), word, place, true)))?;
+        }
+        Ok(Out {
+            notes,
+            wish,
+            walk,
+            below: Below::new(rt, matches!(wish, Wish::Get { over: true })),
+            tape: Tape::new(),
+            output: Output::new(rt),
+            names: Vec::new(rt.alloc()),
+            values: Vec::new(rt.alloc()),
+            made: BTreeMap::new(rt.alloc()),
+            current: None,
+            expected: 0,
+        })
+    }
+
+    /// Ends the work: folders get their modes and dates, and standard output what is left for it. Where the volume was served to the end, an
+    /// archive gets its end, and the sum is told: that of a `Get` on standard output, that of a `Tar` on standard error.
+    pub fn finish(&mut self, served: bool) -> Result<(), AllocError> {
+        self.below.finish(&mut self.notes)?;
+        if served && self.wish == Wish::Tar {
+            self.tape.finish(self.notes.rt().alloc(), &mut self.output)?;
+        }
+        self.output.flush();
+        if let Some(error) = self.output.failure() {
+            let why = error.to_string(self.notes.rt().alloc())?;
+            self.notes.fail("standard output", why.as_str());
+        }
+        if served {
+            self.tell_sum();
+        } else {
+            self.notes.end();
+        }
+        Ok(())
+    }
+
+    // Tells what was taken out.
+    fn tell_sum(&mut self) {
+        match self.wish {
+            Wish::Get { .. } => {
+                if !self.notes.sum() {
+                    self.output.fail();
+                }
+            }
+            Wish::Tar => {
+                self.notes.end();
+                let Counts {
+                    files,
+                    folders,
+                    links,
+                    bytes,
+                } = self.notes.counts;
+                let left_out = self.notes.left_out;
+                let _ = eprintln!(self.notes.rt();
+                    "got files {files} folders {folders} links {links} bytes {bytes} left-out {left_out}"
+                );
+            }
+            _ => self.notes.end(),
+        }
+    }
+
+    /// The status of the program, if the volume was served to the end: 5 where standard output failed, 9 where something was left out.
+    pub fn status(&self) -> u8 {
+        if self.output.has_failed() {
+            return NO_OUTPUT;
+        }
+        if self.notes.has_lacks() { LEFT_OUT } else { 0 }
+    }
+}

@@ -1,0 +1,130 @@
+//! Numbers, modes, paths and bytes as words of a line, and what replies tell.
+use cmd_lang::{push_value, read_value};
+use hx_bytes::{Bytes, OutOfMemory};
+use itoa::Buffer;
+use std::alloc::{AllocError, Global};
+
+/// The bytes of a file of which one line always has room, whatever they are.
+pub const PIECE: usize = 45_056;
+
+/// Appends a number, with a space in front.
+pub fn push_number(lines: &mut Vec<u8>, number: u64) -> Result<(), AllocError> {
+    let mut buffer = Buffer::new();
+    lines.extend_from_slice(b" ")?;
+    lines.extend_from_slice(buffer.format(number).as_bytes())
+}
+
+/// Appends the low twelve bits of a mode in four octal digits, with a space in front.
+pub fn push_mode(lines: &mut Vec<u8>, mode: u16) -> Result<(), AllocError> {
+    lines.extend_from_slice(&[
+        b' ',
+        48 + (mode / 512 % 8) as u8,
+        48 + (mode / 64 % 8) as u8,
+        48 + (mode / 8 % 8) as u8,
+        48 + (mode % 8) as u8,
+    ])
+}
+
+/// Appends a path, of which the root's word may be empty, with a space in front.
+pub fn push_path(lines: &mut Vec<u8>, word: &str) -> Result<(), AllocError> {
+    lines.extend_from_slice(b" ")?;
+    if word.is_empty() {
+        return lines.extend_from_slice(b"/");
+    }
+    lines.extend_from_slice(word.as_bytes())
+}
+
+/// Appends the line that writes bytes from an offset on into the file of a path.
+pub fn push_written(
+    lines: &mut Vec<u8>,
+    word: &str,
+    from: u64,
+    bytes: &[u8],
+) -> Result<(), AllocError> {
+    lines.extend_from_slice(b"write")?;
+    push_path(lines, word)?;
+    push_number(lines, from)?;
+    lines.extend_from_slice(b" ")?;
+    match push_value(lines, bytes) {
+        Ok(()) => {}
+        Err(OutOfMemory) => return Err(AllocError),
+    }
+    lines.extend_from_slice(b"\n")
+}
+
+/// Appends the line that sets an attribute of the entry of a path.
+pub fn push_attribute(
+    lines: &mut Vec<u8>,
+    word: &str,
+    name: &str,
+    value: &[u8],
+) -> Result<(), AllocError> {
+    lines.extend_from_slice(b"setattr")?;
+    push_path(lines, word)?;
+    lines.extend_from_slice(b" ")?;
+    lines.extend_from_slice(name.as_bytes())?;
+    lines.extend_from_slice(b" ")?;
+    match push_value(lines, value) {
+        Ok(()) => {}
+        Err(OutOfMemory) => return Err(AllocError),
+    }
+    lines.extend_from_slice(b"\n")
+}
+
+/// Whether a reply is `ok`, with or without more.
+pub fn is_ok(reply: &[u8]) -> bool {
+    reply == b"ok".as_slice() || reply.starts_with(b"ok ".as_slice())
+}
+
+/// The bytes that the reply to a `read` spells, or none where it spells none.
+pub fn content_of(alloc: Global, reply: &[u8]) -> Result<Option<Bytes>, AllocError> {
+    let Some(value) = reply.strip_prefix(b"ok ".as_slice()) else {
+        return Ok(None);
+    };
+    match read_value(alloc, value) {
+        Ok(found) => Ok(found),
+        Err(OutOfMemory) => Err(AllocError),
+    }
+}
+
+/// What a `stat` tells. A folder's `size` is the number of its entries, and its `links` is 0. The date is that of the content, in seconds
+/// since 1904.
+#[derive(Clone, Copy, Debug, PartialEq, Eq)]
+pub struct Facts {
+    pub folder: bool,
+    pub id: u64,
+    pub size: u64,
+    pub links: u64,
+    pub mode: u32,
+    pub created: u32,
+    pub changed: u32,
+}
+
+/// The facts that the reply to a `stat` tells, or none where it tells none.
+pub fn facts_of(reply: &[u8]) -> Option<Facts> {
+    let text = str::from_utf8(reply).ok()?;
+    let mut words = text.split(' ');
+    if words.next()? != "ok" {
+        return None;
+    }
+    let folder = words.next()? == "folder";
+    let id = words.next()?.parse().ok()?;
+    let size = words.next()?.parse().ok()?;
+    let links = if folder {
+        0
+    } else {
+        words.next()?.parse().ok()?
+    };
+    let mode = u32::from_str_radix(words.next()?, 8).ok()?;
+    let created = words.next()?.parse().ok()?;
+    let changed = words.next()?.parse().ok()?;
+    Some(Facts {
+        folder,
+        id,
+        size,
+        links,
+        mode,
+        created,
+        changed,
+    })
+}

@@ -1,0 +1,84 @@
+//! A volume's files are taken out, listed and told. No byte of the image changes.
+use crate::call::{Call, Verb};
+use crate::errand::{Errand, Task};
+use crate::serving::look;
+use crate::status::WRONG_WORDS;
+use files_out::{Out, Wish, path_word};
+use files_talk::{Notes, Talk};
+use std::alloc::AllocError;
+
+/// Does what a call asks for, and gives the exit status.
+pub(crate) fn take_out(rt: &HostRuntime, call: &Call) -> Result<u8, AllocError> {
+    let alloc = rt.alloc();
+    let (wish, folder) = wish_of(call);
+    let mut words = Vec::new(alloc);
+    for path in paths_of(call) {
+        match path_word(alloc, path.as_str())? {
+            Ok(word) => words.push(word)?,
+            Err(lack) => {
+                let _ = eprintln!(rt; "hfsx-files: {path}: {lack}");
+                return Ok(WRONG_WORDS);
+            }
+        }
+    }
+    if words.is_empty() {
+        words.push(String::new(alloc))?;
+    }
+    let notes = Notes::new(rt, "got", call.verbose);
+    let task = Task::Out(Out::new(notes, wish, words, folder)?);
+    let talk = Talk::new(Errand::new(alloc, task), Vec::new(alloc), Vec::new(alloc));
+    let status = look(rt, call.image(), &talk)?;
+    let Ok(mut talk) = talk.try_borrow_mut() else {
+        return Ok(status);
+    };
+    match &mut talk.job().task {
+        Task::Out(job) => {
+            job.finish(status == 0)?;
+            Ok(if status == 0 { job.status() } else { status })
+        }
+        _ => Ok(status),
+    }
+}
+
+// What is to be done, and the folder in which it is done.
+fn wish_of(call: &Call) -> (Wish, &str) {
+    match call.verb {
+        Verb::Cat => (Wish::Cat, ""),
+        Verb::Stat => (Wish::Stat, ""),
+        Verb::List => (
+            Wish::List {
+                long: call.long,
+                deep: call.deep,
+            },
+            "",
+        ),
+        _ => get_of(call),
+    }
+}
+
+// The same of `get`, whose folder is the last word.
+fn get_of(call: &Call) -> (Wish, &str) {
+    let folder = match call.plain.last() {
+        Some(word) => word.as_str(),
+        None => "",
+    };
+    if folder == "-" {
+        (Wish::Tar, "")
+    } else {
+        (Wish::Get { over: call.over }, folder)
+    }
+}
+
+// The paths in the volume.
+fn paths_of(call: &Call) -> &[String] {
+    let words = call.plain.as_slice();
+    let end = if call.verb == Verb::Get {
+        words.len().saturating_sub(1)
+    } else {
+        words.len()
+    };
+    match words.get(1..end) {
+        Some(paths) => paths,
+        None => &[],
+    }
+}

@@ -1,0 +1,132 @@
+//! A volume is served by the top call, and what fails is told.
+use crate::errand::Errand;
+use crate::site::Site;
+use crate::status::{NO_IMAGE, NO_MEMORY};
+use file_rig::{Failure, FileRig, Image, Look, Sparse, StdinSource, Store, tell};
+use files_talk::{Lines, Replies, Talk};
+use hfsx_server::{Status, hfsx};
+use std::alloc::AllocError;
+use std::cell::RefCell;
+use watchers::Watcher;
+
+/// Serves the volume of an image, which may be changed, and gives the exit status.
+pub(crate) fn serve(
+    rt: &HostRuntime,
+    image: &str,
+    talk: &RefCell<Talk<Errand<'_>>>,
+) -> Result<u8, AllocError> {
+    let opened = match Image::open(rt, image) {
+        Ok((place, sectors)) => Ok((Site::Image(place), sectors)),
+        Err(failure) => Err(failure),
+    };
+    let words = vec![in rt.alloc(); copy(rt, "run")?, copy(rt, image)?]?;
+    run(rt, words.as_slice(), image, opened, talk)
+}
+
+/// Serves the volume of an image, of which no byte is changed, and gives the exit status.
+pub(crate) fn look(
+    rt: &HostRuntime,
+    image: &str,
+    talk: &RefCell<Talk<Errand<'_>>>,
+) -> Result<u8, AllocError> {
+    let opened = match Image::to_check(rt, image) {
+        Ok((place, sectors)) => Ok((Site::Look(Look::new(rt.alloc(), place)), sectors)),
+        Err(failure) => Err(failure),
+    };
+    let words = vec![in rt.alloc(); copy(rt, "run")?, copy(rt, image)?]?;
+    run(rt, words.as_slice(), image, opened, talk)
+}
+
+/// Makes a volume of so many sectors in an image, or where the number isn't the user's as large as a device is, and gives the exit status.
+pub(crate) fn make(
+    rt: &HostRuntime,
+    image: &str,
+    sectors: u64,
+    is_auto: bool,
+    talk: &RefCell<Talk<Errand<'_>>>,
+) -> Result<u8, AllocError> {
+    let (opened, found) = match Image::to_format(rt, image, sectors) {
+        Ok((place, found)) => (Ok((Site::Image(place), found)), found),
+        Err(failure) => (Err(failure), sectors),
+    };
+    let size = if is_auto { found } else { sectors };
+    let size = size.to_string(rt.alloc())?;
+    let words = vec![in rt.alloc(); copy(rt, "format")?, copy(rt, image)?, size]?;
+    run(rt, words.as_slice(), image, opened, talk)
+}
+
+fn copy(rt: &HostRuntime, text: &str) -> Result<String, AllocError> {
+    String::from_str(rt.alloc(), text)
+}
+
+// Serves a place by the top call, and tells what failed.
+fn run(
+    rt: &HostRuntime,
+    words: &[String],
+    image: &str,
+    opened: Result<(Site<'_>, u64), Failure>,
+    talk: &RefCell<Talk<Errand<'_>>>,
+) -> Result<u8, AllocError> {
+    let (site, sectors) = match opened {
+        Ok(found) => found,
+        Err(failure) => {
+            tell(rt, &failure, image);
+            return Ok(NO_IMAGE);
+        }
+    };
+    let store = Store::new(rt.alloc(), Sparse::new(site), sectors)?;
+    let mut rig = FileRig::new(store, Replies(talk));
+    let mut source = StdinSource::new(Lines(talk));
+    // Nobody watches.
+    let mut watchers: Vec<Box<dyn Watcher>> = Vec::new(rt.alloc());
+    let status = hfsx(rt.alloc(), words, &mut rig, &mut source, &mut watchers);
+    match status {
+        Status::Disk => Ok(tell_disk(rt, image, rig.failure(), status)),
+        Status::Refused => {
+            tell_refusal(rt, image, talk)?;
+            Ok(status.code())
+        }
+        // The lines and the replies are in memory.
+        Status::Source | Status::Sink => Ok(NO_MEMORY),
+        _ => Ok(status.code()),
+    }
+}
+
+// Tells what failed of the image.
+fn tell_disk(rt: &HostRuntime, image: &str, failure: Option<Failure>, status: Status) -> u8 {
+    match failure {
+        Some(failure) => {
+            tell(rt, &failure, image);
+            if failure.act.is_before_work() {
+                NO_IMAGE
+            } else {
+                status.code()
+            }
+        }
+        None => status.code(),
+    }
+}
+
+// Tells why the volume isn't served.
+fn tell_refusal(
+    rt: &HostRuntime,
+    image: &str,
+    talk: &RefCell<Talk<Errand<'_>>>,
+) -> Result<(), AllocError> {
+    let Ok(mut talk) = talk.try_borrow_mut() else {
+        return Ok(());
+    };
+    let text = String::from_utf8_lossy(rt.alloc(), talk.job().unasked.as_slice())?;
+    match text.as_str().strip_prefix("refused ") {
+        Some(why) => {
+            let why = why.trim_end();
+            let _ = eprintln!(rt; "hfsx-files: {image}: the volume is refused: {why}");
+        }
+        None => {
+            let _ = eprintln!(rt;
+                "hfsx-files: {image}: the volume isn't sound: `hfsx check {image}` says what is wrong"
+            );
+        }
+    }
+    Ok(())
+}
