@@ -13,6 +13,9 @@ const FOLDER_MODE: u32 = 0o700;
 
 const FILE_MODE: u32 = 0o600;
 
+/// The date of what was never dated.
+const NO_DATE: u32 = 0;
+
 /// A folder that gets its mode and its date when all that is in it was made.
 #[derive(Drop)]
 struct Folder {
@@ -228,7 +231,7 @@ fn tell(
     facts: Facts,
     ended: io::Result<()>,
 ) -> Result<(), AllocError> {
-    if seconds_of(facts.changed) < 0 {
+    if facts.changed != NO_DATE && seconds_of(facts.changed) < 0 {
         notes.doubt(place, "its date is before 1970, and can't be set here");
     }
     if let Err(error) = ended {

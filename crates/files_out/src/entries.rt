@@ -55,8 +55,12 @@ impl<'a> Out<'a> {
         node: Node,
         facts: Facts,
     ) -> Result<bool, AllocError> {
+        let mut node = node;
         let goes_in = match self.wish {
-            Wish::Get { .. } => self.make_folder(&node, facts)?,
+            Wish::Get { .. } => {
+                self.lose_attributes(&mut node)?;
+                self.make_folder(&node, facts)?
+            }
             Wish::Tar => self.put_folder(&node, facts)?,
             Wish::Cat => {
                 self.lose_for(node.word.as_str(), "it is a folder")?;
@@ -117,8 +121,25 @@ impl<'a> Out<'a> {
             let place = String::from_str(self.notes.rt().alloc(), node.place.as_str())?;
             self.made.insert(facts.id, place)?;
         }
+        self.lose_attributes(&mut node)?;
         self.ask_file(lines, node, facts)?;
         Ok(true)
+    }
+
+    // Tells the attributes that the system's files don't get.
+    fn lose_attributes(&mut self, node: &mut Node) -> Result<(), AllocError> {
+        let alloc = self.notes.rt().alloc();
+        for _ in 0..u64::MAX {
+            let Some(name) = node.attributes.pop() else {
+                break;
+            };
+            let why = format!(in alloc;
+                "its attribute {}, which a tar archive would have",
+                name.as_str()
+            )?;
+            self.lose_for(node.word.as_str(), why.as_str())?;
+        }
+        Ok(())
     }
 
     // Gives a file that the user named its place in the folder, and answers whether it has one.

@@ -208,26 +208,7 @@ impl<'a> Out<'a> {
         };
         mem::swap(&mut node.attributes, &mut self.names);
         self.names.clear();
-        if matches!(self.wish, Wish::Get { .. }) {
-            self.lose_attributes(&mut node)?;
-        }
         self.walk.find(Next::Entry { node, facts })
-    }
-
-    // Tells the attributes that the system's files don't get.
-    fn lose_attributes(&mut self, node: &mut Node) -> Result<(), AllocError> {
-        let alloc = self.notes.rt().alloc();
-        for _ in 0..u64::MAX {
-            let Some(name) = node.attributes.pop() else {
-                break;
-            };
-            let why = format!(in alloc;
-                "its attribute {}, which a tar archive would have",
-                name.as_str()
-            )?;
-            self.lose_for(node.word.as_str(), why.as_str())?;
-        }
-        Ok(())
     }
 
     // Hears a line that is no reply to what was asked: the volume isn't served.
