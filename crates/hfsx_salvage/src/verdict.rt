@@ -1,0 +1,52 @@
+//! What is said of a file that was saved.
+
+use salvage_tree::{Fork, Volume};
+
+/// What a file is.
+#[derive(Clone, Copy, Debug, PartialEq, Eq)]
+pub(crate) enum Verdict {
+    /// Its records and its blocks are whole, and no other file uses them.
+    Whole,
+    /// Some of its bytes are missing.
+    Cut,
+    /// Another file uses some of its blocks too.
+    Overlaps,
+    /// Its record and the rest of the volume contradict each other.
+    Unsure,
+}
+
+impl Verdict {
+    /// The word in lines.
+    pub(crate) fn word(self) -> &'static str {
+        match self {
+            Verdict::Whole => "whole",
+            Verdict::Cut => "cut",
+            Verdict::Overlaps => "overlaps",
+            Verdict::Unsure => "unsure",
+        }
+    }
+}
+
+/// What speaks against a fork, beside its own numbers.
+#[derive(Clone, Copy, Debug, PartialEq, Eq)]
+pub(crate) struct Signs {
+    /// Whether each sector of its bytes was read.
+    pub(crate) read: bool,
+    /// Whether another uses one of its blocks.
+    pub(crate) shared: bool,
+    /// Whether the bitmap has one of its blocks free, while it has blocks in use that nothing uses.
+    pub(crate) doubted: bool,
+}
+
+/// The verdict on a fork.
+pub(crate) fn judge(volume: &Volume, fork: &Fork, signs: Signs) -> Verdict {
+    if !signs.read || fork.blocks < volume.blocks_for(fork.size) {
+        Verdict::Cut
+    } else if signs.shared {
+        Verdict::Overlaps
+    } else if signs.doubted || !fork.agrees(volume) {
+        Verdict::Unsure
+    } else {
+        Verdict::Whole
+    }
+}
