@@ -22,7 +22,10 @@ pub(crate) struct Copied {
 
 // The bytes of a fork that can be there at all: no more than its blocks have, or the image.
 fn most_bytes<S: Sectors>(source: &S, volume: &Volume, fork: &Fork) -> u64 {
-    let sectors = fork.blocks.saturating_mul(volume.per_block).min(source.count());
+    let sectors = fork
+        .blocks
+        .saturating_mul(volume.per_block)
+        .min(source.count());
     fork.size.min(sectors.saturating_mul(SECTOR))
 }
 
@@ -51,7 +54,13 @@ pub(crate) fn copy_fork<S: Sectors>(
             break;
         };
         let first = at / SECTOR;
-        let read = read_fork(source, volume.per_block, fork.extents.as_slice(), first, part);
+        let read = read_fork(
+            source,
+            volume.per_block,
+            fork.extents.as_slice(),
+            first,
+            part,
+        );
         if read < sectors {
             copied.whole = false;
         }

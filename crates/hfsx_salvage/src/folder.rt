@@ -85,7 +85,10 @@ impl<'a> Target<'a> {
         match fs::symlink_metadata(self.rt, path.as_str()) {
             Ok(found) => {
                 if !found.is_dir() {
-                    return Err(io::Error::new(ErrorKind::NotADirectory, "what is there is no folder"));
+                    return Err(io::Error::new(
+                        ErrorKind::NotADirectory,
+                        "what is there is no folder",
+                    ));
                 }
             }
             Err(error) => {
@@ -95,7 +98,8 @@ impl<'a> Target<'a> {
                 fs::create_dir(self.rt, path.as_str())?;
             }
         }
-        self.folders.insert(String::from_str(self.rt.alloc(), below)?)?;
+        self.folders
+            .insert(String::from_str(self.rt.alloc(), below)?)?;
         Ok(())
     }
 
@@ -108,7 +112,8 @@ impl<'a> Target<'a> {
     }
 
     fn note(&mut self, below: &str) -> Result<(), AllocError> {
-        self.files.insert(String::from_str(self.rt.alloc(), below)?)?;
+        self.files
+            .insert(String::from_str(self.rt.alloc(), below)?)?;
         Ok(())
     }
 
@@ -116,7 +121,10 @@ impl<'a> Target<'a> {
     pub(crate) fn make_file(&mut self, below: &str) -> io::Result<File> {
         self.make_parents(below)?;
         let path = self.path(below)?;
-        let file = OpenOptions::new().write(true).create_new(true).open(self.rt, path.as_str())?;
+        let file = OpenOptions::new()
+            .write(true)
+            .create_new(true)
+            .open(self.rt, path.as_str())?;
         self.note(below)?;
         Ok(file)
     }

@@ -30,7 +30,7 @@ impl<'a> Sectors for ImageSectors<'a> {
 }
 
 /// Tells on standard error why an image can't be opened.
-pub(crate) fn tell_unopened(rt: &HostRuntime, failure: &Failure, image: &str) {
+pub fn tell_unopened(rt: &HostRuntime, failure: &Failure, image: &str) {
     let error = failure.error;
     let _ = match failure.act {
         Act::Locking => eprintln!(rt; "hfsx-files: locking {image}: {error}"),

@@ -34,11 +34,18 @@ pub fn salvage(rt: &HostRuntime, image: &str, folder: &str, json: bool) -> Resul
         }
     };
     let Some(survey) = read_survey(rt.alloc(), &mut source)? else {
-        let _ = eprintln!(rt; "hfsx-files: {image}: no volume: neither of its headers can be read as one");
+        let _ = eprintln!(rt;
+            "hfsx-files: {image}: no volume: neither of its headers can be read as one"
+        );
         return Ok(NO_VOLUME);
     };
     if survey.volume.copy == Copy::Alternate {
-        let _ = eprintln!(rt; "hfsx-files: {image}: the first header can't be used: the alternate at the end is read");
+        let _ = eprintln!(rt;
+            "hfsx-files: {image}: the first header can't be used: the alternate at the end is read"
+        );
+    }
+    if survey.volume.was_left_open() {
+        let _ = eprintln!(rt; "hfsx-files: {image}: the volume wasn't unmounted: what its journal alone has isn't read");
     }
     let target = match Target::open(rt, folder) {
         Ok(target) => target,
@@ -111,7 +118,8 @@ impl<'a> Job<'a> {
         let mut plan = Plan::new(self.rt.alloc(), &self.survey, &links)?;
         plan.sort();
         for left in plan.left_out.as_slice() {
-            self.report.leave_out(left.path.as_str(), left.reason.text());
+            self.report
+                .leave_out(left.path.as_str(), left.reason.text());
         }
         for folder in plan.folders.as_slice() {
             self.make_folder(folder)?;
@@ -149,7 +157,10 @@ impl<'a> Job<'a> {
     }
 
     fn settle_folder(&mut self, folder: &FolderItem) -> Result<(), AllocError> {
-        match self.target.settle_folder(folder.path.as_str(), folder.facts) {
+        match self
+            .target
+            .settle_folder(folder.path.as_str(), folder.facts)
+        {
             Ok(()) => Ok(()),
             Err(error) => self.lose(folder.path.as_str(), error),
         }
@@ -169,7 +180,12 @@ impl<'a> Job<'a> {
     }
 
     // Writes a file and tells of it.
-    fn save(&mut self, source: &mut ImageSectors<'_>, blocks: &Blocks, item: &Item) -> Result<(), AllocError> {
+    fn save(
+        &mut self,
+        source: &mut ImageSectors<'_>,
+        blocks: &Blocks,
+        item: &Item,
+    ) -> Result<(), AllocError> {
         let path = self.path_of(item)?;
         let fork = fork_of(self.rt.alloc(), &self.survey, item)?;
         if self.save_link(item, path.as_str(), fork.size)? {
@@ -222,13 +238,24 @@ impl<'a> Job<'a> {
         path: &str,
     ) -> io::Result<Copied> {
         let file = self.target.make_file(path)?;
-        let copied = copy_fork(source, &self.survey.volume, fork, self.room.as_mut_slice(), &file)?;
+        let copied = copy_fork(
+            source,
+            &self.survey.volume,
+            fork,
+            self.room.as_mut_slice(),
+            &file,
+        )?;
         settle_file(&file, item.facts)?;
         Ok(copied)
     }
 
     // Makes a symbolic link and tells of it. What can't be one becomes a file.
-    fn save_symlink(&mut self, source: &mut ImageSectors<'_>, blocks: &Blocks, item: &Item) -> Result<(), AllocError> {
+    fn save_symlink(
+        &mut self,
+        source: &mut ImageSectors<'_>,
+        blocks: &Blocks,
+        item: &Item,
+    ) -> Result<(), AllocError> {
         let path = self.path_of(item)?;
         let fork = fork_of(self.rt.alloc(), &self.survey, item)?;
         let Some(to) = self.link_text(source, &fork)? else {
@@ -245,8 +272,13 @@ impl<'a> Job<'a> {
     }
 
     // The path that a symbolic link leads to, if it can be one here.
-    fn link_text(&mut self, source: &mut ImageSectors<'_>, fork: &Fork) -> Result<Option<String>, AllocError> {
-        let Some(bytes) = read_small(source, &self.survey.volume, fork, self.room.as_mut_slice()) else {
+    fn link_text(
+        &mut self,
+        source: &mut ImageSectors<'_>,
+        fork: &Fork,
+    ) -> Result<Option<String>, AllocError> {
+        let Some(bytes) = read_small(source, &self.survey.volume, fork, self.room.as_mut_slice())
+        else {
             return Ok(None);
         };
         match str::from_utf8(bytes) {
@@ -269,7 +301,14 @@ impl<'a> Job<'a> {
         }
     }
 
-    fn tell(&mut self, item: &Item, path: &str, verdict: Verdict, bytes: u64, size: u64) -> Result<(), AllocError> {
+    fn tell(
+        &mut self,
+        item: &Item,
+        path: &str,
+        verdict: Verdict,
+        bytes: u64,
+        size: u64,
+    ) -> Result<(), AllocError> {
         self.report.tell(&Told {
             verdict,
             bytes,

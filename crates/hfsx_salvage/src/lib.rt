@@ -9,5 +9,5 @@ mod lines;
 mod plan;
 mod verdict;
 
-pub use image::ImageSectors;
+pub use image::{ImageSectors, tell_unopened};
 pub use job::salvage;

@@ -96,14 +96,18 @@ impl<'a> Report<'a> {
     pub(crate) fn tell(&mut self, told: &Told<'_>) -> Result<(), AllocError> {
         self.counts.add(told.verdict, told.bytes);
         let word = told.verdict.word();
-        let Told { bytes, size, id, .. } = *told;
+        let Told {
+            bytes,
+            size,
+            id,
+            ..
+        } = *told;
         let mut line = String::new(self.rt.alloc());
         if self.json {
             let fork = fork_word(told.kind);
-            line.push_str(
-                format!(in self.rt.alloc(); "{{\"file\":\"{word}\",\"bytes\":{bytes},\"size\":{size},\"id\":{id},\"fork\":\"{fork}\",\"path\":")?
-                    .as_str(),
-            )?;
+            line.push_str(format!(in self.rt.alloc();
+                "{{\"file\":\"{word}\",\"bytes\":{bytes},\"size\":{size},\"id\":{id},\"fork\":\"{fork}\",\"path\":"
+            )?.as_str())?;
             push_json(&mut line, told.path)?;
             line.push('}')?;
         } else {
@@ -127,9 +131,13 @@ impl<'a> Report<'a> {
             left_out,
         } = self.counts;
         let line = if self.json {
-            format!(in self.rt.alloc(); "{{\"files\":{files},\"whole\":{whole},\"cut\":{cut},\"overlaps\":{overlaps},\"unsure\":{unsure},\"folders\":{folders},\"bytes\":{bytes},\"left_out\":{left_out}}}")?
+            format!(in self.rt.alloc();
+                "{{\"files\":{files},\"whole\":{whole},\"cut\":{cut},\"overlaps\":{overlaps},\"unsure\":{unsure},\"folders\":{folders},\"bytes\":{bytes},\"left_out\":{left_out}}}"
+            )?
         } else {
-            format!(in self.rt.alloc(); "salvaged files {files} whole {whole} cut {cut} overlaps {overlaps} unsure {unsure} folders {folders} bytes {bytes} left-out {left_out}")?
+            format!(in self.rt.alloc();
+                "salvaged files {files} whole {whole} cut {cut} overlaps {overlaps} unsure {unsure} folders {folders} bytes {bytes} left-out {left_out}"
+            )?
         };
         self.print(line.as_str());
         Ok(())

@@ -76,7 +76,8 @@ const JOURNAL: [u16; 8] = [0x2E, 0x6A, 0x6F, 0x75, 0x72, 0x6E, 0x61, 0x6C];
 
 /// `.journal_info_block`.
 const INFO_BLOCK: [u16; 19] = [
-    0x2E, 0x6A, 0x6F, 0x75, 0x72, 0x6E, 0x61, 0x6C, 0x5F, 0x69, 0x6E, 0x66, 0x6F, 0x5F, 0x62, 0x6C, 0x6F, 0x63, 0x6B,
+    0x2E, 0x6A, 0x6F, 0x75, 0x72, 0x6E, 0x61, 0x6C, 0x5F, 0x69, 0x6E, 0x66, 0x6F, 0x5F, 0x62, 0x6C,
+    0x6F, 0x63, 0x6B,
 ];
 
 /// A path as text.
@@ -105,7 +106,10 @@ fn is_of_journal(survey: &Survey, file: &FoundFile) -> bool {
 
 // Whether a file has bytes: it is a file or a symbolic link, or says nothing of its kind.
 fn has_bytes(file: &FoundFile) -> bool {
-    matches!(file.record.fields.mode & 0xF000, 0 | 0x4000 | 0x8000 | 0xA000)
+    matches!(
+        file.record.fields.mode & 0xF000,
+        0 | 0x4000 | 0x8000 | 0xA000
+    )
 }
 
 // The files that links stand for.
@@ -143,7 +147,13 @@ impl Plan {
         Ok(plan)
     }
 
-    fn add_folder(&mut self, alloc: Global, survey: &Survey, id: u32, facts: Facts) -> Result<(), AllocError> {
+    fn add_folder(
+        &mut self,
+        alloc: Global,
+        survey: &Survey,
+        id: u32,
+        facts: Facts,
+    ) -> Result<(), AllocError> {
         let path = folder_path(alloc, &survey.catalog, id)?;
         self.folders.push(FolderItem {
             path: path_text(alloc, &path)?,
@@ -154,8 +164,10 @@ impl Plan {
 
     /// Brings all into the order of their paths.
     pub(crate) fn sort(&mut self) {
-        self.folders.sort_unstable_by(|a, b| a.path.as_str().cmp(b.path.as_str()));
-        self.items.sort_unstable_by(|a, b| a.path.as_str().cmp(b.path.as_str()));
+        self.folders
+            .sort_unstable_by(|a, b| a.path.as_str().cmp(b.path.as_str()));
+        self.items
+            .sort_unstable_by(|a, b| a.path.as_str().cmp(b.path.as_str()));
     }
 
     // Adds the files of a name.
@@ -220,7 +232,8 @@ impl Plan {
             facts: facts_of(fields),
             is_linked,
             is_symlink: fields.mode & 0xF000 == 0xA000,
-            is_compressed: fields.owner_flags & COMPRESSED != 0 && file.record.data_fork.logical_size == 0,
+            is_compressed: fields.owner_flags & COMPRESSED != 0
+                && file.record.data_fork.logical_size == 0,
         })?;
         Ok(())
     }
@@ -234,7 +247,12 @@ fn facts_of(fields: &EntryFields) -> Facts {
 }
 
 // The path of a name. A file that only links have names for has none of its own.
-fn name_text(alloc: Global, survey: &Survey, links: &Links, file: &FoundFile) -> Result<String, AllocError> {
+fn name_text(
+    alloc: Global,
+    survey: &Survey,
+    links: &Links,
+    file: &FoundFile,
+) -> Result<String, AllocError> {
     let path = if Some(file.placed.parent) == links.folder {
         Path {
             base: Base::Lost(file.record.fields.id),

@@ -118,7 +118,7 @@ fn name_of(alloc: Global, key: &[u8]) -> Result<Units, AllocError> {
 impl Takes for Catalog {
     fn length(&self, bytes: &[u8], at: usize) -> Option<Length> {
         let key = usize::from(number16(bytes, at)?);
-        let units = usize::from(number16(bytes, at.saturating_add(8))?);
+        let units = usize::from(number16(bytes, at.saturating_add(6))?);
         if units > MOST_NAME || key != KEY_FRONT + 2 * units {
             return None;
         }

@@ -15,3 +15,10 @@ pub(crate) fn number32(bytes: &[u8], at: usize) -> Option<u32> {
         _ => None,
     }
 }
+
+/// The number in the eight bytes from `at` on.
+pub(crate) fn number64(bytes: &[u8], at: usize) -> Option<u64> {
+    let high = number32(bytes, at)?;
+    let low = number32(bytes, at.saturating_add(4))?;
+    Some(u64::from(high) << 32 | u64::from(low))
+}

@@ -65,14 +65,13 @@ pub(crate) fn spans_of<T: Takes>(
     Ok(spans)
 }
 
-/// Hands over the records of a leaf, and says how many these were.
-pub(crate) fn take_leaf<T: Takes>(
-    alloc: Global,
+/// Hands over the records that lie there.
+pub(crate) fn hand_over<T: Takes>(
     node: &[u8],
+    spans: &[Span],
     taker: &mut T,
-) -> Result<u64, AllocError> {
-    let spans = spans_of(alloc, taker, node)?;
-    for span in spans.as_slice() {
+) -> Result<(), AllocError> {
+    for span in spans {
         if let (Some(key), Some(value)) = (
             node.get(span.key..span.value),
             node.get(span.value..span.end),
@@ -80,7 +79,7 @@ pub(crate) fn take_leaf<T: Takes>(
             taker.take(key, value)?;
         }
     }
-    Ok(spans.len() as u64)
+    Ok(())
 }
 
 // The record of this number: by its offset, or behind the one before it.

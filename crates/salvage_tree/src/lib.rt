@@ -15,6 +15,7 @@ mod paths;
 mod reading;
 mod shared;
 mod source;
+mod strays;
 mod text;
 mod tree;
 mod volume;

@@ -2,11 +2,13 @@
 
 use crate::bitmap::Bits;
 use crate::catalog::{Catalog, FoundFile};
+use crate::field::number64;
 use crate::fork::{Fork, ForkKind};
 use crate::overflow::Overflow;
 use crate::shared::Claims;
-use crate::source::{Sectors, read_fork};
-use crate::tree::{TreeFile, take_records};
+use crate::source::{Sectors, read_fork, read_sectors};
+use crate::strays::{Ground, take_strays};
+use crate::tree::{Taken, TreeFile, take_records};
 use crate::volume::{Copy, Volume, read_volume};
 use hx_bytes::{ForkRecord, Sector};
 use std::alloc::{AllocError, Global};
@@ -34,11 +36,19 @@ const STARTUP_FILE: u32 = 7;
 
 const ATTRIBUTES_FILE: u32 = 8;
 
+/// Where the journal's info block keeps the journal's offset and its size.
+const JOURNAL_OFFSET_AT: usize = 36;
+
+const JOURNAL_SIZE_AT: usize = 44;
+
 /// The sectors that are read at once.
 const PIECE: usize = 16;
 
 /// Reads a volume by the header that tells more: the first, or where it is bad or its catalog is empty, the alternate.
-pub fn read_survey<S: Sectors>(alloc: Global, source: &mut S) -> Result<Option<Survey>, AllocError> {
+pub fn read_survey<S: Sectors>(
+    alloc: Global,
+    source: &mut S,
+) -> Result<Option<Survey>, AllocError> {
     let first = survey_by(alloc, source, Copy::First)?;
     if let Some(found) = &first {
         if found.records > 0 {
@@ -73,15 +83,31 @@ fn survey_by<S: Sectors>(
         per_block: volume.per_block,
         extents: fork.extents.as_slice(),
     };
-    let records = take_records(alloc, source, file, &mut catalog)?;
+    let taken = take_records(alloc, source, file, &mut catalog)?;
     let bits = read_bits(alloc, source, &volume, &overflow)?;
-    Ok(Some(Survey {
+    let mut survey = Survey {
         volume,
         overflow,
         catalog,
-        records,
+        records: taken.records,
         bits,
-    }))
+    };
+    if !taken.open.is_empty() {
+        survey.take_strays(alloc, source, taken)?;
+    }
+    Ok(Some(survey))
+}
+
+// The blocks from the first to before the last that the journal's info block gives to the journal.
+fn journal_blocks<S: Sectors>(source: &mut S, volume: &Volume) -> Option<(u64, u64)> {
+    let mut room: [Sector; 1] = [[0; 512]; 1];
+    let at = u64::from(volume.head.journal_info_block).saturating_mul(volume.per_block);
+    read_sectors(source, at, room.as_mut_slice());
+    let bytes = room.as_flattened();
+    let offset = number64(bytes, JOURNAL_OFFSET_AT)?;
+    let size = number64(bytes, JOURNAL_SIZE_AT)?;
+    let start = volume.blocks_for(offset);
+    Some((start, start.saturating_add(volume.blocks_for(size))))
 }
 
 fn special_fork(
@@ -135,8 +161,43 @@ const SPECIAL: usize = usize::MAX;
 const FRONT_SECTORS: u64 = 3;
 
 impl Survey {
+    // Adds the records of leaves that the catalog's extents don't have, as where a header is older than the catalog's growth.
+    fn take_strays<S: Sectors>(
+        &mut self,
+        alloc: Global,
+        source: &mut S,
+        taken: Taken,
+    ) -> Result<(), AllocError> {
+        let sectors = source.count();
+        let mut claims = self.special_claims(alloc, sectors)?;
+        for file in self.catalog.files.as_slice() {
+            let data = self.fork(alloc, file, ForkKind::Data)?;
+            claims.add(SPECIAL, data.extents.as_slice())?;
+            let resource = self.fork(alloc, file, ForkKind::Resource)?;
+            claims.add(SPECIAL, resource.extents.as_slice())?;
+        }
+        // The journal has copies of leaves.
+        if let Some((start, end)) = journal_blocks(source, &self.volume) {
+            claims.add_range(SPECIAL, start, end)?;
+        }
+        claims.sort();
+        let runs = claims.unclaimed(alloc, &self.bits, self.blocks(sectors))?;
+        let ground = Ground {
+            per_block: self.volume.per_block,
+            runs: runs.as_slice(),
+        };
+        let more = take_strays(alloc, source, ground, taken, &mut self.catalog)?;
+        self.records = self.records.saturating_add(more);
+        Ok(())
+    }
+
     /// One of a file's forks, with all of its extents.
-    pub fn fork(&self, alloc: Global, file: &FoundFile, kind: ForkKind) -> Result<Fork, AllocError> {
+    pub fn fork(
+        &self,
+        alloc: Global,
+        file: &FoundFile,
+        kind: ForkKind,
+    ) -> Result<Fork, AllocError> {
         let record = match kind {
             ForkKind::Data => &file.record.data_fork,
             ForkKind::Resource => &file.record.resource_fork,

@@ -43,9 +43,14 @@ impl Claims {
         Ok(())
     }
 
+    /// Brings the claims into the order of their blocks.
+    pub fn sort(&mut self) {
+        self.claims.sort_unstable();
+    }
+
     /// For each owner below `owners` whether one of its blocks is claimed twice.
     pub fn shared(&mut self, alloc: Global, owners: usize) -> Result<Vec<bool>, AllocError> {
-        self.claims.sort_unstable();
+        self.sort();
         let mut shared = vec![in alloc; false; owners]?;
         // The claim that reaches farthest of those before.
         let mut widest = Claim {
@@ -65,7 +70,7 @@ impl Claims {
         Ok(shared)
     }
 
-    /// The blocks of a bitmap that are set and that nothing claims, as runs. The claims have to be sorted, as `shared` leaves them.
+    /// The blocks of a bitmap that are set and that nothing claims, as runs. The claims have to be sorted.
     pub fn unclaimed(
         &self,
         alloc: Global,

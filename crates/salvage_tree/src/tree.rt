@@ -2,7 +2,7 @@
 
 use crate::bitmap::Bits;
 use crate::field::{number16, number32};
-use crate::leaves::{Takes, spans_of, take_leaf};
+use crate::leaves::{Span, Takes, hand_over, spans_of};
 use crate::node::{FRONT, NodeFront, front_of};
 use crate::source::{Sectors, read_fork};
 use hx_bytes::{Extent, Sector};
@@ -18,7 +18,8 @@ pub(crate) struct TreeFile<'a> {
 /// The sizes of nodes, in sectors, the usual ones first.
 const NODE_SECTORS: [u64; 7] = [8, 16, 64, 32, 4, 2, 1];
 
-const MOST_NODE_SECTORS: usize = 64;
+/// The most sectors of a node.
+pub(crate) const MOST_NODE_SECTORS: usize = 64;
 
 /// Where the header node keeps the size of the nodes.
 const NODE_SIZE_AT: usize = 32;
@@ -167,7 +168,58 @@ impl Fronts {
     }
 }
 
-// Hands over the records of the leaves that are live, with nodes of this size, and says how many these were.
+/// A link from a leaf to a neighbour that the file's extents don't have.
+#[derive(Clone, Copy, Debug, PartialEq, Eq)]
+pub(crate) struct OpenLink {
+    pub(crate) from: u32,
+    pub(crate) to: u32,
+    /// Whether the neighbour comes behind it.
+    pub(crate) forward: bool,
+    /// The first four bytes of its key that is nearest to the neighbour.
+    pub(crate) near: u32,
+}
+
+/// What was taken of a tree.
+#[derive(Drop)]
+pub(crate) struct Taken {
+    pub(crate) records: u64,
+    pub(crate) node_sectors: u64,
+    pub(crate) open: Vec<OpenLink>,
+}
+
+impl Taken {
+    // Notes the links of a leaf that lead out of the file.
+    fn note_links(
+        &mut self,
+        nodes: usize,
+        number: u32,
+        front: &NodeFront,
+        node: &[u8],
+        spans: &[Span],
+    ) -> Result<(), AllocError> {
+        if let (Some(first), Some(last)) = (spans.first(), spans.last()) {
+            if front.next as usize >= nodes {
+                self.open.push(OpenLink {
+                    from: number,
+                    to: front.next,
+                    forward: true,
+                    near: number32(node, last.key).unwrap_or(0),
+                })?;
+            }
+            if front.previous as usize >= nodes {
+                self.open.push(OpenLink {
+                    from: number,
+                    to: front.previous,
+                    forward: false,
+                    near: number32(node, first.key).unwrap_or(0),
+                })?;
+            }
+        }
+        Ok(())
+    }
+}
+
+// Hands over the records of the leaves that are live, with nodes of this size.
 fn take_sized<S: Sectors, T: Takes>(
     alloc: Global,
     source: &mut S,
@@ -175,7 +227,12 @@ fn take_sized<S: Sectors, T: Takes>(
     size: u64,
     with_map: bool,
     taker: &mut T,
-) -> Result<u64, AllocError> {
+) -> Result<Taken, AllocError> {
+    let mut taken = Taken {
+        records: 0,
+        node_sectors: size,
+        open: Vec::new(alloc),
+    };
     let fronts = read_fronts(alloc, source, file, size)?;
     let used = if with_map {
         read_map(alloc, source, file, size, fronts.len())?
@@ -185,16 +242,19 @@ fn take_sized<S: Sectors, T: Takes>(
     let fronts = Fronts { fronts, used };
     let mut room: [Sector; MOST_NODE_SECTORS] = [[0; 512]; MOST_NODE_SECTORS];
     let Some(sectors) = room.get_mut(..size as usize) else {
-        return Ok(0);
+        return Ok(taken);
     };
-    let mut taken: u64 = 0;
     for (node, front) in fronts.fronts.iter().enumerate() {
         let Ok(number) = u32::try_from(node) else {
             break;
         };
         if front.is_leaf && fronts.is_live(number, front) {
             file.read(source, u64::from(number), size, sectors);
-            taken = taken.saturating_add(take_leaf(alloc, sectors.as_flattened(), taker)?);
+            let bytes = sectors.as_flattened();
+            let spans = spans_of(alloc, taker, bytes)?;
+            hand_over(bytes, spans.as_slice(), taker)?;
+            taken.records = taken.records.saturating_add(spans.len() as u64);
+            taken.note_links(fronts.fronts.len(), number, front, bytes, spans.as_slice())?;
         }
     }
     Ok(taken)
@@ -249,7 +309,7 @@ pub(crate) fn take_records<S: Sectors, T: Takes>(
     source: &mut S,
     file: TreeFile<'_>,
     taker: &mut T,
-) -> Result<u64, AllocError> {
+) -> Result<Taken, AllocError> {
     match file.told_size(source) {
         Some(size) => take_sized(alloc, source, file, size, true, taker),
         None => {

@@ -56,6 +56,11 @@ fn judge(head: VolumeHeader, copy: Copy) -> Option<Volume> {
 }
 
 impl Volume {
+    /// Whether it has a journal and wasn't unmounted, so that the journal may have what isn't in its place yet.
+    pub fn was_left_open(&self) -> bool {
+        self.head.is_journaled() && !self.head.is_unmounted()
+    }
+
     /// The blocks that so many bytes take.
     pub fn blocks_for(&self, size: u64) -> u64 {
         let sectors = size.div_ceil(512);

@@ -1,0 +1,109 @@
+//! The image is checked, and what the check tells is said in words.
+
+use crate::finding::{Finding, Line, read_line};
+use crate::hearing::Ear;
+use crate::names::Names;
+use crate::refusal::{refusal_help, refusal_text};
+use crate::report::Report;
+use crate::runs::runs_of;
+use crate::words::say;
+use file_rig::{FileRig, Image, Store};
+use hfsx_salvage::{ImageSectors, tell_unopened};
+use hfsx_server::{Status, check};
+use salvage_tree::read_survey;
+use std::alloc::AllocError;
+use std::cell::RefCell;
+
+/// The status where standard output failed.
+const NO_OUTPUT: u8 = 5;
+
+/// The status where the image can't be opened.
+const NO_IMAGE: u8 = 8;
+
+/// Says in words what a check finds of the volume in an image. The paths are those that the catalog's records tell, without the journal.
+pub fn explain(rt: &HostRuntime, image: &str, json: bool) -> Result<u8, AllocError> {
+    let (place, sectors) = match Image::to_check(rt, image) {
+        Ok(found) => found,
+        Err(failure) => {
+            tell_unopened(rt, &failure, image);
+            return Ok(NO_IMAGE);
+        }
+    };
+    let kept = RefCell::new(Vec::new(rt.alloc()));
+    let store = Store::new(rt.alloc(), place, sectors)?;
+    let mut rig = FileRig::new(store, Ear(&kept));
+    let status = check(rt.alloc(), &mut rig);
+    match status {
+        Status::Done | Status::Refused => {}
+        _ => {
+            if let Some(failure) = rig.failure() {
+                let error = failure.error;
+                let _ = eprintln!(rt; "hfsx-files: reading {image}: {error}");
+            }
+            return Ok(status.code());
+        }
+    }
+    let told = match kept.try_borrow() {
+        Ok(bytes) => String::from_utf8_lossy(rt.alloc(), bytes.as_slice())?,
+        Err(_) => String::new(rt.alloc()),
+    };
+    let mut report = Report::new(rt, json);
+    tell_all(rt, image, told.as_str(), &mut report)?;
+    if report.failed {
+        return Ok(NO_OUTPUT);
+    }
+    Ok(status.code())
+}
+
+// Tells what each line of the check says.
+fn tell_all(rt: &HostRuntime, image: &str, told: &str, report: &mut Report<'_>) -> Result<(), AllocError> {
+    let mut findings = Vec::new(rt.alloc());
+    for line in told.lines() {
+        match read_line(line) {
+            Line::Clean {
+                files,
+                folders,
+                blocks,
+                free,
+            } => report.tell_clean(files, folders, blocks, free)?,
+            Line::Refused {
+                word,
+                first,
+                second,
+            } => {
+                let text = refusal_text(rt.alloc(), word, first, second)?;
+                report.tell_refusal(word, text.as_str(), refusal_help(word))?;
+            }
+            Line::Finding(finding) => findings.push(finding)?,
+            Line::Findings(_) | Line::Other => {}
+        }
+    }
+    if findings.is_empty() {
+        return Ok(());
+    }
+    tell_findings(rt, image, findings.as_slice(), report)
+}
+
+// Tells of findings, with the paths that the image's catalog tells.
+fn tell_findings(
+    rt: &HostRuntime,
+    image: &str,
+    findings: &[Finding],
+    report: &mut Report<'_>,
+) -> Result<(), AllocError> {
+    let survey = match ImageSectors::open(rt, image) {
+        Ok(mut source) => read_survey(rt.alloc(), &mut source)?,
+        Err(_) => None,
+    };
+    let names = Names::new(rt.alloc(), survey)?;
+    let mut mendable: u64 = 0;
+    let runs = runs_of(rt.alloc(), findings)?;
+    for run in runs.as_slice() {
+        let said = say(rt.alloc(), &names, run)?;
+        if said.mends {
+            mendable = mendable.saturating_add(run.count());
+        }
+        report.tell(run, &said)?;
+    }
+    report.tell_count(findings.len() as u64, mendable)
+}
