@@ -45,7 +45,9 @@ pub fn salvage(rt: &HostRuntime, image: &str, folder: &str, json: bool) -> Resul
         );
     }
     if survey.volume.was_left_open() {
-        let _ = eprintln!(rt; "hfsx-files: {image}: the volume wasn't unmounted: what its journal alone has isn't read");
+        let _ = eprintln!(rt;
+            "hfsx-files: {image}: the volume wasn't unmounted: what its journal alone has isn't read"
+        );
     }
     let target = match Target::open(rt, folder) {
         Ok(target) => target,

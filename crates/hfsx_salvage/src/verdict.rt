@@ -1,5 +1,7 @@
 //! What is said of a file that was saved.
 
+ghost use Rattle.std.specs.Prelude.{◌≡◌, IsTrue, false};
+
 use salvage_tree::{Fork, Volume};
 
 /// What a file is.
@@ -39,7 +41,10 @@ pub(crate) struct Signs {
 }
 
 /// The verdict on a fork.
-pub(crate) fn judge(volume: &Volume, fork: &Fork, signs: Signs) -> Verdict {
+pub(crate) fn judge(volume: &Volume, fork: &Fork, signs: Signs) -> Verdict
+    // A file is whole only where each of its sectors was read and nothing speaks against it.
+    ensures whole { result ≡ Verdict.Whole → IsTrue signs.read × ((signs.shared ≡ false) × (signs.doubted ≡ false)) }
+{
     if !signs.read || fork.blocks < volume.blocks_for(fork.size) {
         Verdict::Cut
     } else if signs.shared {
