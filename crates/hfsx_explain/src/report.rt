@@ -89,7 +89,7 @@ impl<'a> Report<'a> {
         let mends = if said.mends {
             "can be mended from what is there"
         } else {
-            "can't be told from what is there"
+            "can't be mended from what is there"
         };
         format!(in self.rt.alloc(); "S{rule}: {text} ({mends})")
     }

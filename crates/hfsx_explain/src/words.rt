@@ -168,7 +168,7 @@ fn blocks_said(alloc: Global, run: &Run, path: &Option<String>) -> Result<String
         },
         _ => {
             if found == 1 {
-                return format!(in alloc; "{blocks} marked as in use, and nothing uses them");
+                return format!(in alloc; "{blocks} marked as in use, without being used");
             }
             match path {
                 Some(path) => {
