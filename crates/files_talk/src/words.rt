@@ -1,4 +1,9 @@
 //! Numbers, modes, paths and bytes as words of a line, and what replies tell.
+ghost use Rattle.std.specs.Prelude.{◌≡◌, ◌++◌, ◌∷◌, ◌+◌, ◌<◌, [], Ok, codes, drop, take, IfOk, IfSome, OnOk};
+ghost use Rattle.hfs_language.specs.Language.{value_of};
+ghost use Rattle.hfs_language.specs.Text as spec;
+ghost use Rattle.files_talk.specs.Words.{path_text};
+
 use cmd_lang::{push_value, read_value};
 use hx_bytes::{Bytes, OutOfMemory};
 use itoa::Buffer;
@@ -8,30 +13,50 @@ use std::alloc::{AllocError, Global};
 pub const PIECE: usize = 45_056;
 
 /// Appends a number, with a space in front.
-pub fn push_number(lines: &mut Vec<u8>, number: u64) -> Result<(), AllocError> {
+pub fn push_number(lines: &mut Vec<u8>, number: u64) -> Result<(), AllocError>
+    ensures { OnOk result (lines.new.items ≡ lines.old.items ++ spec.field number) }
+{
     let mut buffer = Buffer::new();
     lines.extend_from_slice(b" ")?;
     lines.extend_from_slice(buffer.format(number).as_bytes())
 }
 
 /// Appends the low twelve bits of a mode in four octal digits, with a space in front.
-pub fn push_mode(lines: &mut Vec<u8>, mode: u16) -> Result<(), AllocError> {
+pub fn push_mode(lines: &mut Vec<u8>, mode: u16) -> Result<(), AllocError>
+    ensures { OnOk result (lines.new.items ≡ lines.old.items ++ 32 ∷ spec.mode_text mode) }
+{
     lines.extend_from_slice(&[
         b' ',
-        48 + (mode / 512 % 8) as u8,
-        48 + (mode / 64 % 8) as u8,
-        48 + (mode / 8 % 8) as u8,
-        48 + (mode % 8) as u8,
+        octal_digit(mode / 512 % 8),
+        octal_digit(mode / 64 % 8),
+        octal_digit(mode / 8 % 8),
+        octal_digit(mode % 8),
     ])
 }
 
+fn octal_digit(value: u16) -> u8
+    requires { value < 8 }
+    ensures { result ≡ 48 + value }
+{
+    b'0' + value as u8
+}
+
 /// Appends a path, of which the root's word may be empty, with a space in front.
-pub fn push_path(lines: &mut Vec<u8>, word: &str) -> Result<(), AllocError> {
+pub fn push_path(lines: &mut Vec<u8>, word: &str) -> Result<(), AllocError>
+    ensures { OnOk result (lines.new.items ≡ lines.old.items ++ 32 ∷ path_text word.now) }
+{
     lines.extend_from_slice(b" ")?;
-    if word.is_empty() {
-        return lines.extend_from_slice(b"/");
+    lines.extend_from_slice(spelled_path(word.as_bytes()))
+}
+
+// A path, of which the root's word may be empty.
+fn spelled_path(word: &[u8]) -> &[u8]
+    ensures { result.now ≡ path_text word.now }
+{
+    match word {
+        [] => b"/",
+        [_, ..] => word,
     }
-    lines.extend_from_slice(word.as_bytes())
 }
 
 /// Appends the line that writes bytes from an offset on into the file of a path.
@@ -40,7 +65,9 @@ pub fn push_written(
     word: &str,
     from: u64,
     bytes: &[u8],
-) -> Result<(), AllocError> {
+) -> Result<(), AllocError>
+    ensures { OnOk result (lines.new.items ≡ lines.old.items ++ codes "write" ++ 32 ∷ path_text word.now ++ spec.field from ++ codes " " ++ spec.value_text bytes.now ++ codes "\n") }
+{
     lines.extend_from_slice(b"write")?;
     push_path(lines, word)?;
     push_number(lines, from)?;
@@ -58,7 +85,9 @@ pub fn push_attribute(
     word: &str,
     name: &str,
     value: &[u8],
-) -> Result<(), AllocError> {
+) -> Result<(), AllocError>
+    ensures { OnOk result (lines.new.items ≡ lines.old.items ++ codes "setattr" ++ 32 ∷ path_text word.now ++ codes " " ++ name.now ++ codes " " ++ spec.value_text value.now ++ codes "\n") }
+{
     lines.extend_from_slice(b"setattr")?;
     push_path(lines, word)?;
     lines.extend_from_slice(b" ")?;
@@ -77,13 +106,25 @@ pub fn is_ok(reply: &[u8]) -> bool {
 }
 
 /// The bytes that the reply to a `read` spells, or none where it spells none.
-pub fn content_of(alloc: Global, reply: &[u8]) -> Result<Option<Bytes>, AllocError> {
-    let Some(value) = reply.strip_prefix(b"ok ".as_slice()) else {
+pub fn content_of(alloc: Global, reply: &[u8]) -> Result<Option<Bytes>, AllocError>
+    ensures { IfOk result (λ found. IfSome found (λ value. value_of (drop 3 reply.now) ≡ Ok value)) }
+{
+    let Some(value) = behind_ok(reply) else {
         return Ok(None);
     };
     match read_value(alloc, value) {
         Ok(found) => Ok(found),
         Err(OutOfMemory) => Err(AllocError),
+    }
+}
+
+// What stands behind `ok` and a space.
+fn behind_ok(reply: &[u8]) -> Option<&[u8]>
+    ensures { IfSome result (λ text. (take 3 reply.now ≡ codes "ok ") × (text.now ≡ drop 3 reply.now)) }
+{
+    match reply {
+        [b'o', b'k', b' ', rest @ ..] => Some(rest),
+        _ => None,
     }
 }
 

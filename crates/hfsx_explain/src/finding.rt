@@ -1,7 +1,7 @@
 //! The lines of a check, read.
 
 /// A rule that is broken at a place: the value found there, and the one wanted.
-#[derive(Clone, Copy, Debug, PartialEq, Eq)]
+#[derive(Clone, Copy)]
 pub(crate) struct Finding {
     pub(crate) rule: u8,
     pub(crate) place: u64,
@@ -10,7 +10,7 @@ pub(crate) struct Finding {
 }
 
 /// A line of a check.
-#[derive(Clone, Copy, Debug, PartialEq, Eq)]
+#[derive(Clone, Copy)]
 pub(crate) enum Line<'a> {
     /// The volume is sound, and has so much.
     Clean {

@@ -56,7 +56,12 @@ pub fn explain(rt: &HostRuntime, image: &str, json: bool) -> Result<u8, AllocErr
 }
 
 // Tells what each line of the check says.
-fn tell_all(rt: &HostRuntime, image: &str, told: &str, report: &mut Report<'_>) -> Result<(), AllocError> {
+fn tell_all(
+    rt: &HostRuntime,
+    image: &str,
+    told: &str,
+    report: &mut Report<'_>,
+) -> Result<(), AllocError> {
     let mut findings = Vec::new(rt.alloc());
     for line in told.lines() {
         match read_line(line) {

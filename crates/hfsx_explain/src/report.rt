@@ -29,18 +29,33 @@ impl<'a> Report<'a> {
     }
 
     /// Tells that the volume is sound.
-    pub(crate) fn tell_clean(&mut self, files: u64, folders: u64, blocks: u64, free: u64) -> Result<(), AllocError> {
+    pub(crate) fn tell_clean(
+        &mut self,
+        files: u64,
+        folders: u64,
+        blocks: u64,
+        free: u64,
+    ) -> Result<(), AllocError> {
         let line = if self.json {
-            format!(in self.rt.alloc(); "{{\"clean\":true,\"files\":{files},\"folders\":{folders},\"blocks\":{blocks},\"free\":{free}}}")?
+            format!(in self.rt.alloc();
+                "{{\"clean\":true,\"files\":{files},\"folders\":{folders},\"blocks\":{blocks},\"free\":{free}}}"
+            )?
         } else {
-            format!(in self.rt.alloc(); "the volume is sound: {files} files, {folders} folders, {blocks} blocks, of which {free} are free")?
+            format!(in self.rt.alloc();
+                "the volume is sound: {files} files, {folders} folders, {blocks} blocks, of which {free} are free"
+            )?
         };
         self.print(line.as_str());
         Ok(())
     }
 
     /// Tells why the image isn't judged.
-    pub(crate) fn tell_refusal(&mut self, word: &str, text: &str, help: &str) -> Result<(), AllocError> {
+    pub(crate) fn tell_refusal(
+        &mut self,
+        word: &str,
+        text: &str,
+        help: &str,
+    ) -> Result<(), AllocError> {
         let mut line = String::new(self.rt.alloc());
         if self.json {
             line.push_str("{\"refused\":")?;
@@ -71,7 +86,11 @@ impl<'a> Report<'a> {
     fn sentence(&self, run: &Run, said: &Said) -> Result<String, AllocError> {
         let rule = run.first.rule;
         let text = said.text.as_str();
-        let mends = if said.mends { "can be mended from what is there" } else { "can't be told from what is there" };
+        let mends = if said.mends {
+            "can be mended from what is there"
+        } else {
+            "can't be mended from what is there"
+        };
         format!(in self.rt.alloc(); "S{rule}: {text} ({mends})")
     }
 
@@ -82,13 +101,18 @@ impl<'a> Report<'a> {
         let found = run.first.found;
         let wanted = run.first.wanted;
         let mut line = format!(in self.rt.alloc();
-            "{{\"rule\":{rule},\"place\":{place},\"last\":{last},\"found\":{found},\"wanted\":{wanted},\"text\":")?;
+            "{{\"rule\":{rule},\"place\":{place},\"last\":{last},\"found\":{found},\"wanted\":{wanted},\"text\":"
+        )?;
         push_json(&mut line, said.text.as_str())?;
         if let Some(path) = &said.path {
             line.push_str(",\"path\":")?;
             push_json(&mut line, path.as_str())?;
         }
-        line.push_str(if said.mends { ",\"mendable\":true}" } else { ",\"mendable\":false}" })?;
+        line.push_str(if said.mends {
+            ",\"mendable\":true}"
+        } else {
+            ",\"mendable\":false}"
+        })?;
         Ok(line)
     }
 
@@ -97,7 +121,9 @@ impl<'a> Report<'a> {
         let line = if self.json {
             format!(in self.rt.alloc(); "{{\"findings\":{findings},\"mendable\":{mendable}}}")?
         } else {
-            format!(in self.rt.alloc(); "findings {findings}, of which {mendable} can be mended from what is there")?
+            format!(in self.rt.alloc();
+                "findings {findings}, of which {mendable} can be mended from what is there"
+            )?
         };
         self.print(line.as_str());
         Ok(())

@@ -4,7 +4,7 @@ use crate::finding::Finding;
 use std::alloc::{AllocError, Global};
 
 /// Findings of one kind at places that follow one another.
-#[derive(Clone, Copy, Debug, PartialEq, Eq)]
+#[derive(Clone, Copy)]
 pub(crate) struct Run {
     pub(crate) first: Finding,
     /// The last place.

@@ -96,21 +96,34 @@ fn volume_text(alloc: Global, run: &Run) -> Result<String, AllocError> {
     let tree = special_file(place >> 32);
     let node = place & 0xFFFF_FFFF;
     match run.first.rule {
-        1 => format!(in alloc; "the volume header: {} is {found}, and {wanted} fits", header_field(place)),
+        1 => format!(in alloc;
+            "the volume header: {} is {found}, and {wanted} fits",
+            header_field(place)
+        ),
         2 => format!(in alloc;
-            "the alternate header disagrees with the first: {} is {found}, and there {wanted}", header_field(place)),
+            "the alternate header disagrees with the first: {} is {found}, and there {wanted}",
+            header_field(place)
+        ),
         3 => file_text(alloc, run),
-        4 => format!(in alloc; "the header of {tree}: one of its numbers is {found}, and {wanted} fits"),
+        4 => format!(in alloc;
+            "the header of {tree}: one of its numbers is {found}, and {wanted} fits"
+        ),
         5 => format!(in alloc;
-            "node {node} of {tree} can't be one: its kind or its height is another, or a record has a bad key or length"),
+            "node {node} of {tree} can't be one: its kind or its height is another, or a record has a bad key or length"
+        ),
         6 => format!(in alloc;
-            "node {node} of {tree} isn't in order: its keys, the keys that lead to it or its neighbours are others"),
+            "node {node} of {tree} isn't in order: its keys, the keys that lead to it or its neighbours are others"
+        ),
         _ => {
             let nodes = run.count();
             if found == 0 {
-                format!(in alloc; "the map of {tree} has {nodes} nodes from {node} on free, which are in use")
+                format!(in alloc;
+                    "the map of {tree} has {nodes} nodes from {node} on free, which are in use"
+                )
             } else {
-                format!(in alloc; "the map of {tree} has {nodes} nodes from {node} on in use, which aren't")
+                format!(in alloc;
+                    "the map of {tree} has {nodes} nodes from {node} on in use, which aren't"
+                )
             }
         }
     }
@@ -136,10 +149,16 @@ fn blocks_said(alloc: Global, run: &Run, path: &Option<String>) -> Result<String
     let blocks = blocks.as_str();
     match first.rule {
         12 => {
-            let what = if first.place == 32 { "files" } else { "folders" };
+            let what = if first.place == 32 {
+                "files"
+            } else {
+                "folders"
+            };
             format!(in alloc; "the volume header counts {found} {what}, and there are {wanted}")
         }
-        14 => format!(in alloc; "the volume header counts {found} free blocks, and there are {wanted}"),
+        14 => format!(in alloc;
+            "the volume header counts {found} free blocks, and there are {wanted}"
+        ),
         18 => match path {
             Some(path) => {
                 let path = path.as_str();
@@ -149,7 +168,7 @@ fn blocks_said(alloc: Global, run: &Run, path: &Option<String>) -> Result<String
         },
         _ => {
             if found == 1 {
-                return format!(in alloc; "{blocks} marked as in use, and nothing uses them");
+                return format!(in alloc; "{blocks} marked as in use, without being used");
             }
             match path {
                 Some(path) => {
@@ -168,8 +187,12 @@ fn entry_text(alloc: Global, run: &Run, subject: &str) -> Result<String, AllocEr
     let found = first.found;
     let wanted = first.wanted;
     match first.rule {
-        8 => format!(in alloc; "{subject}: a record in it can't be read, or its kind doesn't fit its name"),
-        9 => format!(in alloc; "{subject}: its record and its thread don't match, or one of them is missing"),
+        8 => format!(in alloc;
+            "{subject}: a record in it can't be read, or its kind doesn't fit its name"
+        ),
+        9 => format!(in alloc;
+            "{subject}: its record and its thread don't match, or one of them is missing"
+        ),
         10 => {
             if first.place == 2 {
                 format!(in alloc; "there is no root folder")
@@ -186,8 +209,11 @@ fn entry_text(alloc: Global, run: &Run, subject: &str) -> Result<String, AllocEr
             }
         }
         16 => format!(in alloc;
-            "{subject}: its blocks, its size or the end of an extent is {found}, and {wanted} fits"),
-        17 => format!(in alloc; "{subject}: extents in the overflow file don't go on where its own end"),
+            "{subject}: its blocks, its size or the end of an extent is {found}, and {wanted} fits"
+        ),
+        17 => format!(in alloc;
+            "{subject}: extents in the overflow file don't go on where its own end"
+        ),
         19 => {
             if found == 0 && wanted == 1 {
                 format!(in alloc; "{subject}: it is a link to no file, or counts none of its names")
@@ -196,6 +222,7 @@ fn entry_text(alloc: Global, run: &Run, subject: &str) -> Result<String, AllocEr
             }
         }
         _ => format!(in alloc;
-            "{subject}: an attribute has no owner, no name or no value, or a file of the journal isn't where the journal is"),
+            "{subject}: an attribute has no owner, no name or no value, or a file of the journal isn't where the journal is"
+        ),
     }
 }

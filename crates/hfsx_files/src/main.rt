@@ -14,6 +14,7 @@ mod serving;
 mod site;
 mod status;
 mod texts;
+mod words;
 
 use call::{Call, Verb};
 use file_rig::take_closed;
@@ -24,6 +25,7 @@ use std::alloc::AllocError;
 use std::env::{Env, FillError};
 use std::io::Write;
 use std::process::ExitCode;
+use words::read_call;
 
 /// The bytes of a word for which there is room at first.
 const FIRST_ROOM: usize = 4_096;
@@ -45,7 +47,7 @@ fn begin(rt: &HostRuntime) -> Result<u8, AllocError> {
         let _ = eprintln!(rt; "hfsx-files: a word isn't UTF-8");
         return Ok(status::WRONG_WORDS);
     };
-    match Call::read(rt.alloc(), words)? {
+    match read_call(rt.alloc(), words)? {
         Ok(call) => work(rt, call),
         Err(why) => Ok(refuse(rt, why.as_str())),
     }

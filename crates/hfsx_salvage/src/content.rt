@@ -12,7 +12,7 @@ pub(crate) const PIECE: usize = 128;
 const SECTOR: u64 = 512;
 
 /// What came of a fork.
-#[derive(Clone, Copy, Debug, PartialEq, Eq)]
+#[derive(Clone, Copy)]
 pub(crate) struct Copied {
     /// The bytes that were read.
     pub(crate) bytes: u64,

@@ -22,7 +22,7 @@ pub(crate) struct Target<'a> {
 }
 
 /// The mode and the date of a file or folder.
-#[derive(Clone, Copy, Debug, PartialEq, Eq)]
+#[derive(Clone, Copy)]
 pub(crate) struct Facts {
     pub(crate) mode: u16,
     /// Seconds since 1904.

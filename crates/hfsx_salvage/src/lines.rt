@@ -5,7 +5,7 @@ use salvage_tree::{ForkKind, push_json, push_shown};
 use std::alloc::AllocError;
 
 /// How many files there were of each kind.
-#[derive(Clone, Copy, Debug, PartialEq, Eq)]
+#[derive(Clone, Copy)]
 pub(crate) struct Counts {
     pub(crate) files: u64,
     pub(crate) whole: u64,

@@ -27,7 +27,7 @@ pub(crate) struct Item {
 }
 
 /// Why a file of the catalog isn't written.
-#[derive(Clone, Copy, Debug, PartialEq, Eq)]
+#[derive(Clone, Copy)]
 pub(crate) enum Reason {
     /// The file that it is a link to wasn't found.
     NoTarget,

@@ -5,7 +5,7 @@ ghost use Rattle.std.specs.Prelude.{◌≡◌, IsTrue, false};
 use salvage_tree::{Fork, Volume};
 
 /// What a file is.
-#[derive(Clone, Copy, Debug, PartialEq, Eq)]
+#[derive(Clone, Copy)]
 pub(crate) enum Verdict {
     /// Its records and its blocks are whole, and no other file uses them.
     Whole,
@@ -30,7 +30,7 @@ impl Verdict {
 }
 
 /// What speaks against a fork, beside its own numbers.
-#[derive(Clone, Copy, Debug, PartialEq, Eq)]
+#[derive(Clone, Copy)]
 pub(crate) struct Signs {
     /// Whether each sector of its bytes was read.
     pub(crate) read: bool,
