@@ -124,7 +124,7 @@ fn tell_refusal(
         }
         None => {
             let _ = eprintln!(rt;
-                "hfsx-files: {image}: the volume isn't sound: `hfsx check {image}` says what is wrong"
+                "hfsx-files: {image}: the volume isn't sound: `hfsx-files explain` says what is wrong, and `salvage` takes out what can be read"
             );
         }
     }
