@@ -10,6 +10,9 @@ use std::io::ErrorKind;
 use std::mem;
 use tar_text::Attribute;
 
+/// The space of names of the system's attributes in which those of a volume are written to an archive.
+const USER: &[u8] = b"user.";
+
 impl<'a> Out<'a> {
     /// Makes a folder, and answers whether it is there.
     pub(crate) fn make_folder(&mut self, node: &Node, facts: Facts) -> Result<bool, AllocError> {
@@ -88,9 +91,13 @@ impl<'a> Out<'a> {
             Ok(name) => name,
             Err(_) => String::from_str(alloc, word)?,
         };
-        let name = Vec::from_slice(alloc, name.as_bytes())?;
+        let mut spelled = Vec::from_slice(alloc, USER)?;
+        spelled.extend_from_slice(name.as_bytes())?;
         let value = Vec::from_slice(alloc, content.as_slice())?;
-        self.values.push(Attribute { name, value })?;
+        self.values.push(Attribute {
+            name: spelled,
+            value,
+        })?;
         Ok(())
     }
 
