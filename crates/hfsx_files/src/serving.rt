@@ -38,9 +38,9 @@ pub(crate) fn look(
 }
 
 /// Makes a volume of so many sectors in an image, or where the number isn't the user's as large as a device is, and gives the exit status.
-pub(crate) fn make(
-    rt: &HostRuntime,
-    image: &str,
+pub(crate) fn make<'a>(
+    rt: &'a HostRuntime,
+    image: &'a str,
     sectors: u64,
     is_auto: bool,
     talk: &RefCell<Talk<Errand<'_>>>,
