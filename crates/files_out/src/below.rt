@@ -1,11 +1,11 @@
 //! Files and folders are made below a folder of the system, and nothing outside of it: what stands there already is never followed
 //! where it is a symbolic link, and never written.
 
-use files_talk::{Facts, Notes, seconds_of};
+use files_talk::{Facts, Notes, child_of, seconds_of};
 use std::alloc::AllocError;
 use std::fs::{self, DirBuilder, File, FileTimes, OpenOptions, Permissions};
 use std::io::{self, ErrorKind, Write};
-use std::os::unix::fs::{DirBuilderExt, OpenOptionsExt, PermissionsExt};
+use std::os::unix::fs::{DirBuilderExt, MetadataExt, OpenOptionsExt, PermissionsExt};
 use std::time::{Duration, UNIX_EPOCH};
 
 /// The modes under which a folder and a file are made, until they get their own.
@@ -13,8 +13,14 @@ const FOLDER_MODE: u32 = 0o700;
 
 const FILE_MODE: u32 = 0o600;
 
+/// The name under which a file is gathered beside its place, so that no part of it stands there where the work is cut off.
+const PART: &str = ".hfsx-files-part";
+
 /// The date of what was never dated.
 const NO_DATE: u32 = 0;
+
+/// What is told of an entry that has the name under which files are gathered.
+const OWN_NAME: &str = "its name is one of those that this program gives to files of its own";
 
 /// A folder that gets its mode and its date when all that is in it was made.
 #[derive(Drop)]
@@ -28,6 +34,8 @@ struct Folder {
 pub(crate) struct Below {
     over: bool,
     file: Option<File>,
+    /// Where it is gathered.
+    part: String,
     folders: Vec<Folder>,
 }
 
@@ -38,12 +46,22 @@ fn lose(notes: &mut Notes<'_>, place: &str, error: io::Error) -> Result<bool, Al
     Ok(false)
 }
 
+/// Tells that an entry is left out, since something is there or for the system's reason.
+fn lose_place(notes: &mut Notes<'_>, place: &str, error: io::Error) -> Result<bool, AllocError> {
+    if error.kind() == ErrorKind::AlreadyExists {
+        notes.leave_out(place, "it is there already");
+        return Ok(false);
+    }
+    lose(notes, place, error)
+}
+
 impl Below {
     /// Nothing is being made. What is there already is replaced where `over` is set.
     pub(crate) fn new(rt: &HostRuntime, over: bool) -> Below {
         Below {
             over,
             file: None,
+            part: String::new(rt.alloc()),
             folders: Vec::new(rt.alloc()),
         }
     }
@@ -57,6 +75,10 @@ impl Below {
         top: bool,
         facts: Facts,
     ) -> Result<bool, AllocError> {
+        if is_part(place) {
+            notes.leave_out(place, OWN_NAME);
+            return Ok(false);
+        }
         let mut builder = DirBuilder::new();
         builder.mode(FOLDER_MODE);
         match builder.create(notes.rt(), place) {
@@ -83,26 +105,45 @@ impl Below {
         Ok(true)
     }
 
-    /// Opens a file that isn't there yet, and answers whether it is open.
+    /// Whether this very file is there already, as far as size and date tell, and isn't to be replaced.
+    pub(crate) fn has_same(&self, rt: &HostRuntime, place: &str, facts: Facts) -> bool {
+        if self.over {
+            return false;
+        }
+        match fs::symlink_metadata(rt, place) {
+            Ok(found) => {
+                found.is_file()
+                    && found.len() == facts.size
+                    && found.mtime() == seconds_of(facts.changed)
+            }
+            Err(_) => false,
+        }
+    }
+
+    /// Opens a file that isn't there yet, and answers whether it is open. It is gathered beside its place.
     pub(crate) fn start(&mut self, notes: &mut Notes<'_>, place: &str) -> Result<bool, AllocError> {
         self.file = None;
-        if self.over && !remove(notes, place)? {
+        if is_part(place) {
+            notes.leave_out(place, OWN_NAME);
+            return Ok(false);
+        }
+        if !self.over && fs::symlink_metadata(notes.rt(), place).is_ok() {
+            notes.leave_out(place, "it is there already");
+            return Ok(false);
+        }
+        let part = part_of(notes, place)?;
+        if !remove(notes, part.as_str())? {
             return Ok(false);
         }
         let mut options = OpenOptions::new();
         options.write(true).create_new(true).mode(FILE_MODE);
-        match options.open(notes.rt(), place) {
+        match options.open(notes.rt(), part.as_str()) {
             Ok(file) => {
                 self.file = Some(file);
+                self.part = part;
                 Ok(true)
             }
-            Err(error) => {
-                if error.kind() == ErrorKind::AlreadyExists {
-                    notes.leave_out(place, "it is there already");
-                    return Ok(false);
-                }
-                lose(notes, place, error)
-            }
+            Err(error) => lose(notes, place, error),
         }
     }
 
@@ -123,26 +164,49 @@ impl Below {
         }
     }
 
-    /// Gives the file its date and its mode, and closes it.
+    /// Gives the file its date and its mode, moves it to its place, and answers whether it is there.
     pub(crate) fn end(
         &mut self,
         notes: &mut Notes<'_>,
         place: &str,
         facts: Facts,
-    ) -> Result<(), AllocError> {
+    ) -> Result<bool, AllocError> {
         let ended = match &self.file {
             Some(file) => settle(file, facts),
             None => Ok(()),
         };
         self.file = None;
-        tell(notes, place, facts, ended)
+        if let Err(error) = self.move_to(notes.rt(), place) {
+            let _ = fs::remove_file(notes.rt(), self.part.as_str());
+            return lose_place(notes, place, error);
+        }
+        tell(notes, place, facts, ended)?;
+        Ok(true)
+    }
+
+    // Moves the file that was gathered to its place. What came there meanwhile is replaced only where that is wanted.
+    fn move_to(&self, rt: &HostRuntime, place: &str) -> io::Result<()> {
+        let part = self.part.as_str();
+        if self.over {
+            return fs::rename(rt, part, place);
+        }
+        match fs::hard_link(rt, part, place) {
+            Ok(()) => fs::remove_file(rt, part),
+            Err(error) => {
+                if error.kind() == ErrorKind::AlreadyExists {
+                    return Err(error);
+                }
+                // (a system without hard links)
+                fs::rename(rt, part, place)
+            }
+        }
     }
 
     /// Closes a file that isn't whole, and takes it away.
-    pub(crate) fn give_up(&mut self, notes: &Notes<'_>, place: &str) {
+    pub(crate) fn give_up(&mut self, notes: &Notes<'_>) {
         if self.file.is_some() {
             self.file = None;
-            let _ = fs::remove_file(notes.rt(), place);
+            let _ = fs::remove_file(notes.rt(), self.part.as_str());
         }
     }
 
@@ -159,11 +223,12 @@ impl Below {
         match fs::hard_link(notes.rt(), first, place) {
             Ok(()) => Ok(true),
             Err(error) => {
-                if error.kind() == ErrorKind::AlreadyExists {
-                    notes.leave_out(place, "it is there already");
+                if error.kind() == ErrorKind::AlreadyExists
+                    && is_one_file(notes.rt(), first, place)
+                {
                     return Ok(false);
                 }
-                lose(notes, place, error)
+                lose_place(notes, place, error)
             }
         }
     }
@@ -177,6 +242,34 @@ impl Below {
             }
         }
         Ok(())
+    }
+}
+
+// Where a file is gathered that comes to a place.
+fn part_of(notes: &Notes<'_>, place: &str) -> Result<String, AllocError> {
+    let alloc = notes.rt().alloc();
+    match place.rsplit_once('/') {
+        Some((folder, _)) => child_of(alloc, folder, PART),
+        None => String::from_str(alloc, PART),
+    }
+}
+
+// Whether a place is one where files are gathered.
+fn is_part(place: &str) -> bool {
+    match place.rsplit_once('/') {
+        Some((_, name)) => name == PART,
+        None => place == PART,
+    }
+}
+
+// Whether two places are names of one file.
+fn is_one_file(rt: &HostRuntime, first: &str, second: &str) -> bool {
+    match (
+        fs::symlink_metadata(rt, first),
+        fs::symlink_metadata(rt, second),
+    ) {
+        (Ok(first), Ok(second)) => first.dev() == second.dev() && first.ino() == second.ino(),
+        _ => false,
     }
 }
 

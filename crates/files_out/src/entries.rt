@@ -81,7 +81,8 @@ impl<'a> Out<'a> {
             return Ok(true);
         }
         self.ask_entries(lines, node)?;
-        Ok(true)
+        // (in an archive and in a list what is in a folder stands right behind it)
+        Ok(matches!(self.wish, Wish::Get { .. }))
     }
 
     // Takes a file.
@@ -120,6 +121,13 @@ impl<'a> Out<'a> {
             }
             let place = String::from_str(self.notes.rt().alloc(), node.place.as_str())?;
             self.made.insert(facts.id, place)?;
+        }
+        if matches!(self.wish, Wish::Get { .. })
+            && self
+                .below
+                .has_same(self.notes.rt(), node.place.as_str(), facts)
+        {
+            return Ok(true);
         }
         self.lose_attributes(&mut node)?;
         self.ask_file(lines, node, facts)?;

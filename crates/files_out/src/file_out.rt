@@ -183,12 +183,15 @@ impl<'a> Out<'a> {
             self.tape.end(&mut self.output)?;
         }
         if !whole {
-            self.below.give_up(&self.notes, place);
+            self.below.give_up(&self.notes);
             let _ = self.made.remove(&facts.id);
             return Ok(());
         }
-        if matches!(self.wish, Wish::Get { .. }) {
-            self.below.end(&mut self.notes, place, facts)?;
+        if matches!(self.wish, Wish::Get { .. })
+            && !self.below.end(&mut self.notes, place, facts)?
+        {
+            let _ = self.made.remove(&facts.id);
+            return Ok(());
         }
         count(&mut self.notes.counts.files);
         if self.wish.takes_out() {

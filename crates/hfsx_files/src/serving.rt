@@ -38,9 +38,9 @@ pub(crate) fn look(
 }
 
 /// Makes a volume of so many sectors in an image, or where the number isn't the user's as large as a device is, and gives the exit status.
-pub(crate) fn make(
-    rt: &HostRuntime,
-    image: &str,
+pub(crate) fn make<'a>(
+    rt: &'a HostRuntime,
+    image: &'a str,
     sectors: u64,
     is_auto: bool,
     talk: &RefCell<Talk<Errand<'_>>>,
@@ -124,7 +124,7 @@ fn tell_refusal(
         }
         None => {
             let _ = eprintln!(rt;
-                "hfsx-files: {image}: the volume isn't sound: `hfsx check {image}` says what is wrong"
+                "hfsx-files: {image}: the volume isn't sound: `hfsx-files explain` says what is wrong, and `salvage` takes out what can be read"
             );
         }
     }
