@@ -1,0 +1,4 @@
+pub mod Bytes
+pub mod Counting
+pub mod Leaves
+pub mod Repairing

@@ -1,0 +1,5 @@
+pub mod Differing
+pub mod Laws
+pub mod Recount
+pub mod Repair
+pub mod RepairLaws
