@@ -2,3 +2,4 @@ pub mod Bytes
 pub mod Counting
 pub mod Leaves
 pub mod Repairing
+pub mod Typed
