@@ -41,6 +41,15 @@ fn folder_id(found: &Option<CatRecord>) -> Option<u32>
     }
 }
 
+/// The CNID of the private folder, if there is one: the folder of this name in the root.
+pub fn find_private(alloc: Global, pairs: &Pairs) -> Result<Option<u32>, OutOfMemory>
+    requires { AreSpelled pairs.now }
+    ensures { All (λ pair. 8 ≤ length pair.0) pairs.now → IfOk result (λ found. found ≡ private_id (placed_in pairs.now)) }
+{
+    let found = record_in_root(alloc, pairs, PRIVATE_FOLDER.as_slice())?;
+    Ok(folder_id(&found))
+}
+
 /// Whether what was found is a folder, if something was.
 fn is_private(found: &Option<CatRecord>) -> bool
     ensures { result ≡ is_private found.now }
@@ -73,7 +82,7 @@ fn add_link(numbers: &mut Vec<u32>, row: Row) -> Result<(), OutOfMemory>
 }
 
 /// The numbers that links tell, in order.
-fn link_numbers(alloc: Global, rows: &[Row]) -> Result<Vec<u32>, OutOfMemory>
+pub fn link_numbers(alloc: Global, rows: &[Row]) -> Result<Vec<u32>, OutOfMemory>
     ensures order { IfOk result (λ numbers. IsNonDecreasing numbers.items) }
     ensures same { IfOk result (λ numbers. (number : ℕ) → times number numbers.items ≡ link_count rows.now number) }
 {

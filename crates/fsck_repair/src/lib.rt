@@ -1,12 +1,24 @@
 //! The repair of a volume: the sectors in which it differs, a view through them, and putting them into a space.
 #![tactic(auto)]
 
+mod all;
+mod bitmap;
 mod calls;
+mod counts;
+mod header;
+mod leaf;
+mod leaves;
 mod mend;
+mod noting;
+mod once;
 mod overlay;
 mod putting;
+mod skipped;
+mod trees;
+mod words;
+mod written;
 
-pub use calls::Repairs;
+pub use calls::{repair, repair_size};
 pub use mend::{Change, Mend};
 pub use overlay::Repaired;
 pub use putting::put_changes;
