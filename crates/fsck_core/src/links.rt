@@ -1,11 +1,12 @@
 //! Files with several names, and the links that are these names (rule 19).
-ghost use Rattle.std.specs.Prelude.{◌≡◌, ◌⊎◌, ◌+◌, ℕ, length, IfOk, OnOk, if◌then◌else◌};
+ghost use Rattle.std.specs.Prelude.{◌≡◌, ◌⊎◌, ◌≤◌, ◌+◌, ℕ, length, All, IfOk, OnOk, if◌then◌else◌};
 ghost use Rattle.std.specs.List.{flat_map};
 ghost use Rattle.std.specs.List.Sorted.{IsNonDecreasing, IsNonDecreasingBy};
 ghost use Rattle.alloc_bitmap.specs.Apart.{times};
 ghost use Rattle.hfs_volume.specs.Content.{VolumeState, records_of, overflow_in_volume};
 ghost use Rattle.hfs_volume.specs.Entries.{AreSpelled};
-ghost use Rattle.hfs_volume.specs.Links.{AreLinks};
+ghost use Rattle.hfs_volume.specs.Links.{AreLinks, private_id};
+ghost use Rattle.hfs_volume.specs.Records.{placed_in};
 ghost use Rattle.fsck_core.specs.Judged.{Judged, AddsUnmet};
 ghost use Rattle.fsck_core.specs.Decided.{Adds, Decided, AllPass, IsMissed};
 ghost use Rattle.fsck_core.specs.Rows.{row_at};

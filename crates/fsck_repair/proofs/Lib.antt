@@ -1,2 +1,3 @@
+pub mod OnceLaws
 pub mod Overlaying
 pub mod PutLaws

@@ -1,10 +1,11 @@
 //! All that changes in a volume whose counts were made anew.
 
 use crate::bitmap::mend_bitmap;
-use crate::counts::{Counts, numbers_of};
+use crate::counts::Counts;
 use crate::header::{agrees, mend_headers};
 use crate::leaves::mend_leaves;
 use crate::mend::Change;
+use crate::numbers::numbers_of;
 use crate::skipped::Skipped;
 use btree_node::Node;
 use fsck_scan::Fork;
@@ -61,7 +62,7 @@ pub(crate) fn all_changes<V: SectorView>(
 ) -> Result<Vec<Change>, Trouble> {
     let head = &counts.headers.head;
     let skipped = skipped_in(view.sectors(), counts);
-    let numbers = numbers_of(head, &counts.entries, &counts.used);
+    let numbers = numbers_of(head.total_blocks, &counts.entries, &counts.used);
     let mut changes = Vec::new(alloc);
     mend_headers(view, &counts.headers, numbers, &mut changes)?;
     mend_bitmap(

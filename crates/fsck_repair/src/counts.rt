@@ -1,12 +1,30 @@
 //! What a repair counts in a volume.
+ghost use Rattle.std.specs.Prelude.{◌≡◌, ◌↔◌, MatchOption, IfOk, IfSome, IsErrOf, IsTrue, All, length, true};
+ghost use Rattle.hx_bytes.specs.declared.faults.Trouble.TheVariants.{Disk};
+ghost use Rattle.fork_map.specs.Blocks.{blocks_of};
+ghost use Rattle.sector_disk.specs.Cause.{Rose};
+ghost use Rattle.jnl_format.specs.Recovery.{Content};
+ghost use Rattle.volume_header.specs.Refusal.{is_volume_size};
+ghost use Rattle.btree_file.specs.Frame.{ReadsSpace};
+ghost use Rattle.btree_node.specs.Keys.{IsCatalogKey};
+ghost use Rattle.hfs_volume.specs.Blocks.{IsGoodHeader, used_in};
+ghost use Rattle.hfs_volume.specs.Changes.{AreSorted};
+ghost use Rattle.hfs_volume.specs.Entries.{AreSpelled};
+ghost use Rattle.hfs_volume.specs.Records.{placed_in, is_thread, is_empty};
+ghost use Rattle.hfs_volume.specs.Content.{VolumeState, overflow_in_volume};
+ghost use Rattle.fsck_core.specs.Flags.{AreUsed};
+ghost use Rattle.fsck_core.specs.Overflows.{overflows_in};
+ghost use Rattle.fsck_core.specs.Shown.{Shows};
+ghost use Rattle.volume_repair.specs.Repair.{IsMendable};
+ghost use Rattle.fsck_repair.specs.Counted.{AreEntriesOf, AreTrees, AreSized, HasHeaders, IsCounted, UsesOnce};
 
 use crate::once::are_used_once;
-use crate::trees::{Trees, catalog_head, have_sizes, read_trees};
+use crate::sizes::read_sizes;
+use crate::trees::{Trees, read_trees};
 use crate::written::{allocation_extents, catalog_extents, lie_inside, written_extents};
-use crate::words::low_word;
-use fork_map::SummedFork;
+use fork_map::{ExtentList, SummedFork};
 use fsck_core::{
-    Headers, OverflowRow, Row, count_files, count_folders, find_private, judge_header, judge_kinds,
+    Headers, OverflowRow, Row, find_private, judge_header, judge_kinds,
     judge_uses, link_numbers, read_forks, read_headers, read_rows, read_used,
 };
 use fsck_list::{Findings, Marks};
@@ -42,27 +60,54 @@ pub(crate) struct Counts {
 fn read_good_header<V: SectorView>(
     alloc: Global,
     view: &mut V,
-) -> Result<Option<Headers>, Trouble> {
+) -> Result<Option<Headers>, Trouble>
+    requires size { is_volume_size (V.space view.old).sectors ≡ true }
+    ensures good { IfOk result (λ o. IfSome o (λ headers. IsGoodHeader (V.space view.old).sectors headers.head)) }
+    ensures found { (content : Content) → Shows (V.space view.old) content → IfOk result (λ o. MatchOption o (¬ IsMendable content) (HasHeaders content)) }
+    ensures reads { ReadsSpace (V.space view.old) (V.space view.new) }
+    ensures below { V.follows view.old view.new }
+    ensures disk { IsErrOf result Disk → Rose (V.space view.old).faults (V.space view.new).faults }
+{
     let headers = read_headers(view)?;
     let mut out = Findings::new(alloc);
     let met = judge_header(view.sectors(), &headers.head, &mut out)?;
-    if met { Ok(Some(headers)) } else { Ok(None) }
+    if !met {
+        return Ok(None);
+    }
+    Ok(Some(headers))
 }
 
 /// Whether each record of the catalog is one, and of the kind that its key wants.
-fn are_kinds(alloc: Global, catalog: &Pairs) -> Result<bool, OutOfMemory> {
+fn are_kinds(alloc: Global, catalog: &Pairs) -> Result<bool, OutOfMemory>
+    ensures { IfOk result (λ met. IsTrue met ↔ AreSpelled catalog.now × All (λ placed. is_thread placed.value ≡ is_empty placed.name) (placed_in catalog.now)) }
+{
     let mut out = Findings::new(alloc);
     judge_kinds(catalog, &mut out)
 }
 
+/// Which blocks of a volume are used, of whose extents these are all.
+fn mark_used(alloc: Global, total: u32, extents: &ExtentList) -> Result<Marks, OutOfMemory>
+    ensures { (volume : VolumeState) → total ≡ volume.head.total_blocks → blocks_of extents.now ≡ used_in volume → IfOk result (AreUsed volume) }
+{
+    let mut used = Marks::new(alloc, total)?;
+    let mut out = Findings::new(alloc);
+    judge_uses(alloc, extents.as_slice(), &mut used, &mut out)?;
+    Ok(used)
+}
+
 /// Which blocks are used, if those that a repair may write are used once.
-fn mark_used(
+fn mark_once(
     alloc: Global,
     sectors: u64,
     head: &VolumeHeader,
     rows: &[OverflowRow],
     catalog: &Pairs,
-) -> Result<Option<Marks>, OutOfMemory> {
+) -> Result<Option<Marks>, OutOfMemory>
+    requires good { IsGoodHeader sectors head.now }
+    requires spelled { AreSpelled catalog.now }
+    ensures { (volume : VolumeState) → sectors ≡ volume.sectors → head.now ≡ volume.head → overflows_in rows.now ≡ overflow_in_volume volume → catalog.now ≡ volume.catalog_pairs
+        → IfOk result (λ o. MatchOption o (¬ UsesOnce volume) (λ used. UsesOnce volume × AreUsed volume used)) }
+{
     let forks = read_forks(alloc, head, catalog)?;
     let extents = read_used(alloc, sectors, head, rows, &forks)?;
     let written = written_extents(alloc, sectors, head, rows)?;
@@ -70,14 +115,15 @@ fn mark_used(
     if !once {
         return Ok(None);
     }
-    let mut used = Marks::new(alloc, head.total_blocks)?;
-    let mut out = Findings::new(alloc);
-    judge_uses(alloc, extents.as_slice(), &mut used, &mut out)?;
+    let used = mark_used(alloc, head.total_blocks, &extents)?;
     Ok(Some(used))
 }
 
 /// What the values of a catalog count.
-fn read_entries(alloc: Global, catalog: &Pairs) -> Result<Entries, OutOfMemory> {
+fn read_entries(alloc: Global, catalog: &Pairs) -> Result<Entries, OutOfMemory>
+    requires spelled { AreSpelled catalog.now }
+    ensures { All (λ pair. IsCatalogKey pair.0) catalog.now → AreSorted catalog.now → IfOk result (AreEntriesOf (placed_in catalog.now)) }
+{
     let rows = read_rows(alloc, catalog)?;
     let links = link_numbers(alloc, &rows)?;
     let private = find_private(alloc, catalog)?;
@@ -95,7 +141,11 @@ fn count_trees(
     headers: Headers,
     tree: Head,
     trees: &Trees,
-) -> Result<Option<Counts>, OutOfMemory> {
+) -> Result<Option<Counts>, OutOfMemory>
+    requires good { IsGoodHeader sectors headers.head }
+    ensures { (content : Content) → sectors ≡ length content → HasHeaders content headers → AreSized content tree → AreTrees content trees.now
+        → IfOk result (λ o. MatchOption o (¬ IsMendable content) (IsCounted content)) }
+{
     let kinds = are_kinds(alloc, &trees.catalog)?;
     if !kinds {
         return Ok(None);
@@ -105,16 +155,19 @@ fn count_trees(
     if !lie_inside(head.total_blocks, allocation.as_slice()) {
         return Ok(None);
     }
-    let Some(used) = mark_used(alloc, sectors, &head, &trees.overflow, &trees.catalog)? else {
+    let Some(used) = mark_once(alloc, sectors, &head, &trees.overflow, &trees.catalog)? else {
         return Ok(None);
     };
     let catalog = catalog_extents(alloc, &head, &trees.overflow)?;
+    let allocation = SummedFork::from_list(alloc, allocation)?;
+    let catalog = SummedFork::from_list(alloc, catalog)?;
+    let entries = read_entries(alloc, &trees.catalog)?;
     Ok(Some(Counts {
         headers,
-        allocation: SummedFork::from_list(alloc, allocation)?,
-        catalog: SummedFork::from_list(alloc, catalog)?,
+        allocation,
+        catalog,
         tree,
-        entries: read_entries(alloc, &trees.catalog)?,
+        entries,
         used,
     }))
 }
@@ -123,7 +176,14 @@ fn count_trees(
 pub(crate) fn count_volume<V: SectorView>(
     alloc: Global,
     view: &mut V,
-) -> Result<Option<Counts>, Trouble> {
+) -> Result<Option<Counts>, Trouble>
+    requires size { is_volume_size (V.space view.old).sectors ≡ true }
+    ensures good { IfOk result (λ o. IfSome o (λ counts. IsGoodHeader (V.space view.old).sectors counts.headers.head)) }
+    ensures found { (content : Content) → Shows (V.space view.old) content → IfOk result (λ o. MatchOption o (¬ IsMendable content) (IsCounted content)) }
+    ensures reads { ReadsSpace (V.space view.old) (V.space view.new) }
+    ensures below { V.follows view.old view.new }
+    ensures disk { IsErrOf result Disk → Rose (V.space view.old).faults (V.space view.new).faults }
+{
     let Some(headers) = read_good_header(alloc, view)? else {
         return Ok(None);
     };
@@ -131,30 +191,9 @@ pub(crate) fn count_volume<V: SectorView>(
     let Some(trees) = read_trees(alloc, view, &head)? else {
         return Ok(None);
     };
-    let sizes = have_sizes(alloc, view, &head, &trees.overflow)?;
-    if !sizes {
-        return Ok(None);
-    }
-    let Some(tree) = catalog_head(alloc, view, &head, &trees.overflow)? else {
+    let Some(tree) = read_sizes(alloc, view, &head, &trees.overflow)? else {
         return Ok(None);
     };
     let counts = count_trees(alloc, view.sectors(), headers, tree, &trees)?;
     Ok(counts)
-}
-
-/// How many files the entries are, how many folders but the root, and how many blocks nothing uses.
-#[derive(Clone, Copy)]
-pub(crate) struct Numbers {
-    pub files: u32,
-    pub folders: u32,
-    pub free: u32,
-}
-
-/// The numbers of the volume header.
-pub(crate) fn numbers_of(head: &VolumeHeader, entries: &Entries, used: &Marks) -> Numbers {
-    Numbers {
-        files: low_word(count_files(&entries.rows)),
-        folders: low_word(count_folders(&entries.rows).saturating_sub(1)),
-        free: head.total_blocks.saturating_sub(used.count()),
-    }
 }

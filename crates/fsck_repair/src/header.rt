@@ -1,26 +1,41 @@
 //! The volume header and its copy, with what they count.
+ghost use Rattle.std.specs.Prelude.{◌≡◌, ◌<◌, ◌-◌, ℕ, length, not, true, IsTrue, OnOk, IsErrOf};
+ghost use Rattle.hx_bytes.specs.declared.faults.Trouble.TheVariants.{Disk};
+ghost use Rattle.hx_bytes.specs.Field.{big};
+ghost use Rattle.sector_disk.specs.Cause.{Rose};
+ghost use Rattle.jnl_format.specs.Recovery.{Content};
+ghost use Rattle.volume_header.specs.Refusal.{is_volume_size};
+ghost use Rattle.btree_file.specs.Frame.{ReadsSpace};
+ghost use Rattle.fsck_core.specs.Shown.{Shows};
+ghost use Rattle.volume_repair.specs.Recount.{agrees, with_word};
+ghost use Rattle.fsck_repair.specs.Changing.{Notes};
+ghost use Rattle.fsck_repair.specs.Counted.{IsHeaderSector, HasNumbers, HasHeaders};
 
-use crate::counts::Numbers;
-use crate::noting::note;
 use crate::mend::Change;
+use crate::noting::note;
+use crate::numbers::Numbers;
 use fsck_core::Headers;
 use hx_bytes::{Sector, Trouble, write_be32};
 use sector_disk::SectorView;
 use volume_header::VolumeHeader;
 
-/// The bytes of a volume header with these numbers (TN1150, "Volume Header").
-fn write_numbers(sector: &mut Sector, numbers: Numbers) {
+/// Puts numbers into the sector of a volume header (TN1150, "Volume Header").
+fn write_numbers(sector: &mut Sector, numbers: Numbers)
+    ensures { sector.new ≡ with_word 32 numbers.files (with_word 36 numbers.folders (with_word 48 numbers.free sector.old)) }
+{
     write_be32(sector.as_mut_slice(), 48, numbers.free);
     write_be32(sector.as_mut_slice(), 36, numbers.folders);
     write_be32(sector.as_mut_slice(), 32, numbers.files);
 }
 
 /// Whether the alternate header agrees in what the volume is.
-pub(crate) fn agrees(head: &VolumeHeader, alternate: &VolumeHeader) -> bool {
+pub(crate) fn agrees(head: &VolumeHeader, alternate: &VolumeHeader) -> bool
+    ensures { result ≡ agrees head.now alternate.now }
+{
     alternate.signature == head.signature
-        && alternate.version == head.version
-        && alternate.block_size == head.block_size
-        && alternate.total_blocks == head.total_blocks
+        && (alternate.version == head.version
+            && (alternate.block_size == head.block_size
+                && alternate.total_blocks == head.total_blocks))
 }
 
 /// Notes what changes in the header's sector, and in that of its copy where it doesn't agree.
@@ -29,7 +44,14 @@ pub(crate) fn mend_headers<V: SectorView>(
     headers: &Headers,
     numbers: Numbers,
     changes: &mut Vec<Change>,
-) -> Result<(), Trouble> {
+) -> Result<(), Trouble>
+    requires size { is_volume_size (V.space view.old).sectors ≡ true }
+    ensures notes { (content : Content) → Shows (V.space view.old) content → HasHeaders content headers.now → HasNumbers content numbers
+        → OnOk result (Notes content (IsHeaderSector content) changes.old.items changes.new.items) }
+    ensures reads { ReadsSpace (V.space view.old) (V.space view.new) }
+    ensures below { V.follows view.old view.new }
+    ensures disk { IsErrOf result Disk → Rose (V.space view.old).faults (V.space view.new).faults }
+{
     let mut old = [0; 512];
     view.get(2, &mut old)?;
     let mut new = old;

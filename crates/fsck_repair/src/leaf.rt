@@ -1,4 +1,16 @@
 //! A leaf of the catalog, with what its records count.
+ghost use Rattle.std.specs.Prelude.{◌≡◌, ◌≤◌, ◌+◌, ◌*◌, ◌++◌, List, length, false, true, slice_range, IsTrue, IfOk, OnOk, MatchOption, if◌then◌else◌};
+ghost use Rattle.hx_bytes.specs.Field.{big_at};
+ghost use Rattle.btree_node.specs.Node.{IsNode, offset, record_count};
+ghost use Rattle.btree_node.specs.Levels.{key_of, value_of, pair_of};
+ghost use Rattle.cat_records.specs.Records.{is_catalog};
+ghost use Rattle.hfs_volume.specs.Entries.{count_in};
+ghost use Rattle.hfs_volume.specs.Links.{private_id, is_shared_file, reference_of};
+ghost use Rattle.hfs_volume.specs.Records.{Placed, entries_of, placed_of};
+ghost use Rattle.volume_repair.specs.Recount.{with_word, file_recounted, value_recounted};
+ghost use Rattle.volume_repair.specs.Repair.{record_mended, leaf_mended};
+ghost use Rattle.fsck_repair.specs.Counted.{AreEntriesOf};
+ghost use Rattle.fsck_repair.specs.Leaf.{IsGoodItem, IsGoodLeaf, SameFrom};
 
 use crate::counts::Entries;
 use crate::words::low_word;
@@ -17,26 +29,34 @@ const FOLDER_LENGTH: usize = 88;
 const FILE_LENGTH: usize = 248;
 
 /// Sets the valence of a folder's record: the number of its entries (TN1150, "Catalog Folder Records").
-fn mend_folder(value: &mut [u8], entries: &Entries) {
+fn mend_folder(value: &mut [u8], entries: &Entries)
+    requires { 12 ≤ length value.old }
+    ensures counted { (records : List Placed) → AreEntriesOf records entries.now → value.new ≡ with_word 4 (count_in (entries_of records) (big_at 4 value.old 8)) value.old }
+    ensures size { length value.new ≡ length value.old }
+{
     let count = count_under(&entries.rows, read_be32(value, 8));
     write_be32(value, 4, low_word(count));
 }
 
-/// The number that a file with several names says that its links tell, where a record is one.
+/// The number that the links of a file with several names tell, where a record is one.
 fn reference_of(
     alloc: Global,
     key: &[u8],
     value: &[u8],
     private: Option<u32>,
-) -> Result<Option<u32>, OutOfMemory> {
+) -> Result<Option<u32>, OutOfMemory>
+    requires { IsTrue (is_catalog value.now) }
+    ensures { (records : List Placed) → private ≡ private_id records → 8 ≤ length key.now
+        → IfOk result (λ o. MatchOption o (is_shared_file records (reference_of (placed_of (key.now, value.now))) (placed_of (key.now, value.now)) ≡ false)
+        (λ reference. (is_shared_file records (reference_of (placed_of (key.now, value.now))) (placed_of (key.now, value.now)) ≡ true) × (reference_of (placed_of (key.now, value.now)) ≡ reference))) }
+{
     let Some(folder) = private else {
         return Ok(None);
     };
-    let found = shared_file(alloc, folder, key, value)?;
-    match found {
-        Some(file) => Ok(Some(file.reference)),
-        None => Ok(None),
-    }
+    let Some(file) = shared_file(alloc, folder, key, value)? else {
+        return Ok(None);
+    };
+    Ok(Some(file.reference))
 }
 
 /// Sets the number of links in the record of a file with several names (TN1150, "Hard Links").
@@ -45,11 +65,18 @@ fn mend_file(
     key: &[u8],
     value: &mut [u8],
     entries: &Entries,
-) -> Result<(), OutOfMemory> {
-    if let Some(reference) = reference_of(alloc, key, value, entries.private)? {
-        let count = count_number(&entries.links, reference);
-        write_be32(value, 44, low_word(count));
-    }
+) -> Result<(), OutOfMemory>
+    requires spelled { IsTrue (is_catalog value.old) }
+    requires long { 48 ≤ length value.old }
+    ensures counted { (records : List Placed) → AreEntriesOf records entries.now → 8 ≤ length key.now
+        → OnOk result (value.new ≡ (if is_shared_file records (reference_of (placed_of (key.now, value.old))) (placed_of (key.now, value.old)) then file_recounted records (placed_of (key.now, value.old)) value.old else value.old)) }
+    ensures size { length value.new ≡ length value.old }
+{
+    let Some(reference) = reference_of(alloc, key, value, entries.private)? else {
+        return Ok(());
+    };
+    let count = count_number(&entries.links, reference);
+    write_be32(value, 44, low_word(count));
     Ok(())
 }
 
@@ -59,19 +86,31 @@ fn mend_value(
     key: &[u8],
     value: &mut [u8],
     entries: &Entries,
-) -> Result<(), OutOfMemory> {
-    if value.len() == FOLDER_LENGTH && read_be16(value, 0) == FOLDER {
-        mend_folder(value, entries);
+) -> Result<(), OutOfMemory>
+    ensures counted { (records : List Placed) → AreEntriesOf records entries.now → 8 ≤ length key.now → IsTrue (is_catalog value.old) → OnOk result (value.new ≡ value_recounted records (placed_of (key.now, value.old)) value.old) }
+    ensures size { length value.new ≡ length value.old }
+{
+    if value.len() == FOLDER_LENGTH {
+        if read_be16(value, 0) == FOLDER {
+            mend_folder(value, entries);
+        }
         return Ok(());
     }
-    if value.len() == FILE_LENGTH && read_be16(value, 0) == FILE {
-        return mend_file(alloc, key, value, entries);
+    if value.len() != FILE_LENGTH {
+        return Ok(());
     }
-    Ok(())
+    if read_be16(value, 0) != FILE {
+        return Ok(());
+    }
+    mend_file(alloc, key, value, entries)
 }
 
 /// Sets what a record counts that stands behind its key.
-fn mend_record(alloc: Global, record: &mut [u8], entries: &Entries) -> Result<(), OutOfMemory> {
+fn mend_record(alloc: Global, record: &mut [u8], entries: &Entries) -> Result<(), OutOfMemory>
+    ensures counted { (records : List Placed) → AreEntriesOf records entries.now → IsGoodItem record.old
+        → OnOk result (record.new ≡ key_of record.old ++ value_recounted records (placed_of (pair_of record.old)) (value_of record.old)) }
+    ensures size { length record.new ≡ length record.old }
+{
     if record.len() < 2 {
         return Ok(());
     }
@@ -83,16 +122,33 @@ fn mend_record(alloc: Global, record: &mut [u8], entries: &Entries) -> Result<()
     mend_value(alloc, key, value, entries)
 }
 
-/// Sets what the records of a leaf count.
-fn mend_leaf(
+/// Sets what a record of a leaf counts.
+fn mend_nth(
     alloc: Global,
     node: &mut [u8],
+    i: usize,
     entries: &Entries,
-) -> Result<(), OutOfMemory> {
+) -> Result<(), OutOfMemory>
+    requires offsets { 2 * (i + 2) ≤ length node.old }
+    requires order { offset node.old i ≤ offset node.old (i + 1) }
+    requires inside { offset node.old (i + 1) ≤ length node.old }
+    ensures counted { (records : List Placed) → AreEntriesOf records entries.now → IsGoodItem (slice_range node.old (offset node.old i) (offset node.old (i + 1))) → OnOk result (node.new ≡ record_mended records node.old i) }
+    ensures same { SameFrom (offset node.old (i + 1)) node.old node.new }
+{
+    let from = get_offset(node, i);
+    let to = get_offset(node, i + 1);
+    mend_record(alloc, &mut node[from..to], entries)
+}
+
+/// Sets what the records of a leaf count.
+fn mend_leaf(alloc: Global, node: &mut [u8], entries: &Entries) -> Result<(), OutOfMemory>
+    requires long { 512 ≤ length node.old }
+    requires well_formed { IsNode node.old }
+    ensures counted { (records : List Placed) → AreEntriesOf records entries.now → IsGoodLeaf node.old → OnOk result (node.new ≡ leaf_mended records node.old) }
+    ensures size { length node.new ≡ length node.old }
+{
     for i in 0..count_records(node) {
-        let from = get_offset(node, i);
-        let to = get_offset(node, i + 1);
-        mend_record(alloc, &mut node[from..to], entries)?;
+        mend_nth(alloc, node, i, entries)?;
     }
     Ok(())
 }
@@ -102,7 +158,12 @@ pub(crate) fn mended_leaf(
     alloc: Global,
     node: &[u8],
     entries: &Entries,
-) -> Result<Vec<u8>, OutOfMemory> {
+) -> Result<Vec<u8>, OutOfMemory>
+    requires long { 512 ≤ length node.now }
+    requires well_formed { IsNode node.now }
+    ensures counted { (records : List Placed) → AreEntriesOf records entries.now → IsGoodLeaf node.now → IfOk result (λ bytes. bytes.items ≡ leaf_mended records node.now) }
+    ensures size { IfOk result (λ bytes. length bytes.items ≡ length node.now) }
+{
     let mut bytes = Vec::from_slice(alloc, node)?;
     mend_leaf(alloc, &mut bytes, entries)?;
     Ok(bytes)

@@ -1,4 +1,18 @@
 //! The leaves of the catalog, with what their records count.
+ghost use Rattle.std.specs.Prelude.{◌≡◌, ◌≤◌, ◌<◌, ◌+◌, ◌*◌, ◌/◌, ◌^◌, ℕ, List, length, take, drop, slice_index, slice_get, Some, IsTrue, IfOk, OnOk, IsErrOf};
+ghost use Rattle.hx_bytes.specs.declared.faults.Trouble.TheVariants.{Disk};
+ghost use Rattle.fork_map.specs.Blocks.{fork_sectors};
+ghost use Rattle.sector_disk.specs.Cause.{Rose, HasCause};
+ghost use Rattle.jnl_format.specs.Recovery.{Content};
+ghost use Rattle.btree_node.specs.Node.{next_of};
+ghost use Rattle.btree_file.specs.Frame.{ReadsSpace};
+ghost use Rattle.hfs_volume.specs.Content.{node_of_fork};
+ghost use Rattle.hfs_volume.specs.Records.{Placed};
+ghost use Rattle.fsck_core.specs.Shown.{Shows};
+ghost use Rattle.volume_repair.specs.Repair.{sector_mended, leaf_mended};
+ghost use Rattle.fsck_repair.specs.Changing.{Notes};
+ghost use Rattle.fsck_repair.specs.Counted.{AreEntriesOf, IsSkipped};
+ghost use Rattle.fsck_repair.specs.Leaf.{IsGoodLeaf, IsPlainAt, IsOfNode, MendsNode, AreLeaves, IsOfLeaves};
 
 use crate::counts::Entries;
 use crate::leaf::mended_leaf;
@@ -6,35 +20,22 @@ use crate::mend::Change;
 use crate::noting::note;
 use crate::skipped::Skipped;
 use btree_node::Node;
-use fsck_scan::{Fork, read_sector};
-use hx_bytes::{OutOfMemory, Sector, Trouble};
+use fsck_scan::{Fork, read_node};
+use hx_bytes::{Sector, Trouble};
 use sector_disk::SectorView;
 use std::alloc::Global;
 
-/// Reads a node of a fork, of the length of the buffer.
-fn read_node<V: SectorView>(
-    view: &mut V,
-    fork: &Fork,
-    node: u32,
-    into: &mut Node,
-) -> Result<(), Trouble> {
-    let per = into.bytes().len() as u32 / 512;
-    let mut sector = [0; 512];
-    for k in 0..per {
-        read_sector(view, fork, node as u64 * per as u64 + k as u64, &mut sector)?;
-        into.fill(k, &sector);
-    }
-    Ok(())
-}
-
 /// A sector of a node's bytes.
-fn sector_of(bytes: &[u8], k: usize) -> Sector {
+fn sector_of(bytes: &[u8], k: usize) -> Sector
+    requires { k * 512 + 512 ≤ length bytes.now }
+    ensures { result ≡ take 512 (drop (512 * k) bytes.now) }
+{
     let mut sector = [0; 512];
     sector.copy_from_slice(&bytes[k * 512..k * 512 + 512]);
     sector
 }
 
-/// Notes what changes in a sector of a leaf.
+/// Notes what changes in the sector at a place of a file, if the volume has it and it isn't skipped.
 fn note_sector<V: SectorView>(
     view: &mut V,
     fork: &Fork,
@@ -42,7 +43,15 @@ fn note_sector<V: SectorView>(
     new: &Sector,
     skipped: Skipped,
     changes: &mut Vec<Change>,
-) -> Result<(), Trouble> {
+) -> Result<(), Trouble>
+    requires blocks { fork.now.per_block ≤ 2 ^ 23 }
+    ensures notes { (content : Content) → Shows (V.space view.old) content → IsSkipped content skipped
+        → ((at : ℕ) → IsPlainAt content (fork_sectors fork.now.extents.now fork.now.per_block) place at → sector_mended content at ≡ new.now)
+        → OnOk result (Notes content (IsPlainAt content (fork_sectors fork.now.extents.now fork.now.per_block) place) changes.old.items changes.new.items) }
+    ensures reads { ReadsSpace (V.space view.old) (V.space view.new) }
+    ensures below { V.follows view.old view.new }
+    ensures disk { IsErrOf result Disk → Rose (V.space view.old).faults (V.space view.new).faults }
+{
     let Some(at) = fork.extents.sector_at(fork.per_block, place) else {
         return Ok(());
     };
@@ -58,25 +67,35 @@ fn note_sector<V: SectorView>(
     Ok(())
 }
 
-/// Notes what changes in the sectors of a leaf, of which these are the new bytes.
-fn note_leaf<V: SectorView>(
+/// Notes what changes in the sectors of a node, of which these are the new bytes.
+fn note_node<V: SectorView>(
     view: &mut V,
     fork: &Fork,
     node: u32,
     bytes: &[u8],
     skipped: Skipped,
     changes: &mut Vec<Change>,
-) -> Result<(), Trouble> {
-    let per = bytes.len() / 512;
-    for k in 0..per {
+) -> Result<(), Trouble>
+    requires blocks { fork.now.per_block ≤ 2 ^ 23 }
+    requires few { length bytes.now ≤ 2 ^ 16 }
+    ensures notes { (content : Content) → Shows (V.space view.old) content → IsSkipped content skipped
+        → MendsNode content (fork_sectors fork.now.extents.now fork.now.per_block) (length bytes.now / 512) node bytes.now
+        → OnOk result (Notes content (IsOfNode content (fork_sectors fork.now.extents.now fork.now.per_block) (length bytes.now / 512) node) changes.old.items changes.new.items) }
+    ensures reads { ReadsSpace (V.space view.old) (V.space view.new) }
+    ensures below { V.follows view.old view.new }
+    ensures disk { IsErrOf result Disk → Rose (V.space view.old).faults (V.space view.new).faults }
+{
+    let per_node = bytes.len() / 512;
+    for k in 0..per_node {
         let new = sector_of(bytes, k);
-        let place = node as u64 * per as u64 + k as u64;
+        let place = node as u64 * per_node as u64 + k as u64;
         note_sector(view, fork, place, &new, skipped, changes)?;
     }
     Ok(())
 }
 
-/// Notes what changes in a leaf, and gives the next one; 0 is none.
+/// Notes what changes in a leaf, and gives the next one; 0 is none. What is no leaf is told as want of memory: a catalog that keeps its rules
+/// has none.
 fn mend_node<V: SectorView>(
     alloc: Global,
     view: &mut V,
@@ -86,17 +105,29 @@ fn mend_node<V: SectorView>(
     entries: &Entries,
     skipped: Skipped,
     changes: &mut Vec<Change>,
-) -> Result<u32, Trouble> {
+) -> Result<u32, Trouble>
+    requires blocks { fork.now.per_block ≤ 2 ^ 23 }
+    ensures notes { (content : Content) (records : List Placed) → Shows (V.space view.old) content → IsSkipped content skipped → AreEntriesOf records entries.now
+        → IsGoodLeaf (node_of_fork content fork.now.limit (fork_sectors fork.now.extents.now fork.now.per_block) (length node.old) n)
+        → MendsNode content (fork_sectors fork.now.extents.now fork.now.per_block) (length node.old / 512) n (leaf_mended records (node_of_fork content fork.now.limit (fork_sectors fork.now.extents.now fork.now.per_block) (length node.old) n))
+        → OnOk result (Notes content (IsOfNode content (fork_sectors fork.now.extents.now fork.now.per_block) (length node.old / 512) n) changes.old.items changes.new.items) }
+    ensures next { (content : Content) → Shows (V.space view.old) content → IfOk result (λ next. next ≡ next_of (node_of_fork content fork.now.limit (fork_sectors fork.now.extents.now fork.now.per_block) (length node.old) n)) }
+    ensures size { length node.new ≡ length node.old }
+    ensures reads { ReadsSpace (V.space view.old) (V.space view.new) }
+    ensures below { V.follows view.old view.new }
+    ensures disk { IsErrOf result Disk → Rose (V.space view.old).faults (V.space view.new).faults }
+{
     read_node(view, fork, n, node)?;
     if !node.check(-1, 1) {
         return Err(Trouble::Memory);
     }
     let bytes = mended_leaf(alloc, node.bytes(), entries)?;
-    note_leaf(view, fork, n, &bytes, skipped, changes)?;
+    note_node(view, fork, n, &bytes, skipped, changes)?;
     Ok(node.links().0)
 }
 
-/// Notes what changes in the leaves of a catalog with so many nodes, from this leaf on.
+/// Notes what changes in the leaves of a catalog with so many nodes, from this leaf on. More leaves than nodes are told as want of memory: a
+/// catalog that keeps its rules has none.
 pub(crate) fn mend_leaves<V: SectorView>(
     alloc: Global,
     view: &mut V,
@@ -107,7 +138,15 @@ pub(crate) fn mend_leaves<V: SectorView>(
     entries: &Entries,
     skipped: Skipped,
     changes: &mut Vec<Change>,
-) -> Result<(), Trouble> {
+) -> Result<(), Trouble>
+    requires blocks { fork.now.per_block ≤ 2 ^ 23 }
+    ensures notes { (content : Content) (records : List Placed) (leaves : List ℕ) → Shows (V.space view.old) content → IsSkipped content skipped → AreEntriesOf records entries.now → first ≡ slice_index leaves 0
+        → AreLeaves content (fork_sectors fork.now.extents.now fork.now.per_block) (λ n. node_of_fork content fork.now.limit (fork_sectors fork.now.extents.now fork.now.per_block) (length node.old) n) (length node.old / 512) records leaves
+        → OnOk result (Notes content (IsOfLeaves content (fork_sectors fork.now.extents.now fork.now.per_block) (length node.old / 512) leaves (length leaves)) changes.old.items changes.new.items) }
+    ensures reads { ReadsSpace (V.space view.old) (V.space view.new) }
+    ensures below { V.follows view.old view.new }
+    ensures disk { IsErrOf result Disk → Rose (V.space view.old).faults (V.space view.new).faults }
+{
     let mut next = first;
     for _read in 0..total {
         if next == 0 {
@@ -117,5 +156,8 @@ pub(crate) fn mend_leaves<V: SectorView>(
             alloc, view, fork, next, node, entries, skipped, changes,
         )?;
     }
-    if next == 0 { Ok(()) } else { Err(Trouble::Memory) }
+    if next == 0 {
+        return Ok(());
+    }
+    Err(Trouble::Memory)
 }

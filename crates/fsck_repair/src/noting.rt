@@ -1,4 +1,8 @@
 //! Changes that are noted, and put in order.
+ghost use Rattle.std.specs.Prelude.{◌≡◌, OnOk, IfOk};
+ghost use Rattle.std.specs.List.Sorted.{IsNonDecreasingBy};
+ghost use Rattle.fsck_repair.specs.Changing.{noted, is_behind, behind_added, IsInOrder};
+ghost use Rattle.fsck_repair.specs.Overlay.{ChangesOnce};
 
 use crate::mend::Change;
 use hx_bytes::{OutOfMemory, Sector};
@@ -10,7 +14,9 @@ pub(crate) fn note(
     at: u64,
     old: &Sector,
     new: &Sector,
-) -> Result<(), OutOfMemory> {
+) -> Result<(), OutOfMemory>
+    ensures { OnOk result (changes.new.items ≡ noted changes.old.items at old.now new.now) }
+{
     if old == new {
         return Ok(());
     }
@@ -20,22 +26,36 @@ pub(crate) fn note(
 }
 
 /// Whether a change is of a sector behind that of the last one.
-fn is_behind(changes: &[Change], at: u64) -> bool {
+fn is_behind(changes: &[Change], at: u64) -> bool
+    ensures { result ≡ is_behind changes.now at }
+{
     let count = changes.len();
     count == 0 || changes[count - 1].at < at
+}
+
+/// Adds a change, where it is of a sector behind that of the last one.
+fn add_behind(sorted: &mut Vec<Change>, change: &Change) -> Result<(), OutOfMemory>
+    ensures { OnOk result (sorted.new.items ≡ behind_added sorted.old.items change.now) }
+{
+    if is_behind(sorted, change.at) {
+        sorted.push(*change)?;
+    }
+    Ok(())
 }
 
 /// Changes in the order of their sectors, each sector once.
 pub(crate) fn put_in_order(
     alloc: Global,
     mut changes: Vec<Change>,
-) -> Result<Vec<Change>, OutOfMemory> {
+) -> Result<Vec<Change>, OutOfMemory>
+    ensures order { IfOk result (λ sorted. IsNonDecreasingBy (λ change. change.at) sorted.items) }
+    ensures once { IfOk result (λ sorted. ChangesOnce sorted.items) }
+    ensures same { IfOk result (λ sorted. IsInOrder changes.items sorted.items) }
+{
     changes.sort_unstable_by_key(|change| change.at);
     let mut sorted = Vec::new(alloc);
     for change in &changes {
-        if is_behind(&sorted, change.at) {
-            sorted.push(*change)?;
-        }
+        add_behind(&mut sorted, change)?;
     }
     Ok(sorted)
 }

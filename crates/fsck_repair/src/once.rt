@@ -1,4 +1,9 @@
 //! Whether the blocks that a repair may write have one use each.
+ghost use Rattle.std.specs.Prelude.{◌≡◌, ◌↔◌, ◌<◌, ◌≤◌, ◌+◌, ◌++◌, ◌^◌, ℕ, All, IsTrue, IfOk, OnOk, MatchOption};
+ghost use Rattle.std.specs.List.Sorted.{IsNonDecreasingBy};
+ghost use Rattle.alloc_bitmap.specs.Apart.{times};
+ghost use Rattle.fork_map.specs.Blocks.{blocks_of};
+ghost use Rattle.fsck_repair.specs.Once.{as_uses, times_used, times_written, used_hits, written_hits, HasSwept, IsTwice, with_blocks};
 
 use fork_map::ExtentList;
 use hx_bytes::{Extent, OutOfMemory};
@@ -22,7 +27,13 @@ pub(crate) struct Sweep {
 }
 
 /// Looks at blocks that are used, unless one of them was used already that a repair may write.
-fn sweep_used(sweep: Sweep, start: u64, stop: u64) -> Option<Sweep> {
+fn sweep_used(sweep: Sweep, extent: Extent) -> Option<Sweep>
+    requires some { 0 < extent.count }
+    ensures { (Used Written : ℕ → ℕ) (last : ℕ) → HasSwept Used Written sweep last → last ≤ extent.start
+        → MatchOption result (IsTwice (with_blocks Used extent.start extent.count) Written) (λ next. HasSwept (with_blocks Used extent.start extent.count) Written next extent.start) }
+{
+    let start = extent.start as u64;
+    let stop = start + extent.count as u64;
     let used = stop.max(sweep.used);
     if start >= sweep.used {
         return Some(Sweep { used, ..sweep });
@@ -39,7 +50,13 @@ fn sweep_used(sweep: Sweep, start: u64, stop: u64) -> Option<Sweep> {
 }
 
 /// Looks at blocks that a repair may write, unless one of them was used twice.
-fn sweep_written(sweep: Sweep, start: u64, stop: u64) -> Option<Sweep> {
+fn sweep_written(sweep: Sweep, extent: Extent) -> Option<Sweep>
+    requires some { 0 < extent.count }
+    ensures { (Used Written : ℕ → ℕ) (last : ℕ) → HasSwept Used Written sweep last → last ≤ extent.start
+        → MatchOption result (IsTwice Used (with_blocks Written extent.start extent.count)) (λ next. HasSwept Used (with_blocks Written extent.start extent.count) next extent.start) }
+{
+    let start = extent.start as u64;
+    let stop = start + extent.count as u64;
     if start < sweep.twice {
         return None;
     }
@@ -48,21 +65,23 @@ fn sweep_written(sweep: Sweep, start: u64, stop: u64) -> Option<Sweep> {
 }
 
 /// Looks at one extent more, which begins no earlier than those before it.
-fn sweep_one(sweep: Sweep, one: Use) -> Option<Sweep> {
+fn sweep_one(sweep: Sweep, one: Use) -> Option<Sweep>
+    ensures { (Used Written : ℕ → ℕ) (last : ℕ) → HasSwept Used Written sweep last → last ≤ one.extent.start
+        → MatchOption result (IsTwice (λ k. Used k + used_hits k one) (λ k. Written k + written_hits k one)) (λ next. HasSwept (λ k. Used k + used_hits k one) (λ k. Written k + written_hits k one) next one.extent.start) }
+{
     if one.extent.count == 0 {
         return Some(sweep);
     }
-    let start = one.extent.start as u64;
-    let stop = start + one.extent.count as u64;
     if one.written {
-        sweep_written(sweep, start, stop)
-    } else {
-        sweep_used(sweep, start, stop)
+        return sweep_written(sweep, one.extent);
     }
+    sweep_used(sweep, one.extent)
 }
 
 /// Looks at extents in the order of their starts, and tells whether no block that a repair may write is used twice.
-fn sweep_all(uses: &[Use]) -> bool {
+fn sweep_all(uses: &[Use]) -> bool
+    ensures { IsNonDecreasingBy (λ one. one.extent.start) uses.now → IsTrue result ↔ ((k : ℕ) → 0 < times_written uses.now k → times_used uses.now k ≤ 1) }
+{
     let mut sweep = Sweep {
         used: 0,
         twice: 0,
@@ -78,7 +97,9 @@ fn sweep_all(uses: &[Use]) -> bool {
 }
 
 /// Adds extents to a list of uses.
-fn add_uses(uses: &mut Vec<Use>, extents: &[Extent], written: bool) -> Result<(), OutOfMemory> {
+fn add_uses(uses: &mut Vec<Use>, extents: &[Extent], written: bool) -> Result<(), OutOfMemory>
+    ensures { OnOk result (uses.new.items ≡ uses.old.items ++ as_uses written extents.now) }
+{
     for extent in extents {
         uses.push(Use {
             extent: *extent,
@@ -93,7 +114,9 @@ pub(crate) fn are_used_once(
     alloc: Global,
     used: &ExtentList,
     written: &ExtentList,
-) -> Result<bool, OutOfMemory> {
+) -> Result<bool, OutOfMemory>
+    ensures { IfOk result (λ met. IsTrue met ↔ All (λ block. times block (blocks_of used.now) ≤ 1) (blocks_of written.now)) }
+{
     let mut uses = Vec::new(alloc);
     add_uses(&mut uses, used.as_slice(), false)?;
     add_uses(&mut uses, written.as_slice(), true)?;

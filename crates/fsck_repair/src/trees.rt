@@ -1,24 +1,23 @@
 //! The trees of a volume that can be repaired.
+ghost use Rattle.std.specs.Prelude.{◌≡◌, MatchOption, IfOk, IsErrOf};
+ghost use Rattle.hx_bytes.specs.declared.faults.Trouble.TheVariants.{Disk};
+ghost use Rattle.sector_disk.specs.Cause.{Rose};
+ghost use Rattle.jnl_format.specs.Recovery.{Content, header_of_volume};
+ghost use Rattle.btree_file.specs.Frame.{ReadsSpace};
+ghost use Rattle.hfs_volume.specs.Blocks.{IsGoodHeader};
+ghost use Rattle.hfs_volume.specs.Content.{overflow_of_content};
+ghost use Rattle.fsck_core.specs.Overflows.{overflows_in};
+ghost use Rattle.fsck_core.specs.Shown.{Shows, HoldsExtents, HoldsCatalog};
+ghost use Rattle.volume_repair.specs.Repair.{IsMendable};
+ghost use Rattle.fsck_repair.specs.Counted.{Decides, HasAttributesTree, AreTrees};
 
-use fsck_core::{
-    OverflowRow, fork_extents, judge_compare, judge_size, read_overflow, scan_attributes,
-    scan_catalog, scan_extents,
-};
+use fsck_core::{OverflowRow, read_overflow, scan_attributes, scan_catalog, scan_extents};
 use fsck_list::Findings;
-use fsck_scan::{Head, Pairs, read_tree_head};
-use hx_bytes::{ForkRecord, Trouble};
+use fsck_scan::Pairs;
+use hx_bytes::Trouble;
 use sector_disk::SectorView;
 use std::alloc::Global;
 use volume_header::VolumeHeader;
-
-/// The CNIDs of the special files that hold trees (TN1150, "Reserved Catalog Node IDs").
-const EXTENTS_FILE: u32 = 3;
-
-const CATALOG_FILE: u32 = 4;
-
-const ATTRIBUTES_FILE: u32 = 8;
-
-const DATA: u8 = 0;
 
 /// What the trees of a volume hold that a repair looks at.
 #[derive(Drop)]
@@ -32,7 +31,13 @@ fn read_rows<V: SectorView>(
     alloc: Global,
     view: &mut V,
     head: &VolumeHeader,
-) -> Result<Option<Vec<OverflowRow>>, Trouble> {
+) -> Result<Option<Vec<OverflowRow>>, Trouble>
+    requires good { IsGoodHeader (V.space view.old).sectors head.now }
+    ensures found { (content : Content) → Shows (V.space view.old) content → head.now ≡ header_of_volume content → IfOk result (λ o. MatchOption o (¬ IsMendable content) (λ rows. HoldsExtents content rows.items)) }
+    ensures reads { ReadsSpace (V.space view.old) (V.space view.new) }
+    ensures below { V.follows view.old view.new }
+    ensures disk { IsErrOf result Disk → Rose (V.space view.old).faults (V.space view.new).faults }
+{
     let mut out = Findings::new(alloc);
     let Some(pairs) = scan_extents(alloc, view, head, &mut out)? else {
         return Ok(None);
@@ -47,7 +52,13 @@ fn read_catalog<V: SectorView>(
     view: &mut V,
     head: &VolumeHeader,
     rows: &[OverflowRow],
-) -> Result<Option<Pairs>, Trouble> {
+) -> Result<Option<Pairs>, Trouble>
+    requires good { IsGoodHeader (V.space view.old).sectors head.now }
+    ensures found { (content : Content) → Shows (V.space view.old) content → head.now ≡ header_of_volume content → overflows_in rows.now ≡ overflow_of_content content → IfOk result (λ o. MatchOption o (¬ IsMendable content) (λ pairs. HoldsCatalog content pairs)) }
+    ensures reads { ReadsSpace (V.space view.old) (V.space view.new) }
+    ensures below { V.follows view.old view.new }
+    ensures disk { IsErrOf result Disk → Rose (V.space view.old).faults (V.space view.new).faults }
+{
     let mut out = Findings::new(alloc);
     scan_catalog(alloc, view, head, rows, &mut out)
 }
@@ -58,7 +69,13 @@ fn has_attributes_tree<V: SectorView>(
     view: &mut V,
     head: &VolumeHeader,
     rows: &[OverflowRow],
-) -> Result<bool, Trouble> {
+) -> Result<bool, Trouble>
+    requires good { IsGoodHeader (V.space view.old).sectors head.now }
+    ensures met { (content : Content) → Shows (V.space view.old) content → head.now ≡ header_of_volume content → overflows_in rows.now ≡ overflow_of_content content → IfOk result (Decides content (HasAttributesTree content)) }
+    ensures reads { ReadsSpace (V.space view.old) (V.space view.new) }
+    ensures below { V.follows view.old view.new }
+    ensures disk { IsErrOf result Disk → Rose (V.space view.old).faults (V.space view.new).faults }
+{
     if head.attributes_fork.logical_size == 0 {
         return Ok(true);
     }
@@ -72,7 +89,13 @@ pub(crate) fn read_trees<V: SectorView>(
     alloc: Global,
     view: &mut V,
     head: &VolumeHeader,
-) -> Result<Option<Trees>, Trouble> {
+) -> Result<Option<Trees>, Trouble>
+    requires good { IsGoodHeader (V.space view.old).sectors head.now }
+    ensures found { (content : Content) → Shows (V.space view.old) content → head.now ≡ header_of_volume content → IfOk result (λ o. MatchOption o (¬ IsMendable content) (AreTrees content)) }
+    ensures reads { ReadsSpace (V.space view.old) (V.space view.new) }
+    ensures below { V.follows view.old view.new }
+    ensures disk { IsErrOf result Disk → Rose (V.space view.old).faults (V.space view.new).faults }
+{
     let Some(overflow) = read_rows(alloc, view, head)? else {
         return Ok(None);
     };
@@ -84,91 +107,4 @@ pub(crate) fn read_trees<V: SectorView>(
         return Ok(None);
     };
     Ok(Some(Trees { overflow, catalog }))
-}
-
-/// Reads the header record of a tree.
-fn read_file_head<V: SectorView>(
-    alloc: Global,
-    view: &mut V,
-    head: &VolumeHeader,
-    rows: &[OverflowRow],
-    id: u32,
-    fork: &ForkRecord,
-) -> Result<Head, Trouble> {
-    let extents = fork_extents(alloc, rows, id, DATA, fork)?;
-    read_tree_head(alloc, view, &extents, head.block_size)
-}
-
-/// Whether a tree's file has whole blocks and whole nodes.
-fn has_size<V: SectorView>(
-    alloc: Global,
-    view: &mut V,
-    head: &VolumeHeader,
-    rows: &[OverflowRow],
-    id: u32,
-    fork: &ForkRecord,
-) -> Result<bool, Trouble> {
-    let tree = read_file_head(alloc, view, head, rows, id, fork)?;
-    let mut out = Findings::new(alloc);
-    let met = judge_size(id, head, fork, &tree, &mut out)?;
-    Ok(met)
-}
-
-/// Whether the attributes file has whole blocks and whole nodes, where the volume has one.
-fn has_attributes_size<V: SectorView>(
-    alloc: Global,
-    view: &mut V,
-    head: &VolumeHeader,
-    rows: &[OverflowRow],
-) -> Result<bool, Trouble> {
-    if head.attributes_fork.logical_size == 0 {
-        return Ok(true);
-    }
-    has_size(
-        alloc,
-        view,
-        head,
-        rows,
-        ATTRIBUTES_FILE,
-        &head.attributes_fork,
-    )
-}
-
-/// Whether the allocation file has a bit for each block.
-fn has_bits(head: &VolumeHeader) -> bool {
-    (head.total_blocks as u64 + 7) / 8 <= head.allocation_fork.logical_size
-}
-
-/// Whether the special files have the sizes that they say. Bits behind those of blocks may be set.
-pub(crate) fn have_sizes<V: SectorView>(
-    alloc: Global,
-    view: &mut V,
-    head: &VolumeHeader,
-    rows: &[OverflowRow],
-) -> Result<bool, Trouble> {
-    if !has_bits(head) {
-        return Ok(false);
-    }
-    let extents = has_size(alloc, view, head, &[], EXTENTS_FILE, &head.extents_fork)?;
-    if !extents {
-        return Ok(false);
-    }
-    let catalog = has_size(alloc, view, head, rows, CATALOG_FILE, &head.catalog_fork)?;
-    if !catalog {
-        return Ok(false);
-    }
-    has_attributes_size(alloc, view, head, rows)
-}
-
-/// Reads the header record of the catalog, if keys are compared as they are in `HX` volumes.
-pub(crate) fn catalog_head<V: SectorView>(
-    alloc: Global,
-    view: &mut V,
-    head: &VolumeHeader,
-    rows: &[OverflowRow],
-) -> Result<Option<Head>, Trouble> {
-    let tree = read_file_head(alloc, view, head, rows, CATALOG_FILE, &head.catalog_fork)?;
-    let mut out = Findings::new(alloc);
-    let met = judge_compare(&tree, &mut out)?;
-    if met { Ok(Some(tree)) } else { Ok(None) }
 }

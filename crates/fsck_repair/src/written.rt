@@ -1,4 +1,11 @@
 //! The blocks that a repair may write.
+ghost use Rattle.std.specs.Prelude.{◌≡◌, ◌↔◌, ◌≤◌, ◌+◌, ◌++◌, IsTrue, All, IfOk, OnOk};
+ghost use Rattle.fork_map.specs.Blocks.{blocks_of};
+ghost use Rattle.hfs_volume.specs.Blocks.{IsGoodHeader};
+ghost use Rattle.hfs_volume.specs.Content.{VolumeState, overflow_in_volume};
+ghost use Rattle.hfs_volume.specs.Forks.{extents_of, allocation_id, catalog_id, data_kind};
+ghost use Rattle.fsck_core.specs.Overflows.{overflows_in};
+ghost use Rattle.volume_repair.specs.Repair.{blocks_written};
 
 use fork_map::ExtentList;
 use fsck_core::{OverflowRow, fork_extents, read_reserved};
@@ -18,7 +25,9 @@ pub(crate) fn allocation_extents(
     alloc: Global,
     head: &VolumeHeader,
     rows: &[OverflowRow],
-) -> Result<ExtentList, OutOfMemory> {
+) -> Result<ExtentList, OutOfMemory>
+    ensures { IfOk result (λ list. list ≡ extents_of (overflows_in rows.now) allocation_id data_kind head.now.allocation_fork) }
+{
     fork_extents(alloc, rows, ALLOCATION_FILE, DATA, &head.allocation_fork)
 }
 
@@ -27,22 +36,25 @@ pub(crate) fn catalog_extents(
     alloc: Global,
     head: &VolumeHeader,
     rows: &[OverflowRow],
-) -> Result<ExtentList, OutOfMemory> {
+) -> Result<ExtentList, OutOfMemory>
+    ensures { IfOk result (λ list. list ≡ extents_of (overflows_in rows.now) catalog_id data_kind head.now.catalog_fork) }
+{
     fork_extents(alloc, rows, CATALOG_FILE, DATA, &head.catalog_fork)
 }
 
 /// Whether each extent ends inside a volume of so many blocks.
-pub(crate) fn lie_inside(total: u32, extents: &[Extent]) -> bool {
-    for extent in extents {
-        if extent.start as u64 + extent.count as u64 > total as u64 {
-            return false;
-        }
-    }
-    true
+pub(crate) fn lie_inside(total: u32, extents: &[Extent]) -> bool
+    ensures { IsTrue result ↔ All (λ extent. extent.start + extent.count ≤ total) extents.now }
+{
+    extents
+        .iter()
+        .all(|extent| extent.start as u64 + extent.count as u64 <= total as u64)
 }
 
 /// Adds extents behind those that are there.
-fn add_extents(list: &mut ExtentList, extents: &[Extent]) -> Result<(), OutOfMemory> {
+fn add_extents(list: &mut ExtentList, extents: &[Extent]) -> Result<(), OutOfMemory>
+    ensures { OnOk result (list.new ≡ list.old ++ extents.now) }
+{
     for extent in extents {
         list.push(*extent)?;
     }
@@ -55,7 +67,10 @@ pub(crate) fn written_extents(
     sectors: u64,
     head: &VolumeHeader,
     rows: &[OverflowRow],
-) -> Result<ExtentList, OutOfMemory> {
+) -> Result<ExtentList, OutOfMemory>
+    requires { IsGoodHeader sectors head.now }
+    ensures { (volume : VolumeState) → sectors ≡ volume.sectors → head.now ≡ volume.head → overflows_in rows.now ≡ overflow_in_volume volume → IfOk result (λ list. blocks_of list ≡ blocks_written volume) }
+{
     let mut list = allocation_extents(alloc, head, rows)?;
     let catalog = catalog_extents(alloc, head, rows)?;
     add_extents(&mut list, catalog.as_slice())?;
