@@ -5,7 +5,9 @@ use Rattle.cat_records.specs.Records.{is_catalog}
 use Rattle.btree_node.specs.Node.{offset, record_count, next_of}
 use Rattle.btree_node.specs.Levels.{Nodes, key_of, value_of}
 use Rattle.hfs_volume.specs.Records.{Placed}
-use Rattle.volume_repair.specs.Repair.{sector_mended, leaf_mended}
+use Rattle.hfs_volume.specs.Broken.{leaves_in}
+use Rattle.hfs_volume.specs.Content.{catalog_file}
+use Rattle.volume_repair.specs.Repair.{catalog_sectors, sector_mended, leaf_mended}
 use Rattle.fsck_repair.specs.Counted.{IsPlain}
 
 -- a record of the catalog has a key that names its parent, and its value is one
@@ -44,3 +46,9 @@ pub record AreLeaves (content : Content) (sectors : List ℕ) (nodes : Nodes) (p
 -- this is a sector of one of the first leaves
 abbrev pub IsOfLeaves : Content → List ℕ → ℕ → List ℕ → ℕ → ℕ → Type 0
 IsOfLeaves content sectors per_node leaves count at = (k : ℕ) × (k < count) × IsOfNode content sectors per_node (slice_index leaves k) at
+
+-- this is a sector of a leaf of the catalog
+abbrev pub IsCatalogSector : Content → ℕ → Type 0
+IsCatalogSector content at =
+    let tree = catalog_file content in
+    IsOfLeaves content (catalog_sectors content) (tree.head.node_size / 512) (leaves_in tree) (length (leaves_in tree)) at

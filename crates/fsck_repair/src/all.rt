@@ -1,4 +1,16 @@
 //! All that changes in a volume whose counts were made anew.
+ghost use Rattle.std.specs.Prelude.{◌≡◌, ℕ, true, length, IsTrue, IfOk, OnOk, IsErrOf};
+ghost use Rattle.hx_bytes.specs.declared.faults.Trouble.TheVariants.{Disk};
+ghost use Rattle.sector_disk.specs.Cause.{Rose};
+ghost use Rattle.jnl_format.specs.Recovery.{Content};
+ghost use Rattle.volume_header.specs.Refusal.{is_volume_size};
+ghost use Rattle.btree_file.specs.Frame.{ReadsSpace};
+ghost use Rattle.hfs_volume.specs.Blocks.{IsGoodHeader};
+ghost use Rattle.fsck_core.specs.Shown.{Shows};
+ghost use Rattle.fsck_repair.specs.Changing.{AreRight, IsSettled, Notes};
+ghost use Rattle.fsck_repair.specs.Counted.{IsCounted, IsSkipped};
+ghost use Rattle.fsck_repair.specs.Leaf.{IsCatalogSector};
+ghost use Rattle.btree_node.specs.Node.{IsNodeSize};
 
 use crate::bitmap::mend_bitmap;
 use crate::counts::Counts;
@@ -13,25 +25,44 @@ use hx_bytes::Trouble;
 use sector_disk::SectorView;
 use std::alloc::Global;
 
-/// The sectors of the headers that are to be written.
-fn skipped_in(sectors: u64, counts: &Counts) -> Skipped {
+/// The sector of the header's copy in a volume of so many sectors, where that is to be written.
+fn skipped_in(sectors: u64, counts: &Counts) -> Skipped
+    requires size { is_volume_size sectors ≡ true }
+    ensures { (content : Content) → sectors ≡ length content → IsCounted content counts.now → IsSkipped content result }
+{
     if agrees(&counts.headers.head, &counts.headers.alternate) {
-        Skipped { copy: None }
-    } else {
-        Skipped {
-            copy: Some(sectors - 2),
-        }
+        return Skipped { copy: None };
+    }
+    Skipped {
+        copy: Some(sectors - 2),
     }
 }
 
-/// Notes what changes in the leaves of the catalog.
+/// Whether a node can have this size: a power of two from 512 to 32,768.
+fn is_node_size(size: u32) -> bool
+    ensures { IsTrue result → IsNodeSize size }
+{
+    size == 512
+        || (size == 1024
+            || (size == 2048
+                || (size == 4096 || (size == 8192 || (size == 16384 || size == 32768)))))
+}
+
+/// Notes what changes in the leaves of the catalog. A catalog whose nodes have no size that nodes have is told as want of memory: one that keeps
+/// its rules has one.
 fn mend_catalog<V: SectorView>(
     alloc: Global,
     view: &mut V,
     counts: &Counts,
     skipped: Skipped,
     changes: &mut Vec<Change>,
-) -> Result<(), Trouble> {
+) -> Result<(), Trouble>
+    requires good { IsGoodHeader (V.space view.old).sectors counts.now.headers.head }
+    ensures notes { (content : Content) → Shows (V.space view.old) content → IsCounted content counts.now → IsSkipped content skipped → OnOk result (Notes content (IsCatalogSector content) changes.old.items changes.new.items) }
+    ensures reads { ReadsSpace (V.space view.old) (V.space view.new) }
+    ensures below { V.follows view.old view.new }
+    ensures disk { IsErrOf result Disk → Rose (V.space view.old).faults (V.space view.new).faults }
+{
     let head = &counts.headers.head;
     let per_block = head.block_size / 512;
     let fork = Fork {
@@ -40,6 +71,9 @@ fn mend_catalog<V: SectorView>(
         limit: head.total_blocks as u64 * per_block as u64,
     };
     let shape = counts.tree.shape;
+    if !is_node_size(shape.node_size) {
+        return Err(Trouble::Memory);
+    }
     let mut node = Node::new(alloc, shape.node_size)?;
     mend_leaves(
         alloc,
@@ -59,7 +93,14 @@ pub(crate) fn all_changes<V: SectorView>(
     alloc: Global,
     view: &mut V,
     counts: &Counts,
-) -> Result<Vec<Change>, Trouble> {
+) -> Result<Vec<Change>, Trouble>
+    requires size { is_volume_size (V.space view.old).sectors ≡ true }
+    requires good { IsGoodHeader (V.space view.old).sectors counts.now.headers.head }
+    ensures changes { (content : Content) → Shows (V.space view.old) content → IsCounted content counts.now → IfOk result (λ changes. AreRight content changes.items × ((at : ℕ) → IsSettled content changes.items at)) }
+    ensures reads { ReadsSpace (V.space view.old) (V.space view.new) }
+    ensures below { V.follows view.old view.new }
+    ensures disk { IsErrOf result Disk → Rose (V.space view.old).faults (V.space view.new).faults }
+{
     let head = &counts.headers.head;
     let skipped = skipped_in(view.sectors(), counts);
     let numbers = numbers_of(head.total_blocks, &counts.entries, &counts.used);

@@ -1,5 +1,5 @@
 //! The allocation file, with a bit for each block that is used.
-ghost use Rattle.std.specs.Prelude.{◌≡◌, ◌≤◌, ◌<◌, ◌*◌, ◌+◌, ◌^◌, ℕ, Bool, List, length, false, nat_lt, slice_index, slice_index_or, slice_get, Some, IsTrue, OnOk, IsErrOf, if◌then◌else◌};
+ghost use Rattle.std.specs.Prelude.{◌≡◌, ◌≤◌, ◌<◌, ◌*◌, ◌^◌, ℕ, length, false, slice_index_or, slice_get, Some, OnOk, IsErrOf};
 ghost use Rattle.hx_bytes.specs.declared.faults.Trouble.TheVariants.{Disk};
 ghost use Rattle.fork_map.specs.Blocks.{fork_sectors};
 ghost use Rattle.sector_disk.specs.Cause.{Rose};
@@ -32,8 +32,7 @@ fn weight(set: bool, value: u8) -> u8
 
 /// The byte of the bits of eight blocks, of which the first has the highest.
 fn byte_of(used: &Marks, byte: u64) -> u8
-    requires { length used.now ≤ 2 ^ 32 }
-    ensures { result ≡ byte_of_bits (λ k. slice_index_or used.now k false) byte }
+    ensures { length used.now ≤ 2 ^ 32 → result ≡ byte_of_bits (λ k. slice_index_or used.now k false) byte }
 {
     if byte >= BYTES {
         return 0;
@@ -51,9 +50,8 @@ fn byte_of(used: &Marks, byte: u64) -> u8
 
 /// The sector at a place of the allocation file, which has so many bytes: those behind them stay.
 fn write_bits(sector: &mut Sector, used: &Marks, size: u64, place: u64)
-    requires few { length used.now ≤ 2 ^ 32 }
     requires inside { place * 512 < size }
-    ensures { sector.new ≡ bits_written (λ k. slice_index_or used.now k false) size place sector.old }
+    ensures { length used.now ≤ 2 ^ 32 → sector.new ≡ bits_written (λ k. slice_index_or used.now k false) size place sector.old }
 {
     let first = place * 512;
     let room = size - first;
@@ -73,10 +71,9 @@ fn mend_bits<V: SectorView>(
     at: u64,
     changes: &mut Vec<Change>,
 ) -> Result<(), Trouble>
-    requires few { length used.now ≤ 2 ^ 32 }
     requires inside { place * 512 < size }
     requires there { at < (V.space view.old).sectors }
-    ensures notes { (content : Content) → Shows (V.space view.old) content → MendsBitmap content (λ k. slice_index_or used.now k false) size place at
+    ensures notes { (content : Content) → length used.now ≤ 2 ^ 32 → Shows (V.space view.old) content → MendsBitmap content (λ k. slice_index_or used.now k false) size place at
         → OnOk result (Notes content (λ s. s ≡ at) changes.old.items changes.new.items) }
     ensures reads { ReadsSpace (V.space view.old) (V.space view.new) }
     ensures below { V.follows view.old view.new }
@@ -100,9 +97,8 @@ fn mend_place<V: SectorView>(
     skipped: Skipped,
     changes: &mut Vec<Change>,
 ) -> Result<(), Trouble>
-    requires few { length used.now ≤ 2 ^ 32 }
     requires inside { place * 512 < size }
-    ensures notes { (content : Content) → Shows (V.space view.old) content → IsSkipped content skipped → (IsPlain content at → MendsBitmap content (λ k. slice_index_or used.now k false) size place at)
+    ensures notes { (content : Content) → length used.now ≤ 2 ^ 32 → Shows (V.space view.old) content → IsSkipped content skipped → (IsPlain content at → MendsBitmap content (λ k. slice_index_or used.now k false) size place at)
         → OnOk result (Notes content (λ s. (s ≡ at) × IsPlain content s) changes.old.items changes.new.items) }
     ensures reads { ReadsSpace (V.space view.old) (V.space view.new) }
     ensures below { V.follows view.old view.new }
@@ -127,9 +123,8 @@ pub(crate) fn mend_bitmap<V: SectorView>(
     skipped: Skipped,
     changes: &mut Vec<Change>,
 ) -> Result<(), Trouble>
-    requires few { length used.now ≤ 2 ^ 32 }
     requires per_block { per_block ≤ 2 ^ 23 }
-    ensures notes { (content : Content) → Shows (V.space view.old) content → IsSkipped content skipped
+    ensures notes { (content : Content) → length used.now ≤ 2 ^ 32 → Shows (V.space view.old) content → IsSkipped content skipped
         → ((place at : ℕ) → place * 512 < size → slice_get (fork_sectors fork.now per_block) place ≡ Some at → IsPlain content at → MendsBitmap content (λ k. slice_index_or used.now k false) size place at)
         → OnOk result (Notes content (IsPlainPlace content size (fork_sectors fork.now per_block)) changes.old.items changes.new.items) }
     ensures reads { ReadsSpace (V.space view.old) (V.space view.new) }

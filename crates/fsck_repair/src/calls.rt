@@ -1,5 +1,5 @@
 //! The repair of a volume: the sectors in which it differs, how many they are, and putting them.
-ghost use Rattle.std.specs.Prelude.{◌≡◌, ◌<◌, ◌≤◌, ℕ, length, true, All, Contains, IsTrue, IfOk, OnErr, IsErrOf};
+ghost use Rattle.std.specs.Prelude.{◌≡◌, ◌↔◌, ◌<◌, ◌≤◌, ℕ, length, true, All, IsTrue, IfOk, OnErr, IsErrOf};
 ghost use Rattle.hx_bytes.specs.declared.faults.Trouble.TheVariants.{Disk};
 ghost use Rattle.sector_disk.specs.Cause.{Rose};
 ghost use Rattle.sector_disk.specs.Clock.{TimePasses};
@@ -29,6 +29,7 @@ impl Mend {
         ensures repair { IsTrue (V.space view.old).tells → HasBytes (V.space view.old).content → IfOk result (λ mend. IsRepair (V.space view.old).content (overlaid mend.changes.items (V.space view.old).content)) }
         // There are as many as differ.
         ensures differ { IsTrue (V.space view.old).tells → HasBytes (V.space view.old).content → IfOk result (λ mend. length mend.changes.items ≡ differing (V.space view.old).content (overlaid mend.changes.items (V.space view.old).content)) }
+        ensures bytes { IsTrue (V.space view.old).tells → HasBytes (V.space view.old).content → IfOk result (λ mend. HasBytes (overlaid mend.changes.items (V.space view.old).content)) }
         ensures once { IfOk result (λ mend. ChangesOnce mend.changes.items) }
         ensures inside { IfOk result (λ mend. All (λ at. at < (V.space view.old).sectors) (places_of mend.changes.items)) }
         ensures reads { ReadsSpace (V.space view.old) (V.space view.new) }
@@ -60,11 +61,7 @@ pub fn repair_size<V: SectorView>(alloc: Global, view: &mut V) -> Result<u64, Tr
 
 /// Puts the repair of a content into its space, and answers the number of sectors put. All is read before anything is put: where it gives
 /// up, nothing was put.
-pub fn repair<P: SectorSpace>(
-    alloc: Global,
-    space: &mut P,
-    sectors: u64,
-) -> Result<u64, Trouble>
+pub fn repair<P: SectorSpace>(alloc: Global, space: &mut P, sectors: u64) -> Result<u64, Trouble>
     requires size { is_volume_size (P.SectorView.space space.old).sectors ≡ true }
     requires bytes { IsTrue (P.SectorView.space space.old).tells → HasBytes (P.SectorView.space space.old).content }
     // No sector of the journal differs, as where the repair is sound.
@@ -76,6 +73,8 @@ pub fn repair<P: SectorSpace>(
     ensures few { IfOk result (λ n. n ≤ sectors) }
     ensures nothing { IsTrue (P.SectorView.space space.old).tells → OnErr result ((P.SectorView.space space.new).content ≡ (P.SectorView.space space.old).content) }
     ensures durable { IsTrue (P.SectorView.space space.old).tells → (P.SectorView.space space.new).durable ≡ (P.SectorView.space space.old).durable }
+    ensures spilled { IsTrue (P.SectorView.space space.old).tells → (at : ℕ) → (P.SectorView.space space.new).spilled at ↔ (P.SectorView.space space.old).spilled at }
+    ensures closed { IsTrue (P.SectorView.space space.old).tells → (at : ℕ) → (P.SectorView.space space.new).closed at ↔ (P.SectorView.space space.old).closed at }
     ensures time { IsTrue (P.SectorView.space space.old).tells → TimePasses (P.SectorView.space space.old).clock (P.SectorView.space space.new).clock (LeavesDurable (P.SectorView.space space.new)) }
     ensures same { SameSpace (P.SectorView.space space.old) (P.SectorView.space space.new) }
     ensures below { P.SectorView.follows space.old space.new }

@@ -24,8 +24,8 @@ use crate::trees::{Trees, read_trees};
 use crate::written::{allocation_extents, catalog_extents, lie_inside, written_extents};
 use fork_map::{ExtentList, SummedFork};
 use fsck_core::{
-    Headers, OverflowRow, Row, find_private, judge_header, judge_kinds,
-    judge_uses, link_numbers, read_forks, read_headers, read_rows, read_used,
+    Headers, OverflowRow, Row, find_private, judge_header, judge_kinds, judge_uses, link_numbers,
+    read_forks, read_headers, read_rows, read_used,
 };
 use fsck_list::{Findings, Marks};
 use fsck_scan::{Head, Pairs};
@@ -57,10 +57,7 @@ pub(crate) struct Counts {
 }
 
 /// Reads the headers, if the volume header is one that volumes of this size have.
-fn read_good_header<V: SectorView>(
-    alloc: Global,
-    view: &mut V,
-) -> Result<Option<Headers>, Trouble>
+fn read_good_header<V: SectorView>(alloc: Global, view: &mut V) -> Result<Option<Headers>, Trouble>
     requires size { is_volume_size (V.space view.old).sectors ≡ true }
     ensures good { IfOk result (λ o. IfSome o (λ headers. IsGoodHeader (V.space view.old).sectors headers.head)) }
     ensures found { (content : Content) → Shows (V.space view.old) content → IfOk result (λ o. MatchOption o (¬ IsMendable content) (HasHeaders content)) }

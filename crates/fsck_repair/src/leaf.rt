@@ -123,12 +123,7 @@ fn mend_record(alloc: Global, record: &mut [u8], entries: &Entries) -> Result<()
 }
 
 /// Sets what a record of a leaf counts.
-fn mend_nth(
-    alloc: Global,
-    node: &mut [u8],
-    i: usize,
-    entries: &Entries,
-) -> Result<(), OutOfMemory>
+fn mend_nth(alloc: Global, node: &mut [u8], i: usize, entries: &Entries) -> Result<(), OutOfMemory>
     requires offsets { 2 * (i + 2) ≤ length node.old }
     requires order { offset node.old i ≤ offset node.old (i + 1) }
     requires inside { offset node.old (i + 1) ≤ length node.old }

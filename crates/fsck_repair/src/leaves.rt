@@ -152,9 +152,7 @@ pub(crate) fn mend_leaves<V: SectorView>(
         if next == 0 {
             return Ok(());
         }
-        next = mend_node(
-            alloc, view, fork, next, node, entries, skipped, changes,
-        )?;
+        next = mend_node(alloc, view, fork, next, node, entries, skipped, changes)?;
     }
     if next == 0 {
         return Ok(());

@@ -46,9 +46,7 @@ pub(crate) fn catalog_extents(
 pub(crate) fn lie_inside(total: u32, extents: &[Extent]) -> bool
     ensures { IsTrue result ↔ All (λ extent. extent.start + extent.count ≤ total) extents.now }
 {
-    extents
-        .iter()
-        .all(|extent| extent.start as u64 + extent.count as u64 <= total as u64)
+    extents.iter().all(|extent| extent.start as u64 + extent.count as u64 <= total as u64)
 }
 
 /// Adds extents behind those that are there.
