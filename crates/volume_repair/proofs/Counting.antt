@@ -155,7 +155,7 @@ header_stays volume sound = λ i. record volume.head { file_count = sym files i;
     free : volume.head.free_blocks ≡ volume.head.total_blocks - count_used volume.head.total_blocks (used_in volume)
     free = omega (arith, sound.blocks.bits.free)
 
-agreement : (head alternate : VolumeHeader) → AgreesWith head alternate → agrees head alternate ≡ true
+pub agreement : (head alternate : VolumeHeader) → AgreesWith head alternate → agrees head alternate ≡ true
 agreement head alternate is = rw (
   eq-eqb alternate.signature head.signature is.signature,
   eq-eqb alternate.version head.version is.version,
