@@ -1,5 +1,5 @@
 //! A leaf of the catalog, with what its records count.
-ghost use Rattle.std.specs.Prelude.{◌≡◌, ◌≤◌, ◌+◌, ◌*◌, ◌++◌, List, length, false, true, slice_range, IsTrue, IfOk, OnOk, MatchOption, if◌then◌else◌};
+ghost use Rattle.std.specs.Prelude.{◌≡◌, ◌↔◌, ◌≤◌, ◌+◌, ◌*◌, ◌++◌, List, length, false, true, slice_range, IsTrue, IfOk, OnOk, MatchOption, if◌then◌else◌};
 ghost use Rattle.hx_bytes.specs.Field.{big_at};
 ghost use Rattle.btree_node.specs.Node.{IsNode, offset, record_count};
 ghost use Rattle.btree_node.specs.Levels.{key_of, value_of, pair_of};
@@ -80,6 +80,17 @@ fn mend_file(
     Ok(())
 }
 
+/// Whether bytes are a record of this type, which has this length.
+fn is_record(value: &[u8], kind: u16, size: usize) -> bool
+    requires { 2 ≤ size }
+    ensures { IsTrue result ↔ ((length value.now ≡ size) × (big_at 2 value.now 0 ≡ kind)) }
+{
+    if value.len() != size {
+        return false;
+    }
+    read_be16(value, 0) == kind
+}
+
 /// Sets what a record counts.
 fn mend_value(
     alloc: Global,
@@ -90,16 +101,11 @@ fn mend_value(
     ensures counted { (records : List Placed) → AreEntriesOf records entries.now → 8 ≤ length key.now → IsTrue (is_catalog value.old) → OnOk result (value.new ≡ value_recounted records (placed_of (key.now, value.old)) value.old) }
     ensures size { length value.new ≡ length value.old }
 {
-    if value.len() == FOLDER_LENGTH {
-        if read_be16(value, 0) == FOLDER {
-            mend_folder(value, entries);
-        }
+    if is_record(value, FOLDER, FOLDER_LENGTH) {
+        mend_folder(value, entries);
         return Ok(());
     }
-    if value.len() != FILE_LENGTH {
-        return Ok(());
-    }
-    if read_be16(value, 0) != FILE {
+    if !is_record(value, FILE, FILE_LENGTH) {
         return Ok(());
     }
     mend_file(alloc, key, value, entries)

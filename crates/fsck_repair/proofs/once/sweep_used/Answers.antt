@@ -1,4 +1,3 @@
-use Rattle.std.proofs.Common.{◌≤◌}
 use Rattle.fsck_repair.proofs.OnceLaws.{used_apart, used_twice, used_again}
 use Rattle.fsck_repair.proofs.once.sweep_used.Goals as goal
 

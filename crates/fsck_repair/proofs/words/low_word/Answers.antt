@@ -1,5 +1,3 @@
-use Rattle.std.proofs.Common.{◌≡◌, ◌%◌, ◌∙◌, ap, sym}
-use Rattle.hx_bytes.specs.Field.{big}
 use Rattle.hx_bytes.specs.declared.fields.Order.TheVariants.{Big}
 use Rattle.hx_bytes.proofs.Putting.{number_bytes-low_4}
 use Rattle.fsck_repair.proofs.words.low_word.Goals as goal
