@@ -118,7 +118,7 @@ fn a_place_is_marked_once(rt: HostRuntime) -> Result<(), Fail> {
         (u32::MAX, false),
     ];
     for (place, could) in steps {
-        assert_eq!(rt; marks.mark(place), could, "{place}");
+        assert_eq!(rt; marks.mark(place)?, could, "{place}");
     }
     assert_eq!(rt;
         (

@@ -59,7 +59,7 @@ pub fn mark_children(
                 again: false,
             }));
         }
-        if !marks.mark(n) {
+        if !marks.mark(n)? {
             return Ok(Some(WrongChild {
                 node: n,
                 again: stands(nodes.as_slice(), n),

@@ -132,7 +132,7 @@ fn take_root<K: KeyOrder>(
     if root >= total {
         return Ok(Some(failed(5, form.id, root)));
     }
-    if !marks.mark(root) {
+    if !marks.mark(root)? {
         return Ok(Some(failed(5, form.id, root)));
     }
     push_node(&mut level.nodes, root)?;

@@ -43,7 +43,7 @@ returns-then-not-mark-clause-wrong c =
       taken = λ other. ⊎_elim
           (λ (was : get_or c.args.marks.now c.child_in-n.result true ≡ true). inr was)
           (λ (again : Contains c.loop-k.nodes.items c.child_in-n.result). absurd (never (sym other ∙ c.stands.ensures.1 (subst (λ (l : List ℕ). Contains l c.child_in-n.result) (sym c.as_slice.ensures.value) again))))
-          (marked_cases c.args.marks.now c.loop-k.marks c.loop-k.nodes.items c.child_in-n.result c.loop-k.invariant.marks (not_false (get_or c.loop-k.marks c.child_in-n.result true) (sym c.if-not-mark.true ∙ c.mark.ensures.could)));
+          (marked_cases c.args.marks.now c.loop-k.marks c.loop-k.nodes.items c.child_in-n.result c.loop-k.invariant.marks (not_false (get_or c.loop-k.marks c.child_in-n.result true) (sym c.if-not-mark.true ∙ c.in_ok-mark.ensures.could)));
       twice = λ is. subst (λ (l : List ℕ). Contains l c.child_in-n.result) (c.as_slice.ensures.value ∙ c.loop-k.invariant.nodes) (c.stands.ensures.0 is);
     }
   where
@@ -58,7 +58,7 @@ loop-k-preserved c =
     let ns : List ℕ = c.loop-k.nodes.items in
     let inside : k < length records = omega (arith, c.loop-k-test.true, c.len-k-end.ensures) in
     let is : n ≡ slice_index (children_of records) k = child_at records k n c.get.result.now inside c.child_in-n.ensures c.get.ensures in
-    let clear : get_or c.loop-k.marks n true ≡ false = not_true (get_or c.loop-k.marks n true) (sym c.if-not-mark.false ∙ c.mark.ensures.could) in
+    let clear : get_or c.loop-k.marks n true ≡ false = not_true (get_or c.loop-k.marks n true) (sym c.if-not-mark.false ∙ c.in_ok-mark.ensures.could) in
     record {
       nodes =
           c.in_ok-push_node.ensures ∙ ap (λ (l : List ℕ). l ++ n ∷ []) c.loop-k.invariant.nodes ∙ ap (λ m. take k (children_of records) ++ m ∷ []) is
@@ -66,5 +66,5 @@ loop-k-preserved c =
       inside = subst (λ (l : List ℕ). All (λ m. m < c.args.total) l) (sym c.in_ok-push_node.ensures) (All-push (λ m. m < c.args.total) ns n c.loop-k.invariant.inside c.if-n-total.false);
       marks =
           subst (λ (l : List ℕ). MarksAll l c.args.marks.now c.mark.new.self) (sym c.in_ok-push_node.ensures)
-          (subst (λ (l : List Bool). MarksAll (ns ++ n ∷ []) c.args.marks.now l) (sym c.if-not-mark.ensures.marks) (marks_more c.args.marks.now c.loop-k.marks ns n c.loop-k.invariant.marks clear));
+          (subst (λ (l : List Bool). MarksAll (ns ++ n ∷ []) c.args.marks.now l) (sym c.in_ok-mark.ensures.marks) (marks_more c.args.marks.now c.loop-k.marks ns n c.loop-k.invariant.marks clear));
     }
