@@ -11,3 +11,6 @@ pub mod Mending
 pub mod Journals
 pub mod Remounted
 pub mod Sounding
+pub mod Slices
+pub mod LeafNodes
+pub mod OwnRepair
