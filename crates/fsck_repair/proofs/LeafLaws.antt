@@ -1,6 +1,6 @@
 -- A leaf of the catalog with its records counted anew, one after the other.
 use Rattle.std.proofs.Common.{◌≡◌, ◌≢◌, ◌⊎◌, ◌↔◌, ◌<◌, ◌≤◌, ℕ, zero, suc, ◌+◌, ◌-◌, ◌*◌, Bool, true, false, ◌==◌, ◌&&◌, ◌^◌, nat_lt, if◌then◌else◌, List, [], ◌∷◌, ◌++◌, length, map, take, drop, fold, get_or, inl, inr, refl, sym, ◌∙◌, ap, subst, arith, IsTrue, append_assoc, length-append, length-drop, ⊎_elim}
-use Rattle.std.specs.Prelude.{slice_range, Option, Some, None, MatchOption}
+use Rattle.std.specs.Prelude.{slice_range, Option, Some, None, IsSome, MatchOption}
 use Rattle.std.specs.List.{range_with_len, count_by}
 use Rattle.std.specs.Str.{bytes_eq}
 use Rattle.std.specs.List.Sorted.{IsNonDecreasing, IsNonDecreasingBy}
@@ -16,7 +16,13 @@ use Rattle.cat_records.specs.declared.record.CatRecord.TheVariants.{Folder}
 use Rattle.btree_node.specs.Node.{offset, record_count}
 use Rattle.btree_node.specs.Levels.{key_of, value_of, pair_of}
 use Rattle.hfs_volume.specs.Entries.{count_in}
-use Rattle.hfs_volume.specs.Links.{is_in, private_id, node_name, is_shared_file, reference_of, links_to}
+use Rattle.hfs_model.specs.Sorted.{kept}
+use Rattle.hfs_volume.proofs.LinkWants.{reference_is}
+use Rattle.hfs_volume.specs.Links.{is_in, private_id, node_name, is_shared, is_shared_file, is_link_to, reference_of, links_to}
+use Rattle.fsck_core.specs.Links.{link_count, links_here}
+use Rattle.fsck_core.specs.Names.{IsSharedAs}
+use Rattle.fsck_core.specs.declared.shared.SharedFile.{SharedFile}
+use Rattle.hfs_volume.proofs.Counting.{length_kept}
 use Rattle.hfs_volume.specs.Records.{Placed, entries_of, placed_of, is_folder, is_file, id_in}
 use Rattle.fsck_core.specs.Rows.{row_of, rows_of, rows_under}
 use Rattle.fsck_core.specs.declared.rows.Row.{Row}
@@ -29,6 +35,34 @@ use Rattle.fsck_repair.specs.Leaf.{IsGoodItem, IsGoodLeaf, SameFrom}
 -- how many entries a folder has, by the rows
 pub entries_under : (records : List Placed) (rows : List Row) (id count : ℕ) → rows ≡ rows_of (entries_of records) → count ≡ rows_under rows id → count ≡ count_in (entries_of records) id
 entries_under records rows id count are is = is ∙ ap (λ (l : List Row). rows_under l id) are ∙ count_map row_of (λ (r : Row). r.parent == id) (entries_of records)
+
+-- how many links tell a number, by the rows
+pub links_by : (records : List Placed) (rows : List Row) (links numbers : List ℕ) (number count : ℕ) → rows ≡ rows_of (entries_of records) → ((n : ℕ) → times n links ≡ link_count rows n) → numbers ≡ links → count ≡ times number numbers
+    → count ≡ length (links_to records number)
+links_by records rows links numbers number count are told same is =
+    is ∙ ap (times number) same ∙ told number ∙ ap (λ (l : List Row). link_count l number) are ∙ count_map row_of (links_here number) (entries_of records) ∙ sym (length_kept (is_link_to number) (entries_of records))
+
+-- ---- whether a record is a file with several names
+
+module _ (records : List Placed) (private : Option ℕ) where
+  pub shared_none : (key value : List ℕ) → private ≡ private_id records → private ≡ None → is_shared_file records (reference_of (placed_of (key, value))) (placed_of (key, value)) ≡ false
+  shared_none key value same none = ap (λ o. is_shared o (reference_of (placed_of (key, value))) (placed_of (key, value))) (sym same ∙ none)
+
+  pub shared_not : (folder : ℕ) (key value : List ℕ) (found : Option SharedFile) → private ≡ private_id records → private ≡ Some folder → found ≡ None
+      → ((reference : ℕ) → is_shared (Some folder) reference (placed_of (key, value)) ≡ true → IsSome found) → is_shared_file records (reference_of (placed_of (key, value))) (placed_of (key, value)) ≡ false
+  shared_not folder key value found same some none whole = ap (λ o. is_shared o (reference_of (placed_of (key, value))) (placed_of (key, value))) (sym same ∙ some) ∙ by (is_shared (Some folder) (reference_of (placed_of (key, value))) (placed_of (key, value))) refl
+    where
+      by : (b : Bool) → is_shared (Some folder) (reference_of (placed_of (key, value))) (placed_of (key, value)) ≡ b → is_shared (Some folder) (reference_of (placed_of (key, value))) (placed_of (key, value)) ≡ false
+      by false is = is
+      by true is = absurd (subst (λ (o : Option SharedFile). IsSome o) none (whole (reference_of (placed_of (key, value))) is))
+
+  pub shared_yes : (folder : ℕ) (key value : List ℕ) (found : Option SharedFile) (file : SharedFile) → private ≡ private_id records → private ≡ Some folder → found ≡ Some file
+      → ((one : SharedFile) → found ≡ Some one → IsSharedAs (Some folder) (placed_of (key, value)) one)
+      → (is_shared_file records (reference_of (placed_of (key, value))) (placed_of (key, value)) ≡ true) × (reference_of (placed_of (key, value)) ≡ file.reference)
+  shared_yes folder key value found file same some is told =
+      let shared : is_shared_file records file.reference (placed_of (key, value)) ≡ true = ap (λ o. is_shared o file.reference (placed_of (key, value))) (sym same ∙ some) ∙ (told file is).shared in
+      let reference = reference_is records file.reference (placed_of (key, value)) shared in
+      (subst (λ n. is_shared_file records n (placed_of (key, value)) ≡ true) (sym reference) shared, reference)
 
 -- ---- the value of a record
 

@@ -1,17 +1,35 @@
 -- The sizes of the special files, decided one after the other.
-use Rattle.std.proofs.Common.{◌≡◌, ◌↔◌, ◌≤◌, ◌*◌, ◌<◌, ℕ, Bool, true, false, List, refl, sym, ◌∙◌, ap, subst, arith, IsTrue}
+use Rattle.std.proofs.Common.{◌≡◌, ◌↔◌, ◌≤◌, ◌*◌, ◌<◌, ℕ, Bool, true, false, List, [], ◌∷◌, refl, sym, ◌∙◌, ap, subst, arith, IsTrue}
 use Rattle.std.specs.Prelude.{Option, None, Some, MatchOption, Result, Ok, Err, IfOk}
 use Rattle.std.proofs.lemmas.Bool.{true≢false}
 use Rattle.sector_disk.specs.Space.{Space}
 use Rattle.jnl_format.specs.Recovery.{Content, header_of_volume}
 use Rattle.volume_header.specs.declared.header.VolumeHeader.{VolumeHeader}
 use Rattle.btree_node.specs.TreeFile.{TreeFile}
+use Rattle.hx_bytes.specs.declared.extents.ForkRecord.{ForkRecord}
+use Rattle.fsck_list.specs.declared.finding.Finding.{Finding as Listed}
+use Rattle.fsck_core.specs.Judged.{Judged}
+use Rattle.hfs_volume.specs.Broken.{want, node_place, size_wants}
+use Rattle.hfs_volume.specs.Forks.{catalog_id}
+use Rattle.hfs_volume.proofs.HeaderWants.{size_holds, size_met}
+use Rattle.hfs_volume.proofs.Wants.{first_met, met_each}
 use Rattle.hfs_volume.specs.Blocks.{HasTreeSize}
-use Rattle.hfs_volume.specs.Content.{facts_of, volume_of, extents_file, catalog_file, attributes_file, has_attributes}
+use Rattle.hfs_volume.specs.Content.{TreeFacts, facts_of, volume_of, extents_file, catalog_file, attributes_file, has_attributes}
 use Rattle.fsck_scan.specs.Form.{head_in}
 use Rattle.fsck_scan.specs.declared.form.Head.{Head}
 use Rattle.volume_repair.specs.Repair.{IsMendable, HasFileSizes}
 use Rattle.fsck_repair.specs.Counted.{Decides, HasAttributesSize, IsSizedCatalog, AreSized}
+
+-- the numbers of a size, and of how keys are compared
+pub size_decided : {E : Type 0} (id : ℕ) (head : VolumeHeader) (fork : ForkRecord) (tree : TreeFacts) (result : Result Bool E) (old new : List Listed) → IfOk result (λ met. Judged 3 (size_wants id head fork tree) old new met)
+    → IfOk result (λ met. IsTrue met ↔ HasTreeSize head fork tree)
+size_decided id head fork tree (Err e) old new judged = tt
+size_decided id head fork tree (Ok met) old new judged = (λ is. size_holds id head fork tree (judged.tells.0 is), λ has. judged.tells.1 (size_met id head fork tree has))
+
+pub compare_decided : {E : Type 0} (file : TreeFile) (result : Result Bool E) (old new : List Listed) → IfOk result (λ met. Judged 4 (want (node_place catalog_id 0) file.head.compare 0xBC ∷ []) old new met)
+    → IfOk result (λ met. IsTrue met ↔ file.head.compare ≡ 0xBC)
+compare_decided file (Err e) old new judged = tt
+compare_decided file (Ok met) old new judged = (λ is. first_met (want (node_place catalog_id 0) file.head.compare 0xBC) [] (judged.tells.0 is), λ has. judged.tells.1 (met_each (want (node_place catalog_id 0) file.head.compare 0xBC ∷ []) (has, tt)))
 
 pub extents_told : {E : Type 0} (content : Content) (head : VolumeHeader) (result : Result Bool E) → head ≡ header_of_volume content
     → IfOk result (λ met. IsTrue met ↔ HasTreeSize head head.extents_fork (facts_of (extents_file content)))

@@ -65,16 +65,12 @@ catalog_told space content (Err e) out shows each found = tt
 catalog_told space content (Ok None) out shows each found = no_catalog space content shows out found each
 catalog_told space content (Ok (Some pairs)) out shows each found = catalog_held space content pairs out shows found
 
--- what a scan of the attributes file tells
-pub attributes_told : (space : Space) (content : Content) (o : Option (List Pair)) (out : List Listed) (met : Bool) → Shows space content → IsTrue (has_attributes (header_of_volume content))
-    → ((f : Listed) → Contains out f → IsBrokenTree attributes_form IsAttrKey anything attr_cmp attributes_id (attributes_file space.content) (as_found f))
-    → MatchOption o (0 < length out) (λ pairs. IsTreeFile attributes_form IsAttrKey anything attr_cmp (attributes_file space.content) × (pairs ≡ pairs_of (store_of (attributes_file space.content))) × (out ≡ []))
-    → (met ≡ true → (pairs : List Pair) × (o ≡ Some pairs)) → (met ≡ false → o ≡ None) → Decides content (HasAttributesTree content) met
-attributes_told space content o out met shows has each found some none = record {
-  holds = λ is _. let there = some is in let file = subst (λ p. MatchOption p (0 < length out) (λ pairs. IsTreeFile attributes_form IsAttrKey anything attr_cmp (attributes_file space.content) × (pairs ≡ pairs_of (store_of (attributes_file space.content))) × (out ≡ []))) there.1 found in
-      subst (λ (ct : Content). IsTreeFile attributes_form IsAttrKey anything attr_cmp (attributes_file ct)) shows.is file.0;
-  fails = λ is. no_attributes space content shows out (subst (λ p. MatchOption p (0 < length out) (λ pairs. IsTreeFile attributes_form IsAttrKey anything attr_cmp (attributes_file space.content) × (pairs ≡ pairs_of (store_of (attributes_file space.content))) × (out ≡ []))) (none is) found) has each;
-}
+-- it holds, or the content can't be repaired
+pub decided_yes : (content : Content) (Holds : Type 0) → Holds → Decides content Holds true
+decided_yes content Holds has = record { holds = λ _. has; fails = λ is. absurd (true≢false is) }
+
+pub decided_no : (content : Content) (Holds : Type 0) → ¬ IsMendable content → Decides content Holds false
+decided_no content Holds none = record { holds = λ is. absurd (true≢false (sym is)); fails = λ _. none }
 
 pub no_attributes_told : (content : Content) → has_attributes (header_of_volume content) ≡ false → Decides content (HasAttributesTree content) true
 no_attributes_told content none = record { holds = λ is has. absurd (true≢false (sym has ∙ none)); fails = λ is. absurd (true≢false is) }

@@ -42,7 +42,12 @@ pub record Notes (content : Content) (places : ℕ → Type 0) (old new : List C
   pub stays : (at : ℕ) → Contains (places_of old) at → Contains (places_of new) at
   pub settled : (at : ℕ) → places at → IsSettled content new at
 
--- Changes in the order of their sectors: those of another list, each sector once.
-pub record IsInOrder (old new : List Change) : Type 0 where
+-- changes with one more, where that is so and it is of one of so many sectors
+abbrev pub fitting_added : ℕ → List Change → Change → List Change
+fitting_added sectors changes change = if nat_lt change.at sectors then behind_added changes change else changes
+
+-- Changes of so many sectors in the order of these: those of another list, each sector once.
+pub record IsInOrder (sectors : ℕ) (old new : List Change) : Type 0 where
   pub sound : (change : Change) → Contains new change → Contains old change
-  pub whole : (at : ℕ) → Contains (places_of old) at → Contains (places_of new) at
+  pub inside : (change : Change) → Contains new change → change.at < sectors
+  pub whole : (at : ℕ) → at < sectors → Contains (places_of old) at → Contains (places_of new) at

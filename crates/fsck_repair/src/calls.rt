@@ -42,7 +42,7 @@ impl Mend {
             });
         };
         let changes = all_changes(alloc, view, &counts)?;
-        let changes = put_in_order(alloc, changes)?;
+        let changes = put_in_order(alloc, view.sectors(), changes)?;
         Ok(Mend { changes })
     }
 }

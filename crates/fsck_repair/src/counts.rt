@@ -140,8 +140,9 @@ fn count_trees(
     trees: &Trees,
 ) -> Result<Option<Counts>, OutOfMemory>
     requires good { IsGoodHeader sectors headers.head }
-    ensures { (content : Content) → sectors ≡ length content → HasHeaders content headers → AreSized content tree → AreTrees content trees.now
+    ensures counted { (content : Content) → sectors ≡ length content → HasHeaders content headers → AreSized content tree → AreTrees content trees.now
         → IfOk result (λ o. MatchOption o (¬ IsMendable content) (IsCounted content)) }
+    ensures same { IfOk result (λ o. IfSome o (λ counts. counts.headers ≡ headers)) }
 {
     let kinds = are_kinds(alloc, &trees.catalog)?;
     if !kinds {

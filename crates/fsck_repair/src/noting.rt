@@ -1,7 +1,7 @@
 //! Changes that are noted, and put in order.
 ghost use Rattle.std.specs.Prelude.{◌≡◌, OnOk, IfOk};
 ghost use Rattle.std.specs.List.Sorted.{IsNonDecreasingBy};
-ghost use Rattle.fsck_repair.specs.Changing.{noted, is_behind, behind_added, IsInOrder};
+ghost use Rattle.fsck_repair.specs.Changing.{noted, is_behind, fitting_added, IsInOrder};
 ghost use Rattle.fsck_repair.specs.Overlay.{ChangesOnce};
 
 use crate::mend::Change;
@@ -33,29 +33,37 @@ fn is_behind(changes: &[Change], at: u64) -> bool
     count == 0 || changes[count - 1].at < at
 }
 
-/// Adds a change, where it is of a sector behind that of the last one.
-fn add_behind(sorted: &mut Vec<Change>, change: &Change) -> Result<(), OutOfMemory>
-    ensures { OnOk result (sorted.new.items ≡ behind_added sorted.old.items change.now) }
+/// Adds a change, where it is of one of so many sectors, behind that of the last one.
+fn add_behind(
+    sorted: &mut Vec<Change>,
+    sectors: u64,
+    change: &Change,
+) -> Result<(), OutOfMemory>
+    ensures { OnOk result (sorted.new.items ≡ fitting_added sectors sorted.old.items change.now) }
 {
+    if change.at >= sectors {
+        return Ok(());
+    }
     if is_behind(sorted, change.at) {
         sorted.push(*change)?;
     }
     Ok(())
 }
 
-/// Changes in the order of their sectors, each sector once.
+/// The changes of so many sectors in the order of these, each sector once.
 pub(crate) fn put_in_order(
     alloc: Global,
+    sectors: u64,
     mut changes: Vec<Change>,
 ) -> Result<Vec<Change>, OutOfMemory>
     ensures order { IfOk result (λ sorted. IsNonDecreasingBy (λ change. change.at) sorted.items) }
     ensures once { IfOk result (λ sorted. ChangesOnce sorted.items) }
-    ensures same { IfOk result (λ sorted. IsInOrder changes.items sorted.items) }
+    ensures same { IfOk result (λ sorted. IsInOrder sectors changes.items sorted.items) }
 {
     changes.sort_unstable_by_key(|change| change.at);
     let mut sorted = Vec::new(alloc);
     for change in &changes {
-        add_behind(&mut sorted, change)?;
+        add_behind(&mut sorted, sectors, change)?;
     }
     Ok(sorted)
 }

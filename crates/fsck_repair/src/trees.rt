@@ -80,8 +80,10 @@ fn has_attributes_tree<V: SectorView>(
         return Ok(true);
     }
     let mut out = Findings::new(alloc);
-    let pairs = scan_attributes(alloc, view, head, rows, &mut out)?;
-    Ok(pairs.is_some())
+    let Some(_pairs) = scan_attributes(alloc, view, head, rows, &mut out)? else {
+        return Ok(false);
+    };
+    Ok(true)
 }
 
 /// Reads what the trees hold, if all of them keep their rules.
