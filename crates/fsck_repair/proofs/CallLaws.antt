@@ -1,5 +1,5 @@
 -- The repair of a content, seen through changes.
-use Rattle.std.proofs.Common.{◌≡◌, ◌⊎◌, ◌<◌, ◌≤◌, ℕ, ◌+◌, Bool, true, false, not, cond, List, [], ◌∷◌, length, get_or, inl, inr, refl, sym, ◌∙◌, ap, subst, arith, ⊎_elim, map}
+use Rattle.std.proofs.Common.{◌≡◌, ◌⊎◌, ◌<◌, ◌≤◌, ℕ, suc, Bool, true, false, not, cond, List, [], ◌∷◌, length, get_or, inl, inr, refl, sym, ◌∙◌, ap, subst, arith, ⊎_elim, map}
 use Rattle.std.specs.Prelude.{Contains, All, slice_index}
 use Rattle.std.proofs.lemmas.Bool.{cases_lt}
 use Rattle.std.proofs.lemmas.List.{get_or_past}
@@ -68,7 +68,7 @@ few_unput put (x ∷ xs) = omega (arith, unput-cons put x xs, few_unput put xs, 
 
 pub as_many_places : (changes : List Change) → length (places_of changes) ≡ length changes
 as_many_places [] = refl
-as_many_places (change ∷ changes) = ap (λ n. n + 1) (as_many_places changes)
+as_many_places (change ∷ changes) = ap suc (as_many_places changes)
 
 -- a sector that changes differs
 pub change_differs : (content : Content) (changes : List Change) (at : ℕ) → AreRight content changes → Contains (places_of changes) at → Differs content (overlaid changes content) at

@@ -21,6 +21,10 @@ use Rattle.fsck_repair.specs.declared.mend.Change.{Change}
 use Rattle.fsck_repair.proofs.PutLaws.{found_or_not, changed_is}
 use Rattle.fsck_repair.proofs.Overlaying.{overlaid_at}
 
+-- a test as a number
+abbrev one_if : Bool → ℕ
+one_if b = cond b 1 0
+
 -- a sector's bytes are those of a change, or its own
 pub changed_cases : (changes : List Change) (at : ℕ) (old : List ℕ) → ((change : Change) × Contains changes change × (change.at ≡ at) × (changed changes at old ≡ change.bytes)) ⊎ ((¬ Contains (places_of changes) at) × (changed changes at old ≡ old))
 changed_cases [] at old = inr (λ stands. absurd (omega (arith, stands.1)), refl)
@@ -67,25 +71,25 @@ overlaid_none content =
 count_same : {X : Type 0} (p q : X → Bool) (xs : List X) → ((x : X) → Contains xs x → p x ≡ q x) → count_by p xs ≡ count_by q xs
 count_same p q [] same = refl
 count_same p q (x ∷ xs) same =
-    sum_by-cons (λ y. cond (p y) 1 0) x xs ∙ (λ i. cond (same x (at_front x xs) i) 1 0 + count_same p q xs (λ y stands. same y (behind x y xs stands)) i) ∙ sym (sum_by-cons (λ y. cond (q y) 1 0) x xs)
+    sum_by-cons (λ y. one_if (p y)) x xs ∙ (λ i. one_if (same x (at_front x xs) i) + count_same p q xs (λ y stands. same y (behind x y xs stands)) i) ∙ sym (sum_by-cons (λ y. one_if (q y)) x xs)
 
 -- one more number passes, which stands in the list once
 count_one_more : (p q : ℕ → Bool) (at : ℕ) (xs : List ℕ) → p at ≡ false → q at ≡ true → ((x : ℕ) → x ≢ at → q x ≡ p x) → count_by q xs ≡ count_by p xs + times at xs
 count_one_more p q at [] off on other = refl
 count_one_more p q at (x ∷ xs) off on other =
     let rest : count_by q xs ≡ count_by p xs + times at xs = count_one_more p q at xs off on other in
-    let a : count_by q (x ∷ xs) ≡ cond (q x) 1 0 + count_by q xs = sum_by-cons (λ y. cond (q y) 1 0) x xs in
-    let b : count_by p (x ∷ xs) ≡ cond (p x) 1 0 + count_by p xs = sum_by-cons (λ y. cond (p y) 1 0) x xs in
-    let c : times at (x ∷ xs) ≡ cond (x == at) 1 0 + times at xs = times-cons at x xs in
+    let a : count_by q (x ∷ xs) ≡ one_if (q x) + count_by q xs = sum_by-cons (λ y. one_if (q y)) x xs in
+    let b : count_by p (x ∷ xs) ≡ one_if (p x) + count_by p xs = sum_by-cons (λ y. one_if (p y)) x xs in
+    let c : times at (x ∷ xs) ≡ one_if (x == at) + times at xs = times-cons at x xs in
     ⊎_elim
     (λ (same : (x == at ≡ true) × (x ≡ at)).
-    let d : cond (q x) 1 0 ≡ 1 = ap (λ b. cond b 1 0) (ap q same.1 ∙ on) in
-    let e : cond (p x) 1 0 ≡ 0 = ap (λ b. cond b 1 0) (ap p same.1 ∙ off) in
-    let f : cond (x == at) 1 0 ≡ 1 = ap (λ b. cond b 1 0) same.0 in
+    let d : one_if (q x) ≡ 1 = ap one_if (ap q same.1 ∙ on) in
+    let e : one_if (p x) ≡ 0 = ap one_if (ap p same.1 ∙ off) in
+    let f : one_if (x == at) ≡ 1 = ap one_if same.0 in
     omega (arith, rest, a, b, c, d, e, f))
     (λ (not_same : (x == at ≡ false) × (x ≢ at)).
-    let d : cond (q x) 1 0 ≡ cond (p x) 1 0 = ap (λ b. cond b 1 0) (other x not_same.1) in
-    let f : cond (x == at) 1 0 ≡ 0 = ap (λ b. cond b 1 0) not_same.0 in
+    let d : one_if (q x) ≡ one_if (p x) = ap one_if (other x not_same.1) in
+    let f : one_if (x == at) ≡ 0 = ap one_if not_same.0 in
     omega (arith, rest, a, b, c, d, f))
     (eqb_tells x at)
 
@@ -96,24 +100,24 @@ once_below at n inside = from 0 n (omega arith) (omega (arith, inside))
     before : (a m : ℕ) → at < a → times at (range_with_len a m) ≡ 0
     before a zero low = refl
     before a (suc m) low =
-        let c : times at (range_with_len a (suc m)) ≡ cond (a == at) 1 0 + times at (range_with_len (a + 1) m) = times-cons at a (range_with_len (a + 1) m) in
-        let f : cond (a == at) 1 0 ≡ 0 = ap (λ b. cond b 1 0) (ne_eqb a at (λ same. absurd (omega (arith, same, low)))) in
+        let c : times at (range_with_len a (suc m)) ≡ one_if (a == at) + times at (range_with_len (a + 1) m) = times-cons at a (range_with_len (a + 1) m) in
+        let f : one_if (a == at) ≡ 0 = ap one_if (ne_eqb a at (λ same. absurd (omega (arith, same, low)))) in
         omega (arith, c, f, before (a + 1) m (omega (arith, low)))
 
     from : (a m : ℕ) → a ≤ at → at < a + m → times at (range_with_len a m) ≡ 1
     from a zero low high = absurd (omega (arith, low, high))
     from a (suc m) low high =
-        let c : times at (range_with_len a (suc m)) ≡ cond (a == at) 1 0 + times at (range_with_len (a + 1) m) = times-cons at a (range_with_len (a + 1) m) in
+        let c : times at (range_with_len a (suc m)) ≡ one_if (a == at) + times at (range_with_len (a + 1) m) = times-cons at a (range_with_len (a + 1) m) in
         ⊎_elim
         (λ (same : (a == at ≡ true) × (a ≡ at)).
-        let f : cond (a == at) 1 0 ≡ 1 = ap (λ b. cond b 1 0) same.0 in
+        let f : one_if (a == at) ≡ 1 = ap one_if same.0 in
         omega (arith, c, f, before (a + 1) m (omega (arith, same.1))))
         (λ (other : (a == at ≡ false) × (a ≢ at)).
-        let f : cond (a == at) 1 0 ≡ 0 = ap (λ b. cond b 1 0) other.0 in
+        let f : one_if (a == at) ≡ 0 = ap one_if other.0 in
         omega (arith, c, f, from (a + 1) m (omega (arith, low, other.1)) (omega (arith, high))))
         (eqb_tells a at)
 
-differs_at : Content → List Change → ℕ → Bool
+abbrev differs_at : Content → List Change → ℕ → Bool
 differs_at content changes at = not (bytes_eq (changed changes at (sector content at)) (sector content at))
 
 differs_not : (content : Content) (changes : List Change) (at : ℕ) → ¬ Contains (places_of changes) at → differs_at content changes at ≡ false
@@ -127,7 +131,7 @@ count_changes content [] once right = none (range_with_len 0 (length content))
   where
     none : (xs : List ℕ) → count_by (differs_at content []) xs ≡ 0
     none [] = refl
-    none (x ∷ xs) = sum_by-cons (λ y. cond (differs_at content [] y) 1 0) x xs ∙ (λ i. cond (differs_not content [] x (λ stands. absurd (omega (arith, stands.1))) i) 1 0 + none xs i)
+    none (x ∷ xs) = sum_by-cons (λ y. one_if (differs_at content [] y)) x xs ∙ (λ i. cond (differs_not content [] x (λ stands. absurd (omega (arith, stands.1))) i) 1 0 + none xs i)
 count_changes content (change ∷ changes) once right =
     let rest : count_by (differs_at content changes) (range_with_len 0 (length content)) ≡ length changes = count_changes content changes once.1 (λ c stands. right c (behind change c changes stands)) in
     let more : count_by (differs_at content (change ∷ changes)) (range_with_len 0 (length content)) ≡ count_by (differs_at content changes) (range_with_len 0 (length content)) + times change.at (range_with_len 0 (length content)) =

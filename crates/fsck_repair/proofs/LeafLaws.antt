@@ -23,6 +23,7 @@ use Rattle.fsck_core.specs.Links.{link_count, links_here}
 use Rattle.fsck_core.specs.Names.{IsSharedAs}
 use Rattle.fsck_core.specs.declared.shared.SharedFile.{SharedFile}
 use Rattle.hfs_volume.proofs.Counting.{length_kept}
+use Rattle.fork_map.proofs.Ranges.{range-append}
 use Rattle.hfs_volume.specs.Records.{Placed, entries_of, placed_of, is_folder, is_file, id_in}
 use Rattle.fsck_core.specs.Rows.{row_of, rows_of, rows_under}
 use Rattle.fsck_core.specs.declared.rows.Row.{Row}
@@ -54,7 +55,7 @@ module _ (records : List Placed) (private : Option ℕ) where
     where
       by : (b : Bool) → is_shared (Some folder) (reference_of (placed_of (key, value))) (placed_of (key, value)) ≡ b → is_shared (Some folder) (reference_of (placed_of (key, value))) (placed_of (key, value)) ≡ false
       by false is = is
-      by true is = absurd (subst (λ (o : Option SharedFile). IsSome o) none (whole (reference_of (placed_of (key, value))) is))
+      by true is = absurd (true≢false (sym (subst (λ (o : Option SharedFile). IsSome o) none (whole (reference_of (placed_of (key, value))) is))))
 
   pub shared_yes : (folder : ℕ) (key value : List ℕ) (found : Option SharedFile) (file : SharedFile) → private ≡ private_id records → private ≡ Some folder → found ≡ Some file
       → ((one : SharedFile) → found ≡ Some one → IsSharedAs (Some folder) (placed_of (key, value)) one)
@@ -152,8 +153,10 @@ same_both from old mid new first second = record { size = second.size ∙ first.
 
 -- one record more of a leaf
 pub fold_more : (records : List Placed) (node : List ℕ) (k : ℕ) → fold (record_mended records) node (range_with_len 0 (k + 1)) ≡ record_mended records (fold (record_mended records) node (range_with_len 0 k)) k
-fold_more records node k = from node 0 k
+fold_more records node k =
+    ap (fold (record_mended records) node) (range-append 0 k 1) ∙ fold_both (record_mended records) node (range_with_len 0 k) ((0 + k) ∷ [])
+    ∙ ap (record_mended records (fold (record_mended records) node (range_with_len 0 k))) {x = 0 + k} {y = k} (omega arith)
   where
-    from : (n : List ℕ) (a m : ℕ) → fold (record_mended records) n (range_with_len a (m + 1)) ≡ record_mended records (fold (record_mended records) n (range_with_len a m)) (a + m)
-    from n a zero = ap (record_mended records n) {y = a + 0} (omega arith)
-    from n a (suc m) = from (record_mended records n a) (a + 1) m ∙ ap (record_mended records (fold (record_mended records) n (range_with_len a (suc m)))) {x = a + 1 + m} (omega arith)
+    fold_both : {B X : Type 0} (f : B → X → B) (b : B) (xs ys : List X) → fold f b (xs ++ ys) ≡ fold f (fold f b xs) ys
+    fold_both f b [] ys = refl
+    fold_both f b (x ∷ xs) ys = fold_both f (f b x) xs ys

@@ -168,7 +168,7 @@ module _ (content : Content) (can : IsMendable content) (some : 0 < per_block_of
             let place = place_is (catalog_sectors content) 0 at k also in
             let there = at_place (leaves_in (catalog_file content)) (k / per) (among_stands (leaves_in (catalog_file content)) (k / per) leaf) in
             let is_k : slice_index (leaves_in (catalog_file content)) there.0 * per + k % per ≡ place.0 = ap (λ n. n * per + k % per) there.2 ∙ whole ∙ omega (arith, place.1) in
-            catalog at (there.0, there.1, k % per, below, ap (slice_get (catalog_sectors content)) is_k ∙ place.2, plain) inside
+            catalog at (there.0, there.1, (k % per, below, (ap (slice_get (catalog_sectors content)) is_k ∙ place.2, plain))) inside
         by false none = inl (plain_sector content at plain ∙ (λ i. file_sector_mended content at (is i) (also i)) ∙ ap (λ b. if b then take 512 (drop (512 * (k % per)) (leaf_mended (records_of (volume_of content)) ((catalog_file content).nodes (k / per)))) else sector content at) none)
 
     pub all_settled : (at : ℕ) → IsSettled content changes at

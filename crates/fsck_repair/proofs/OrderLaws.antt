@@ -14,7 +14,7 @@ use Rattle.fsck_repair.specs.Overlay.{places_of, ChangesOnce}
 use Rattle.fsck_repair.specs.declared.mend.Change.{Change}
 
 -- The sectors of changes rise.
-pub IsRising : List Change → Type 0
+abbrev pub IsRising : List Change → Type 0
 IsRising changes = (i j : ℕ) → i < j → j < length changes → (get_or changes i no_change).at < (get_or changes j no_change).at
 
 -- The first changes of a list in order were looked at, of which those of a view's sectors are taken.
@@ -36,7 +36,7 @@ itself : (changes : List Change) (i : ℕ) → i < length changes → Contains c
 itself changes i inside = All-contains_itself changes i no_change inside
 
 module _ (sectors : ℕ) (changes : List Change) (k : ℕ) (sorted : List Change) (order : IsNonDecreasingBy (λ (c : Change). c.at) changes) (inside : k < length changes) (so_far : Tidied sectors changes k sorted) where
-  one : Change
+  abbrev one : Change
   one = get_or changes k no_change
 
   -- none of those before is of a later sector
@@ -44,7 +44,7 @@ module _ (sectors : ℕ) (changes : List Change) (k : ℕ) (sorted : List Change
   low c stands =
       let from = so_far.sound c stands in
       let up : (get_or changes from.0 no_change).at ≤ one.at = order from.0 k no_change (omega (arith, from.1)) inside in
-      omega (arith, up, ap (λ (x : Change). x.at) from.3.1)
+      omega (arith, up, ap (λ (x : Change). x.at) from.3)
 
   sound_more : (c : Change) → Contains (sorted ++ one ∷ []) c → (i : ℕ) × (i < k + 1) × (i < length changes) × (get_or changes i no_change ≡ c)
   sound_more c stands = elim (Contains-append_cases sorted (one ∷ []) c stands) [

@@ -12,6 +12,10 @@ use Rattle.alloc_bitmap.proofs.ApartLaws.{times-cons, times-append}
 use Rattle.volume_repair.specs.Repair.{place_from}
 use Rattle.fsck_repair.proofs.OnceLaws.{hit_cases}
 
+-- a test as a number
+abbrev one_if : Bool → ℕ
+one_if b = cond b 1 0
+
 -- ---- a place in a list
 
 pub place_is : (sectors : List ℕ) (base at k : ℕ) → place_from base sectors at ≡ Some k → (i : ℕ) × (k ≡ base + i) × (slice_get sectors i ≡ Some at)
@@ -28,9 +32,9 @@ place_is (s ∷ rest) base at k is = ⊎_elim
 pub place_none : (sectors : List ℕ) (base at : ℕ) → times at sectors ≡ 0 → place_from base sectors at ≡ None
 place_none [] base at none = refl
 place_none (s ∷ rest) base at none =
-    let count : times at (s ∷ rest) ≡ cond (s == at) 1 0 + times at rest = times-cons at s rest in
+    let count : times at (s ∷ rest) ≡ one_if (s == at) + times at rest = times-cons at s rest in
     ⊎_elim
-    (λ (same : (s == at ≡ true) × (s ≡ at)). absurd (let one : cond (s == at) 1 0 ≡ 1 = ap (λ b. cond b 1 0) same.0 in omega (arith, none, count, one)))
+    (λ (same : (s == at ≡ true) × (s ≡ at)). absurd (let one : one_if (s == at) ≡ 1 = ap one_if same.0 in omega (arith, none, count, one)))
     (λ (other : (s == at ≡ false) × (s ≢ at)). ap (λ b. if b then Some base else place_from (base + 1) rest at) other.0 ∙ place_none rest (base + 1) at (omega (arith, none, count)))
     (eqb_tells s at)
 
@@ -38,7 +42,7 @@ pub stands_some : (sectors : List ℕ) (at i : ℕ) → slice_get sectors i ≡ 
 stands_some [] at i is = absurd (cc)
 stands_some (s ∷ rest) at zero is =
     let same : s ≡ at = cc in
-    let one : cond (s == at) 1 0 ≡ 1 = ap (λ b. cond b 1 0) (eq-eqb s at same) in
+    let one : one_if (s == at) ≡ 1 = ap one_if (eq-eqb s at same) in
     omega (arith, one, times-cons at s rest)
 stands_some (s ∷ rest) at (suc i) is = omega (arith, stands_some rest at i is, times-cons at s rest)
 
@@ -48,10 +52,10 @@ place_once (s ∷ rest) base at zero is once =
     let same : s ≡ at = cc in
     ap (λ b. if b then Some base else place_from (base + 1) rest at) (eq-eqb s at same) ∙ ap Some {x = base} (omega arith)
 place_once (s ∷ rest) base at (suc i) is once =
-    let count : times at (s ∷ rest) ≡ cond (s == at) 1 0 + times at rest = times-cons at s rest in
+    let count : times at (s ∷ rest) ≡ one_if (s == at) + times at rest = times-cons at s rest in
     let more = stands_some rest at i is in
     ⊎_elim
-    (λ (same : (s == at ≡ true) × (s ≡ at)). absurd (let one : cond (s == at) 1 0 ≡ 1 = ap (λ b. cond b 1 0) same.0 in omega (arith, once, count, one, more)))
+    (λ (same : (s == at ≡ true) × (s ≡ at)). absurd (let one : one_if (s == at) ≡ 1 = ap one_if same.0 in omega (arith, once, count, one, more)))
     (λ (other : (s == at ≡ false) × (s ≢ at)).
     ap (λ b. if b then Some base else place_from (base + 1) rest at) other.0 ∙ place_once rest (base + 1) at i is (omega (arith, once, count)) ∙ ap Some {x = base + 1 + i} (omega arith))
     (eqb_tells s at)
@@ -85,13 +89,13 @@ times_sectors per at [] some = refl
 times_sectors per at (block ∷ blocks) some =
     let rest = times_sectors per at blocks some in
     let parts : times at (sectors_of per (block ∷ blocks)) ≡ times at (range_with_len (block * per) per) + times at (sectors_of per blocks) = times-append at (range_with_len (block * per) per) (sectors_of per blocks) in
-    let count : times (at / per) (block ∷ blocks) ≡ cond (block == at / per) 1 0 + times (at / per) blocks = times-cons (at / per) block blocks in
+    let count : times (at / per) (block ∷ blocks) ≡ one_if (block == at / per) + times (at / per) blocks = times-cons (at / per) block blocks in
     ⊎_elim
     (λ (here : (at / per ≡ block) × (block * per ≤ at) × (at < block * per + per)).
-    let one : cond (block == at / per) 1 0 ≡ 1 = ap (λ b. cond b 1 0) (eq-eqb block (at / per) (sym here.0)) in
+    let one : one_if (block == at / per) ≡ 1 = ap one_if (eq-eqb block (at / per) (sym here.0)) in
     omega (arith, rest, parts, count, one, hit here.1 here.2))
     (λ (there : (at / per ≢ block) × ((at < block * per) ⊎ (block * per + per ≤ at))).
-    let none : cond (block == at / per) 1 0 ≡ 0 = ap (λ b. cond b 1 0) (ne_eqb block (at / per) (λ same. there.0 (sym same))) in
+    let none : one_if (block == at / per) ≡ 0 = ap one_if (ne_eqb block (at / per) (λ same. there.0 (sym same))) in
     omega (arith, rest, parts, count, none, miss there.1))
     (of_block per at block some)
   where

@@ -31,21 +31,18 @@ pub compare_decided : {E : Type 0} (file : TreeFile) (result : Result Bool E) (o
 compare_decided file (Err e) old new judged = tt
 compare_decided file (Ok met) old new judged = (λ is. first_met (want (node_place catalog_id 0) file.head.compare 0xBC) [] (judged.tells.0 is), λ has. judged.tells.1 (met_each (want (node_place catalog_id 0) file.head.compare 0xBC ∷ []) (has, tt)))
 
-pub extents_told : {E : Type 0} (content : Content) (head : VolumeHeader) (result : Result Bool E) → head ≡ header_of_volume content
-    → IfOk result (λ met. IsTrue met ↔ HasTreeSize head head.extents_fork (facts_of (extents_file content)))
-    → IfOk result (Decides content (HasTreeSize (volume_of content).head (volume_of content).head.extents_fork (volume_of content).extents_tree))
+pub extents_told : (content : Content) (head : VolumeHeader) (met : Bool) → head ≡ header_of_volume content → IsTrue met ↔ HasTreeSize head head.extents_fork (facts_of (extents_file content))
+    → Decides content (HasTreeSize (volume_of content).head (volume_of content).head.extents_fork (volume_of content).extents_tree) met
 unfolding volume_of
-extents_told content head (Err e) is told = tt
-extents_told content head (Ok met) is told = record {
+extents_told content head met is told = record {
   holds = λ yes_it. subst (λ (h : VolumeHeader). HasTreeSize h h.extents_fork (facts_of (extents_file content))) is (told.0 yes_it);
   fails = λ no_it can. true≢false (sym (told.1 (subst (λ (h : VolumeHeader). HasTreeSize h h.extents_fork (facts_of (extents_file content))) (sym is) can.sizes.extents)) ∙ no_it);
 }
 
-pub attributes_told : {E : Type 0} (content : Content) (head : VolumeHeader) (result : Result Bool E) → head ≡ header_of_volume content → has_attributes (header_of_volume content) ≡ true
-    → IfOk result (λ met. IsTrue met ↔ HasTreeSize head head.attributes_fork (facts_of (attributes_file content))) → IfOk result (Decides content (HasAttributesSize content))
+pub attributes_told : (content : Content) (head : VolumeHeader) (met : Bool) → head ≡ header_of_volume content → has_attributes (header_of_volume content) ≡ true
+    → IsTrue met ↔ HasTreeSize head head.attributes_fork (facts_of (attributes_file content)) → Decides content (HasAttributesSize content) met
 unfolding volume_of
-attributes_told content head (Err e) is has told = tt
-attributes_told content head (Ok met) is has told = record {
+attributes_told content head met is has told = record {
   holds = λ yes_it _. subst (λ (h : VolumeHeader). HasTreeSize h h.attributes_fork (facts_of (attributes_file content))) is (told.0 yes_it);
   fails = λ no_it can. true≢false (sym (told.1 (subst (λ (h : VolumeHeader). HasTreeSize h h.attributes_fork (facts_of (attributes_file content))) (sym is) (can.sizes.attributes has))) ∙ no_it);
 }
@@ -80,9 +77,9 @@ pub sizes_told : {E : Type 0} (content : Content) (head : VolumeHeader) (bits ex
     → extents ≡ true → Decides content (HasTreeSize (volume_of content).head (volume_of content).head.extents_fork (volume_of content).extents_tree) extents
     → attributes ≡ true → Decides content (HasAttributesSize content) attributes
     → IfOk result (λ o. MatchOption o (¬ IsMendable content) (IsSizedCatalog content)) → IfOk result (λ o. MatchOption o (¬ IsMendable content) (AreSized content))
+unfolding volume_of
 sizes_told content head bits extents attributes (Err e) is a b c d f g told = tt
 sizes_told content head bits extents attributes (Ok None) is a b c d f g told = told
-unfolding volume_of
 sizes_told content head bits extents attributes (Ok (Some tree)) is a b c d f g told = record {
   sizes = record {
     extents = d.holds c;

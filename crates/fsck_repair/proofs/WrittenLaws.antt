@@ -1,5 +1,5 @@
 -- A sector that a repair writes stands in one file, and there once.
-use Rattle.std.proofs.Common.{◌≡◌, ◌≢◌, ◌<◌, ◌≤◌, ℕ, ◌+◌, ◌/◌, true, false, cond, ◌==◌, List, [], ◌∷◌, ◌++◌, refl, sym, ◌∙◌, ap, subst, arith, ⊎_elim}
+use Rattle.std.proofs.Common.{◌≡◌, ◌≢◌, ◌<◌, ◌≤◌, ℕ, ◌+◌, ◌/◌, Bool, true, false, cond, ◌==◌, List, [], ◌∷◌, ◌++◌, refl, sym, ◌∙◌, ap, subst, arith, ⊎_elim}
 use Rattle.std.specs.Prelude.{Contains, All, Some, None, slice_get}
 use Rattle.std.specs.List.{flat_map}
 use Rattle.std.proofs.lemmas.Bool.{cases_lt}
@@ -15,15 +15,19 @@ use Rattle.hfs_volume.proofs.Members.{at_front, behind, each_of}
 use Rattle.volume_repair.specs.Repair.{IsMendable, blocks_written, catalog_sectors, place_from}
 use Rattle.fsck_repair.proofs.PlaceLaws.{place_once, place_none, stands_some, times_sectors}
 
+-- a test as a number
+abbrev one_if : Bool → ℕ
+one_if b = cond b 1 0
+
 -- what is counted in a list stands there
 counted_stands : (xs : List ℕ) (x : ℕ) → 0 < times x xs → Contains xs x
 counted_stands [] x some = absurd (omega (arith, some))
 counted_stands (y ∷ ys) x some =
-    let count : times x (y ∷ ys) ≡ cond (y == x) 1 0 + times x ys = times-cons x y ys in
+    let count : times x (y ∷ ys) ≡ one_if (y == x) + times x ys = times-cons x y ys in
     ⊎_elim
     (λ (same : (y == x ≡ true) × (y ≡ x)). subst (λ z. Contains (y ∷ ys) z) same.1 (at_front y ys))
     (λ (other : (y == x ≡ false) × (y ≢ x)).
-    behind y x ys (counted_stands ys x (let none : cond (y == x) 1 0 ≡ 0 = ap (λ b. cond b 1 0) other.0 in omega (arith, some, count, none))))
+    behind y x ys (counted_stands ys x (let none : one_if (y == x) ≡ 0 = ap one_if other.0 in omega (arith, some, count, none))))
     (eqb_tells y x)
 
 module _ (volume : VolumeState) where

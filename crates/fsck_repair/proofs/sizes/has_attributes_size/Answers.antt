@@ -22,4 +22,4 @@ pub returns-clause-met : goal.returns-clause-met
 returns-clause-met g c content shows head overflow =
     let old : Space = g.V.SectorView.space c.args.view.now in
     let there = attributes_there old content c.args.head.now (overflows_in c.args.rows.now) c.in_ok-fork.fork shows c.requires.good head overflow c.in_ok-fork.ensures in
-    attributes_told content c.args.head.now c.is_size.result head (has_them content c.args.head.now head c.if-head-eq0.false) (c.is_size.ensures (attributes_file content) (c.in_ok-tree.ensures.head shows.tells ∙ ap (λ (t : TreeFile). t.head) there))
+    attributes_told content c.args.head.now c.in_ok-met.met head (has_them content c.args.head.now head c.if-head-eq0.false) (c.in_ok-met.ensures (attributes_file content) (c.in_ok-tree.ensures.head shows.tells ∙ ap (λ (t : TreeFile). t.head) there))

@@ -18,4 +18,4 @@ pub returns-clause-met : goal.returns-clause-met
 returns-clause-met g c content shows head =
     let old : Space = g.V.SectorView.space c.args.view.now in
     let there = extents_there old content c.args.head.now c.in_ok-fork.fork shows c.requires.good head c.in_ok-fork.ensures in
-    extents_told content c.args.head.now c.is_size.result head (c.is_size.ensures (extents_file content) (c.in_ok-tree.ensures.head shows.tells ∙ ap (λ (t : TreeFile). t.head) there))
+    extents_told content c.args.head.now c.in_ok-met.met head (c.in_ok-met.ensures (extents_file content) (c.in_ok-tree.ensures.head shows.tells ∙ ap (λ (t : TreeFile). t.head) there))

@@ -3,4 +3,4 @@ use Rattle.fsck_repair.proofs.SizeTelling.{size_decided}
 use Rattle.fsck_repair.proofs.sizes.is_size.Goals as goal
 
 pub returns : goal.returns
-returns c file is = size_decided c.args.id c.args.head.now c.args.fork.now (facts_of file) c.judge_size.result c.new.result c.judge_size.new.out (c.judge_size.ensures.judged file is)
+returns c file is = size_decided c.args.id c.args.head.now c.args.fork.now (facts_of file) c.judge_size.result _ _ (c.judge_size.ensures.judged file is)

@@ -5,14 +5,13 @@ use Rattle.fsck_repair.proofs.SizeTelling.{no_bits, sizes_told}
 use Rattle.fsck_repair.proofs.sizes.read_sizes.Goals as goal
 
 pub has_attributes_size-requires : goal.has_attributes_size-requires
-has_attributes_size-requires g c = good_still (g.V.SectorView.space c.args.view.now) (g.V.SectorView.space c.has_extents_size.new.view) c.args.head.now c.has_extents_size.ensures.reads c.requires.good
+has_attributes_size-requires g c = record { good = good_still (g.V.SectorView.space c.args.view.now) (g.V.SectorView.space c.has_extents_size.new.view) c.args.head.now c.has_extents_size.ensures.reads c.requires.good }
 
 pub read_sized_catalog-requires : goal.read_sized_catalog-requires
-read_sized_catalog-requires g c =
-    let old : Space = g.V.SectorView.space c.args.view.now in
+read_sized_catalog-requires g c =    let old : Space = g.V.SectorView.space c.args.view.now in
     let first : Space = g.V.SectorView.space c.has_extents_size.new.view in
     let second : Space = g.V.SectorView.space c.has_attributes_size.new.view in
-    good_still old second c.args.head.now (reads_both old first second c.has_extents_size.ensures.reads c.has_attributes_size.ensures.reads) c.requires.good
+    record { good = good_still old second c.args.head.now (reads_both old first second c.has_extents_size.ensures.reads c.has_attributes_size.ensures.reads) c.requires.good }
 
 pub returns-then-not-has_bits-clause-found : goal.returns-then-not-has_bits-clause-found
 returns-then-not-has_bits-clause-found g c content shows head overflow = no_bits content c.args.head.now c.has_bits.result head c.if-not-has_bits.true c.has_bits.ensures

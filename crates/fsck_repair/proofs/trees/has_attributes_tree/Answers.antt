@@ -18,7 +18,7 @@ pub returns-in_default-clause-met : goal.returns-in_default-clause-met
 returns-in_default-clause-met g c content shows head overflow =
     let old : Space = g.V.SectorView.space c.args.view.now in
     decided_no content (HasAttributesTree content) (no_attributes old content shows c.scan_attributes.new.out
-    (at_none c.in_ok-scan_attributes.field-0 _ _ c.in_default.is (c.in_ok-scan_attributes.ensures.found shows.tells (bytes_back old content shows) (head_back old content c.args.head.now shows head) (overflow_back old content (overflows_in c.args.rows.now) shows overflow)))
+    (at_none c.in_ok-_pairs.field-0 _ _ c.in_default.is (c.in_ok-_pairs.ensures.found shows.tells (bytes_back old content shows) (head_back old content c.args.head.now shows head) (overflow_back old content (overflows_in c.args.rows.now) shows overflow)))
     (has_them content c.args.head.now head c.if-head-eq0.false)
     (c.scan_attributes.ensures.each shows.tells (head_back old content c.args.head.now shows head) (overflow_back old content (overflows_in c.args.rows.now) shows overflow)))
 
@@ -26,4 +26,4 @@ pub returns-clause-met : goal.returns-clause-met
 returns-clause-met g c content shows head overflow =
     let old : Space = g.V.SectorView.space c.args.view.now in
     decided_yes content (HasAttributesTree content) (λ _. subst (λ (ct : Content). IsTreeFile attributes_form IsAttrKey anything attr_cmp (attributes_file ct)) shows.is
-    (at_some c.in_ok-scan_attributes.field-0 _ _ _ c.in-Some.is (c.in_ok-scan_attributes.ensures.found shows.tells (bytes_back old content shows) (head_back old content c.args.head.now shows head) (overflow_back old content (overflows_in c.args.rows.now) shows overflow))).0)
+    (at_some c.in_ok-_pairs.field-0 _ _ _ c.in-Some.is (c.in_ok-_pairs.ensures.found shows.tells (bytes_back old content shows) (head_back old content c.args.head.now shows head) (overflow_back old content (overflows_in c.args.rows.now) shows overflow))).0)
