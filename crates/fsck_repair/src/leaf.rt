@@ -112,19 +112,19 @@ fn mend_value(
 }
 
 /// Sets what a record counts that stands behind its key.
-fn mend_record(alloc: Global, record: &mut [u8], entries: &Entries) -> Result<(), OutOfMemory>
-    ensures counted { (records : List Placed) → AreEntriesOf records entries.now → IsGoodItem record.old
-        → OnOk result (record.new ≡ key_of record.old ++ value_recounted records (placed_of (pair_of record.old)) (value_of record.old)) }
-    ensures size { length record.new ≡ length record.old }
+fn mend_record(alloc: Global, item: &mut [u8], entries: &Entries) -> Result<(), OutOfMemory>
+    ensures counted { (records : List Placed) → AreEntriesOf records entries.now → IsGoodItem item.old
+        → OnOk result (item.new ≡ key_of item.old ++ value_recounted records (placed_of (pair_of item.old)) (value_of item.old)) }
+    ensures size { length item.new ≡ length item.old }
 {
-    if record.len() < 2 {
+    if item.len() < 2 {
         return Ok(());
     }
-    let end = read_be16(record, 0) as usize + 2;
-    if end > record.len() {
+    let end = read_be16(item, 0) as usize + 2;
+    if end > item.len() {
         return Ok(());
     }
-    let (key, value) = record.split_at_mut(end);
+    let (key, value) = item.split_at_mut(end);
     mend_value(alloc, key, value, entries)
 }
 

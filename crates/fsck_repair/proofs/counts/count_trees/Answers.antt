@@ -16,7 +16,7 @@ pub mark_once-requires-clause-spelled : goal.mark_once-requires-clause-spelled
 mark_once-requires-clause-spelled c = (c.in_ok-kinds.ensures.0 c.if-not-kinds.false).0
 
 pub read_entries-requires : goal.read_entries-requires
-read_entries-requires c = (c.in_ok-kinds.ensures.0 c.if-not-kinds.false).0
+read_entries-requires c = record { spelled = (c.in_ok-kinds.ensures.0 c.if-not-kinds.false).0 }
 
 pub returns-then-not-kinds-clause-counted : goal.returns-then-not-kinds-clause-counted
 returns-then-not-kinds-clause-counted c content sectors has sized are = no_kinds content c.args.headers c.args.tree c.args.trees.now has sized are c.in_ok-kinds.kinds c.if-not-kinds.true c.in_ok-kinds.ensures

@@ -60,3 +60,29 @@ returns-clause-found g c content shows =
     let there = shows_still old second content shows reads_2 in
     let sized = at_some c.in_ok-tree.field-0 c.in-Some-3.tree _ _ c.in-Some-3.is (c.in_ok-tree.ensures.found content there has.head (ap (λ (l : List OverflowRow). overflows_in l) c.deref.ensures.value ∙ are.of_extents.rows_are)) in
     c.in_ok-counts.ensures.counted content (c.sectors.ensures ∙ reads.same.sectors ∙ shows.size) has sized are
+
+pub returns-in_err-counts-clause-reads : goal.returns-in_err-counts-clause-reads
+returns-in_err-counts-clause-reads g c =
+    let old : Space = g.V.SectorView.space c.args.view.now in
+    let first : Space = g.V.SectorView.space c.read_good_header.new.view in
+    let second : Space = g.V.SectorView.space c.read_trees.new.view in
+    let third : Space = g.V.SectorView.space c.read_sizes.new.view in
+    reads_both old second third (reads_both old first second c.read_good_header.ensures.reads c.read_trees.ensures.reads) c.read_sizes.ensures.reads
+
+pub returns-in_err-counts-clause-below : goal.returns-in_err-counts-clause-below
+returns-in_err-counts-clause-below g c =
+    g.met.V.SectorView.follows_trans c.args.view.now c.read_trees.new.view c.read_sizes.new.view
+    (g.met.V.SectorView.follows_trans c.args.view.now c.read_good_header.new.view c.read_trees.new.view c.read_good_header.ensures.below c.read_trees.ensures.below) c.read_sizes.ensures.below
+
+pub returns-clause-reads : goal.returns-clause-reads
+returns-clause-reads g c =
+    let old : Space = g.V.SectorView.space c.args.view.now in
+    let first : Space = g.V.SectorView.space c.read_good_header.new.view in
+    let second : Space = g.V.SectorView.space c.read_trees.new.view in
+    let third : Space = g.V.SectorView.space c.read_sizes.new.view in
+    reads_both old second third (reads_both old first second c.read_good_header.ensures.reads c.read_trees.ensures.reads) c.read_sizes.ensures.reads
+
+pub returns-clause-below : goal.returns-clause-below
+returns-clause-below g c =
+    g.met.V.SectorView.follows_trans c.args.view.now c.read_trees.new.view c.read_sizes.new.view
+    (g.met.V.SectorView.follows_trans c.args.view.now c.read_good_header.new.view c.read_trees.new.view c.read_good_header.ensures.below c.read_trees.ensures.below) c.read_sizes.ensures.below
