@@ -1,9 +1,10 @@
 -- The volume header's sector with what it counts.
-use Rattle.std.proofs.Common.{◌≡◌, ◌≢◌, ◌⊎◌, ◌<◌, ◌≤◌, ℕ, ◌+◌, ◌-◌, Bool, true, false, not, ◌==◌, ◌&&◌, List, length, inl, inr, refl, sym, ◌∙◌, ap, subst, arith, ⊎_elim}
-use Rattle.std.proofs.lemmas.Bool.{true≢false, eqb-true, eq-eqb, and_parts}
+use Rattle.std.proofs.Common.{◌≡◌, ◌≢◌, ◌⊎◌, ◌<◌, ◌≤◌, ℕ, ◌+◌, ◌-◌, Bool, true, false, not, ◌==◌, ◌&&◌, nat_le, List, length, inl, inr, refl, sym, ◌∙◌, ap, subst, arith, ⊎_elim}
+use Rattle.std.proofs.lemmas.Bool.{true≢false, eqb-true, leb-true, eq-eqb, and_parts}
 use Rattle.hx_bytes.specs.Field.{big, put_at}
 use Rattle.sector_disk.specs.Lists.{Content, sector}
 use Rattle.hfs_volume.specs.Content.{volume_of}
+use Rattle.volume_header.specs.Refusal.{is_volume_size}
 use Rattle.volume_header.specs.declared.header.VolumeHeader.{VolumeHeader}
 use Rattle.volume_repair.specs.Recount.{agrees, with_word}
 use Rattle.volume_repair.specs.Repair.{sector_mended, header_mended, needs_copy}
@@ -47,3 +48,7 @@ module _ (content : Content) (changes first : List Change) (old new : List ℕ) 
       cases : (at : ℕ) → IsHeaderSector content at → (at ≡ 2) ⊎ (at ≡ last)
       cases at (inl here) = inl (eqb-true at 2 here)
       cases at (inr there) = inr (eqb-true at (length content - 2) (and_parts (at == length content - 2) (needs_copy content) there).0 ∙ sym last_is)
+
+-- a volume has many sectors
+pub many_sectors : (sectors : ℕ) → is_volume_size sectors ≡ true → 2048 ≤ sectors
+many_sectors sectors is = leb-true 2048 sectors (and_parts (nat_le 2048 sectors) (nat_le sectors 2147483648) is).0

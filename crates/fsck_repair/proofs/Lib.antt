@@ -1,5 +1,6 @@
 pub mod AllLaws
 pub mod DiffLaws
+pub mod BitSteps
 pub mod CallLaws
 pub mod CountTelling
 pub mod FindLaws

@@ -91,8 +91,8 @@ module _ (sectors : ℕ) (changes : List Change) (k : ℕ) (sorted : List Change
       ]
 
       whole : (i : ℕ) → i < k + 1 → i < length changes → (get_or changes i no_change).at < sectors → Contains (places_of (sorted ++ one ∷ [])) (get_or changes i no_change).at
-      whole i less within low = ⊎_elim
-          (λ (early : i < k). still (get_or changes i no_change).at (so_far.whole i early within low))
+      whole i less within under = ⊎_elim
+          (λ (early : i < k). still (get_or changes i no_change).at (so_far.whole i early within under))
           (λ (late : k ≤ i).
           subst (λ n. Contains (places_of (sorted ++ one ∷ [])) (get_or changes n no_change).at) {x = k} (omega (arith, less, late))
           (map_stands (λ (c : Change). c.at) (sorted ++ one ∷ []) one (Contains-append_right sorted (one ∷ []) one (at_front one []))))

@@ -2,8 +2,8 @@
 ghost use Rattle.std.specs.Prelude.{◌≡◌, ◌<◌, ◌-◌, ℕ, length, not, true, IsTrue, OnOk, IsErrOf};
 ghost use Rattle.hx_bytes.specs.declared.faults.Trouble.TheVariants.{Disk};
 ghost use Rattle.hx_bytes.specs.Field.{big};
-ghost use Rattle.sector_disk.specs.Cause.{Rose};
-ghost use Rattle.jnl_format.specs.Recovery.{Content};
+ghost use Rattle.sector_disk.specs.Cause.{Rose, HasCause};
+ghost use Rattle.jnl_format.specs.Recovery.{Content, sector};
 ghost use Rattle.volume_header.specs.Refusal.{is_volume_size};
 ghost use Rattle.btree_file.specs.Frame.{ReadsSpace};
 ghost use Rattle.fsck_core.specs.Shown.{Shows};
@@ -15,7 +15,7 @@ use crate::mend::Change;
 use crate::noting::note;
 use crate::numbers::Numbers;
 use fsck_core::Headers;
-use hx_bytes::{Sector, Trouble, write_be32};
+use hx_bytes::{Failed, Sector, Trouble, write_be32};
 use sector_disk::SectorView;
 use volume_header::VolumeHeader;
 
@@ -38,6 +38,17 @@ pub(crate) fn agrees(head: &VolumeHeader, alternate: &VolumeHeader) -> bool
                 && alternate.total_blocks == head.total_blocks))
 }
 
+/// Reads a sector of a view.
+fn read_at<V: SectorView>(view: &mut V, at: u64, into: &mut Sector) -> Result<(), Failed>
+    requires { at < (V.space view.old).sectors }
+    ensures value { IsTrue (V.space view.old).tells → OnOk result (into.new ≡ sector (V.space view.old).content at) }
+    ensures reads { ReadsSpace (V.space view.old) (V.space view.new) }
+    ensures below { V.follows view.old view.new }
+    ensures cause { HasCause (V.space view.old).faults (V.space view.new).faults result }
+{
+    view.get(at, into)
+}
+
 /// Notes what changes in the header's sector, and in that of its copy where it doesn't agree.
 pub(crate) fn mend_headers<V: SectorView>(
     view: &mut V,
@@ -53,7 +64,7 @@ pub(crate) fn mend_headers<V: SectorView>(
     ensures disk { IsErrOf result Disk → Rose (V.space view.old).faults (V.space view.new).faults }
 {
     let mut old = [0; 512];
-    view.get(2, &mut old)?;
+    read_at(view, 2, &mut old)?;
     let mut new = old;
     write_numbers(&mut new, numbers);
     note(changes, 2, &old, &new)?;
@@ -61,7 +72,7 @@ pub(crate) fn mend_headers<V: SectorView>(
         return Ok(());
     }
     let last = view.sectors() - 2;
-    view.get(last, &mut old)?;
+    read_at(view, last, &mut old)?;
     note(changes, last, &old, &new)?;
     Ok(())
 }
