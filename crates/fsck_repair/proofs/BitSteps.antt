@@ -1,7 +1,8 @@
 -- One place more of the allocation file that was noted.
-use Rattle.std.proofs.Common.{◌≡◌, ◌≢◌, ◌⊎◌, ◌<◌, ◌≤◌, ℕ, ◌+◌, ◌-◌, ◌*◌, ◌/◌, List, [], length, inl, inr, refl, sym, ◌∙◌, ap, subst, arith, ⊎_elim}
-use Rattle.std.specs.Prelude.{Contains, Option, Some, None, slice_get}
+use Rattle.std.proofs.Common.{◌≡◌, ◌≢◌, ◌⊎◌, ◌<◌, ◌≤◌, ℕ, ◌+◌, ◌-◌, ◌*◌, ◌/◌, List, [], length, get_or, inl, inr, refl, sym, ◌∙◌, ap, subst, arith, ⊎_elim}
+use Rattle.std.specs.Prelude.{Option, Some, None, Result, Ok, Err, OnOk, slice_get}
 use Rattle.std.proofs.lemmas.Bool.{cases_lt}
+use Rattle.std.proofs.lemmas.Option.{slice_get_past, slice_get_cases}
 use Rattle.sector_disk.specs.Lists.{Content}
 use Rattle.fsck_repair.specs.Bitmap.{IsPlainPlace}
 use Rattle.fsck_repair.specs.Changing.{Notes}
@@ -33,7 +34,14 @@ places_all content sectors size k a b past notes = notes_as content (IsBefore co
 -- or the file has no more sectors
 pub places_end : (content : Content) (sectors : List ℕ) (size k : ℕ) (a b : List Change) → slice_get sectors k ≡ None → Notes content (IsBefore content sectors size k) a b → Notes content (IsPlainPlace content size sectors) a b
 places_end content sectors size k a b none notes = notes_as content (IsBefore content sectors size k) (IsPlainPlace content size sectors) a b
-    (λ s of. (of.0, of.1, ⊎_elim (λ (early : of.1 < k). early) (λ (late : k ≤ of.1). absurd (no_later sectors k of.1 none late (cc))) (cases_lt of.1 k), of.2, of.3)) notes
+    (λ s of. (of.0, of.1, ⊎_elim (λ (early : of.1 < k). early) (λ (late : k ≤ of.1). absurd (later of.1 s late of.3)) (cases_lt of.1 k), of.2, of.3)) notes
   where
-    no_later : (xs : List ℕ) (i j : ℕ) → slice_get xs i ≡ None → i ≤ j → slice_get xs j ≢ None → ⊥
-    no_later xs i j gone up some = ?
+    later : (j s : ℕ) → k ≤ j → slice_get sectors j ≡ Some s → ⊥
+    later j s late is = ⊎_elim
+        (λ (there : (x : ℕ) × (k < length sectors) × (slice_get sectors k ≡ Some x) × (get_or sectors k x ≡ x)). let wrong : None ≡ Some there.0 = sym none ∙ there.2 in absurd (cc))
+        (λ (past : (length sectors ≤ k) × (slice_get sectors k ≡ None)). let gone : None ≡ Some s = sym (slice_get_past sectors j (omega (arith, past.0, late))) ∙ is in absurd (cc))
+        (slice_get_cases sectors k).1
+
+pub plain_noted : {T E : Type 0} (result : Result T E) (content : Content) (at : ℕ) (a b : List Change) → OnOk result (Notes content (λ s. s ≡ at) a b) → OnOk result (Notes content (λ s. (s ≡ at) × IsPlain content s) a b)
+plain_noted (Ok x) content at a b notes = notes_as content (λ s. s ≡ at) (λ s. (s ≡ at) × IsPlain content s) a b (λ s of. of.0) notes
+plain_noted (Err e) content at a b notes = notes

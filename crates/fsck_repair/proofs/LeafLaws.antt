@@ -6,6 +6,8 @@ use Rattle.std.specs.Str.{bytes_eq}
 use Rattle.std.specs.List.Sorted.{IsNonDecreasing, IsNonDecreasingBy}
 use Rattle.std.proofs.lemmas.Bool.{true≢false, ne_eqb, eqb-true, eq-eqb}
 use Rattle.std.proofs.lemmas.List.{length-take, take-append-drop, drop-drop}
+use Rattle.std.proofs.lemmas.List.Sums.{fold-append}
+use Rattle.fork_map.proofs.Ranges.{range-append}
 use Rattle.std.proofs.Math.Seq.{drop-append_seam, take-append_seam, drop-append-add}
 use Rattle.hx_bytes.specs.Field.{big, big_at, put_at, number_at}
 use Rattle.hx_bytes.proofs.Laws.{length-number_bytes, length-put_at, number_at-drop}
@@ -23,7 +25,6 @@ use Rattle.fsck_core.specs.Links.{link_count, links_here}
 use Rattle.fsck_core.specs.Names.{IsSharedAs}
 use Rattle.fsck_core.specs.declared.shared.SharedFile.{SharedFile}
 use Rattle.hfs_volume.proofs.Counting.{length_kept}
-use Rattle.fork_map.proofs.Ranges.{range-append}
 use Rattle.hfs_volume.specs.Records.{Placed, entries_of, placed_of, is_folder, is_file, id_in}
 use Rattle.fsck_core.specs.Rows.{row_of, rows_of, rows_under}
 use Rattle.fsck_core.specs.declared.rows.Row.{Row}
@@ -154,9 +155,6 @@ same_both from old mid new first second = record { size = second.size ∙ first.
 -- one record more of a leaf
 pub fold_more : (records : List Placed) (node : List ℕ) (k : ℕ) → fold (record_mended records) node (range_with_len 0 (k + 1)) ≡ record_mended records (fold (record_mended records) node (range_with_len 0 k)) k
 fold_more records node k =
-    ap (fold (record_mended records) node) (range-append 0 k 1) ∙ fold_both (record_mended records) node (range_with_len 0 k) ((0 + k) ∷ [])
-    ∙ ap (record_mended records (fold (record_mended records) node (range_with_len 0 k))) {x = 0 + k} {y = k} (omega arith)
-  where
-    fold_both : {B X : Type 0} (f : B → X → B) (b : B) (xs ys : List X) → fold f b (xs ++ ys) ≡ fold f (fold f b xs) ys
-    fold_both f b [] ys = refl
-    fold_both f b (x ∷ xs) ys = fold_both f (f b x) xs ys
+    ap (fold (record_mended records) node) (range-append 0 k 1)
+    ∙ fold-append (record_mended records) node (range_with_len 0 k) (range_with_len (0 + k) 1)
+    ∙ ap (record_mended records (fold (record_mended records) node (range_with_len 0 k))) (let same : 0 + k ≡ k = omega arith in same)

@@ -1,11 +1,13 @@
 pub mod AllLaws
-pub mod DiffLaws
 pub mod BitSteps
+pub mod BitsLaws
 pub mod CallLaws
 pub mod CountTelling
+pub mod DiffLaws
 pub mod FindLaws
 pub mod HeaderLaws
 pub mod LeafLaws
+pub mod LeafParts
 pub mod LeavesLaws
 pub mod MendedLaws
 pub mod NoteLaws
