@@ -1,14 +1,16 @@
 -- All changes of a content whose counts were made anew.
 use Rattle.std.proofs.Common.{◌≡◌, ◌<◌, ◌≤◌, ℕ, ◌+◌, ◌-◌, ◌*◌, ◌/◌, ◌^◌, ◌==◌, nat_le, Bool, true, false, not, List, [], inl, inr, length, refl, sym, ◌∙◌, ap, subst, arith}
-use Rattle.std.specs.Prelude.{Contains, Option, Some, None, slice_get, slice_index_or, if◌then◌else◌}
+use Rattle.std.specs.Prelude.{Contains, Result, Ok, Err, OnOk, slice_index, Option, Some, None, slice_get, slice_index_or, if◌then◌else◌}
 use Rattle.std.specs.List.{range_with_len}
 use Rattle.std.proofs.lemmas.List.FromFn.{length-map-range_with_len}
 use Rattle.hx_bytes.specs.Field.{big}
 use Rattle.jnl_format.specs.Recovery.{Content, header_of_volume}
 use Rattle.flag_rows.specs.Bits.{count_set}
-use Rattle.fork_map.specs.Blocks.{fork_sectors}
+use Rattle.fork_map.specs.Blocks.{blocks_of, sectors_of, fork_sectors}
 use Rattle.hfs_volume.specs.Blocks.{IsGoodHeader, is_among, used_in, count_used}
-use Rattle.hfs_volume.specs.Content.{volume_of, records_of, bitmap_sectors, catalog_file, block_limit}
+use Rattle.hfs_volume.specs.Content.{volume_of, records_of, bitmap_sectors, catalog_file, block_limit, node_of_fork, tree_of_fork}
+use Rattle.btree_node.specs.TreeFile.{TreeHead}
+use Rattle.hfs_volume.specs.Broken.{leaves_in}
 use Rattle.hfs_volume.specs.Forks.{per_block_of}
 use Rattle.hfs_volume.specs.Records.{entries_of, is_file, is_folder}
 use Rattle.std.specs.List.{count_by}
@@ -25,7 +27,7 @@ use Rattle.volume_repair.specs.Repair.{IsMendable, catalog_sectors, needs_copy}
 use Rattle.fsck_repair.specs.Bitmap.{MendsBitmap, IsPlainPlace}
 use Rattle.fsck_repair.specs.Changing.{AreRight, IsSettled, Notes}
 use Rattle.fsck_repair.specs.Counted.{IsCounted, HasHeaders, HasNumbers, IsHeaderSector, IsPlain, IsSkipped}
-use Rattle.fsck_repair.specs.Leaf.{IsCatalogSector}
+use Rattle.fsck_repair.specs.Leaf.{AreLeaves, IsCatalogSector, IsOfLeaves}
 use Rattle.fsck_repair.specs.Overlay.{places_of}
 use Rattle.fsck_repair.specs.declared.counts.Counts.{Counts}
 use Rattle.fsck_repair.specs.declared.mend.Change.{Change}
@@ -33,7 +35,7 @@ use Rattle.fsck_repair.specs.declared.numbers.Numbers.{Numbers}
 use Rattle.fsck_repair.specs.declared.skipped.Skipped.{Skipped}
 use Rattle.fsck_repair.proofs.CallLaws.{none_right}
 use Rattle.fsck_repair.proofs.HeaderLaws.{agreed}
-use Rattle.fsck_repair.proofs.LeavesLaws.{all_settled}
+use Rattle.fsck_repair.proofs.LeavesLaws.{all_settled, are_leaves, first_leaf}
 use Rattle.fsck_repair.proofs.MendedLaws.{mends_bitmap}
 
 passed : (b : Bool) (why : HeaderRefusal) (rest : Option HeaderRefusal) → (if not b then Some why else rest) ≡ None → (b ≡ true) × (rest ≡ None)
@@ -106,3 +108,42 @@ module _ (content : Content) (counts : Counts) (counted : IsCounted content coun
         | inl kept ↦ inl kept
         | inr stands ↦ inr (stays at stands)
       ]
+
+  -- ---- the files, as the walk has them
+
+  pub bitmap_is : fork_sectors counts.allocation (counts.headers.head.block_size / 512) ≡ bitmap_sectors content
+  bitmap_is = λ i. sectors_of ((counted.head i).block_size / 512) (blocks_of (counted.allocation i))
+
+  pub size_is : counts.headers.head.allocation_fork.logical_size ≡ (header_of_volume content).allocation_fork.logical_size
+  size_is = ap (λ (h : VolumeHeader). h.allocation_fork.logical_size) counted.head
+
+  catalog_is : fork_sectors counts.catalog (counts.headers.head.block_size / 512) ≡ catalog_sectors content
+  catalog_is = λ i. sectors_of ((counted.head i).block_size / 512) (blocks_of (counted.catalog i))
+
+  limit_is : counts.headers.head.total_blocks * (counts.headers.head.block_size / 512) ≡ block_limit content
+  limit_is = λ i. (counted.head i).total_blocks * ((counted.head i).block_size / 512)
+
+  node_is : counts.tree.shape.node_size ≡ (catalog_file content).head.node_size
+  node_is = ap (λ (h : TreeHead). h.node_size) counted.tree
+
+  pub first_is : counts.tree.shape.first ≡ slice_index (leaves_in (catalog_file content)) 0
+  first_is = ap (λ (h : TreeHead). h.first) counted.tree ∙ first_leaf (catalog_file content) counted.mendable.trees.catalog
+
+  there : AreLeaves content (catalog_sectors content) (λ n. node_of_fork content (block_limit content) (catalog_sectors content) (catalog_file content).head.node_size n) ((catalog_file content).head.node_size / 512) (records_of (volume_of content)) (leaves_in (catalog_file content))
+  unfolding catalog_file tree_of_fork
+  there = are_leaves content counted.mendable some_per_block
+
+  pub leaves_there : (size : ℕ) → size ≡ counts.tree.shape.node_size
+      → AreLeaves content (fork_sectors counts.catalog (counts.headers.head.block_size / 512)) (λ n. node_of_fork content (counts.headers.head.total_blocks * (counts.headers.head.block_size / 512)) (fork_sectors counts.catalog (counts.headers.head.block_size / 512)) size n) (size / 512) (records_of (volume_of content)) (leaves_in (catalog_file content))
+  leaves_there size same =
+      subst (λ s. AreLeaves content s (λ n. node_of_fork content (counts.headers.head.total_blocks * (counts.headers.head.block_size / 512)) s size n) (size / 512) (records_of (volume_of content)) (leaves_in (catalog_file content))) (sym catalog_is)
+      (subst (λ l. AreLeaves content (catalog_sectors content) (λ n. node_of_fork content l (catalog_sectors content) size n) (size / 512) (records_of (volume_of content)) (leaves_in (catalog_file content))) (sym limit_is)
+      (subst (λ z. AreLeaves content (catalog_sectors content) (λ n. node_of_fork content (block_limit content) (catalog_sectors content) z n) (z / 512) (records_of (volume_of content)) (leaves_in (catalog_file content))) (sym (same ∙ node_is)) there))
+
+  pub catalog_noted : {T E : Type 0} (result : Result T E) (size : ℕ) (a b : List Change) → size ≡ counts.tree.shape.node_size
+      → OnOk result (Notes content (IsOfLeaves content (fork_sectors counts.catalog (counts.headers.head.block_size / 512)) (size / 512) (leaves_in (catalog_file content)) (length (leaves_in (catalog_file content)))) a b)
+      → OnOk result (Notes content (IsCatalogSector content) a b)
+  catalog_noted (Ok x) size a b same notes =
+      subst (λ s. Notes content (IsOfLeaves content s ((catalog_file content).head.node_size / 512) (leaves_in (catalog_file content)) (length (leaves_in (catalog_file content)))) a b) catalog_is
+      (subst (λ z. Notes content (IsOfLeaves content (fork_sectors counts.catalog (counts.headers.head.block_size / 512)) (z / 512) (leaves_in (catalog_file content)) (length (leaves_in (catalog_file content)))) a b) (same ∙ node_is) notes)
+  catalog_noted (Err e) size a b same notes = notes
