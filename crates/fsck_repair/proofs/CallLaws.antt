@@ -25,6 +25,12 @@ no_repair content changes none cant = inr (cant, ap (λ (l : List Change). overl
 pub none_right : (content : Content) (changes : List Change) → changes ≡ [] → AreRight content changes
 none_right content changes none change stands = absurd (let there : Contains [] change = subst (λ (l : List Change). Contains l change) none stands in omega (arith, there.1))
 
+pub none_differ : (content : Content) (changes : List Change) → changes ≡ [] → length changes ≡ differing content (overlaid changes content)
+none_differ content changes none = subst (λ (l : List Change). length l ≡ differing content (overlaid l content)) (sym none) (as_many_differ content [] tt (none_right content [] refl))
+
+pub none_bytes : (content : Content) (changes : List Change) → changes ≡ [] → HasBytes content → HasBytes (overlaid changes content)
+none_bytes content changes none bytes = subst (λ (l : List Change). HasBytes (overlaid l content)) (sym none) (subst HasBytes (sym (overlaid_none content)) bytes)
+
 -- changes that were put in order
 module _ (content : Content) (first changes : List Change) (order : IsInOrder (length content) first changes) (right : AreRight content first) where
   pub still_right : AreRight content changes

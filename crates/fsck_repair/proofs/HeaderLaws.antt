@@ -1,7 +1,7 @@
 -- The volume header's sector with what it counts.
 use Rattle.std.proofs.Common.{◌≡◌, ◌≢◌, ◌⊎◌, ◌<◌, ◌≤◌, ℕ, ◌+◌, ◌-◌, Bool, true, false, not, ◌==◌, ◌&&◌, nat_le, List, length, inl, inr, refl, sym, ◌∙◌, ap, subst, arith, ⊎_elim}
 use Rattle.std.proofs.lemmas.Bool.{true≢false, eqb-true, leb-true, eq-eqb, and_parts}
-use Rattle.hx_bytes.specs.Field.{big, put_at}
+use Rattle.hx_bytes.specs.Field.{AreBytes, big, put_at}
 use Rattle.sector_disk.specs.Lists.{Content, sector}
 use Rattle.hfs_volume.specs.Content.{volume_of}
 use Rattle.volume_header.specs.Refusal.{is_volume_size}
@@ -24,9 +24,9 @@ pub agreed : (content : Content) (headers : Headers) (met : Bool) → HasHeaders
 unfolding volume_of
 agreed content headers met has is = ap not (sym (is ∙ (λ i. agrees (has.head i) (has.alternate i))))
 
-module _ (content : Content) (changes first : List Change) (old new : List ℕ) (inside : 2 < length content) (was : old ≡ sector content 2) (is : new ≡ header_mended content) (noted_is : first ≡ noted changes 2 old new) where
+module _ (content : Content) (changes first : List Change) (old new : List ℕ) (inside : 2 < length content) (was : old ≡ sector content 2) (is : new ≡ header_mended content) (are : AreBytes new) (noted_is : first ≡ noted changes 2 old new) where
   pub first_noted : Notes content (λ s. s ≡ 2) changes first
-  first_noted = subst (λ (l : List Change). Notes content (λ s. s ≡ 2) changes l) (sym noted_is) (notes_one content changes 2 old new inside was (header_sector content 2 (inl refl) ∙ sym is))
+  first_noted = subst (λ (l : List Change). Notes content (λ s. s ≡ 2) changes l) (sym noted_is) (notes_one content changes 2 old new inside was (header_sector content 2 (inl refl) ∙ sym is) are)
 
   -- no copy is written
   pub header_alone : needs_copy content ≡ false → Notes content (IsHeaderSector content) changes first
@@ -40,7 +40,7 @@ module _ (content : Content) (changes first : List Change) (old new : List ℕ) 
   pub header_and_copy : (last : ℕ) (before : List ℕ) (second : List Change) → last ≡ length content - 2 → last < length content → needs_copy content ≡ true → before ≡ sector content last → second ≡ noted first last before new → Notes content (IsHeaderSector content) changes second
   header_and_copy last before second last_is low needs read second_is =
       notes_both content (λ s. s ≡ 2) (λ s. s ≡ last) (IsHeaderSector content) changes first second cases first_noted
-      (subst (λ (l : List Change). Notes content (λ s. s ≡ last) first l) (sym second_is) (notes_one content first last before new low read (header_sector content last (inr copy) ∙ sym is)))
+      (subst (λ (l : List Change). Notes content (λ s. s ≡ last) first l) (sym second_is) (notes_one content first last before new low read (header_sector content last (inr copy) ∙ sym is) are))
     where
       copy : ((last == length content - 2) && needs_copy content) ≡ true
       copy = ap (λ b. b && needs_copy content) (eq-eqb last (length content - 2) last_is) ∙ needs

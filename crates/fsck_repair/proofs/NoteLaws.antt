@@ -5,6 +5,7 @@ use Rattle.std.specs.Str.{bytes_eq}
 use Rattle.std.proofs.lemmas.Slice.Eq.{bytes_eq-Decides}
 use Rattle.std.proofs.lemmas.Bool.{true≢false}
 use Rattle.std.proofs.lemmas.List.Elements.{Contains-append_left, Contains-append_right, Contains-append_cases}
+use Rattle.hx_bytes.specs.Field.{AreBytes}
 use Rattle.sector_disk.specs.Lists.{Content, sector}
 use Rattle.hfs_volume.proofs.Members.{at_front, in_one, map_cases, map_stands}
 use Rattle.volume_repair.specs.Repair.{sector_mended}
@@ -40,7 +41,7 @@ pub notes_as : (content : Content) (Places Others : ℕ → Type 0) (old new : L
 notes_as content Places Others old new from notes = record { right = notes.right; stays = notes.stays; settled = λ at is. notes.settled at (from at is) }
 
 -- a sector of which the repair has these bytes
-module _ (content : Content) (changes : List Change) (at : ℕ) (old new : List ℕ) (inside : at < length content) (was : old ≡ sector content at) (is : sector_mended content at ≡ new) where
+module _ (content : Content) (changes : List Change) (at : ℕ) (old new : List ℕ) (inside : at < length content) (was : old ≡ sector content at) (is : sector_mended content at ≡ new) (are : AreBytes new) where
   Here : ℕ → Type 0
   Here s = s ≡ at
 
@@ -52,6 +53,7 @@ module _ (content : Content) (changes : List Change) (at : ℕ) (old new : List 
       | inr one ↦ subst (λ (c : Change). IsRightChange content c) (sym (in_one (record { at = at; bytes = new }) change one)) (record {
         inside = inside;
         bytes = sym is;
+        are = are;
         differs = λ same. true≢false (sym ((bytes_eq-Decides old new).1 (was ∙ sym same)) ∙ tells);
       })
     ];

@@ -3,6 +3,7 @@ use Rattle.std.proofs.Common.{◌≡◌, ◌≢◌, ◌⊎◌, ◌<◌, ◌≤�
 use Rattle.std.specs.Prelude.{Contains, Option, Some, None, slice_get, slice_index}
 use Rattle.std.proofs.lemmas.Bool.{cases_lt}
 use Rattle.std.proofs.lemmas.List.{get_or_past}
+use Rattle.hx_bytes.specs.Field.{AreBytes}
 use Rattle.sector_disk.specs.Lists.{Content, sector}
 use Rattle.volume_repair.specs.Repair.{sector_mended}
 use Rattle.fsck_repair.specs.Changing.{Notes, noted, IsSettled}
@@ -27,10 +28,10 @@ module _ (content : Content) (sectors : List ℕ) (place : ℕ) (changes : List 
   place_skipped at is skipped = notes_none content (IsPlainAt content sectors place) changes (λ s there. absurd (let same : Some at ≡ Some s = sym is ∙ there.0 in let e : s ≡ at = cc in skipped (subst (IsPlain content) e there.1)))
 
   -- it is noted
-  pub place_noted : (at : ℕ) (old new : List ℕ) (after : List Change) → slice_get sectors place ≡ Some at → at < length content → old ≡ sector content at → sector_mended content at ≡ new → after ≡ noted changes at old new → Notes content (IsPlainAt content sectors place) changes after
-  place_noted at old new after is inside was has is_noted =
+  pub place_noted : (at : ℕ) (old new : List ℕ) (after : List Change) → slice_get sectors place ≡ Some at → at < length content → old ≡ sector content at → sector_mended content at ≡ new → AreBytes new → after ≡ noted changes at old new → Notes content (IsPlainAt content sectors place) changes after
+  place_noted at old new after is inside was has are is_noted =
       notes_as content (λ s. s ≡ at) (IsPlainAt content sectors place) changes after (λ s there. let same : Some at ≡ Some s = sym is ∙ there.0 in let e : s ≡ at = cc in e)
-      (subst (λ (l : List Change). Notes content (λ s. s ≡ at) changes l) (sym is_noted) (notes_one content changes at old new inside was has))
+      (subst (λ (l : List Change). Notes content (λ s. s ≡ at) changes l) (sym is_noted) (notes_one content changes at old new inside was has are))
 
 -- ---- sectors of a node, and leaves
 

@@ -1,6 +1,7 @@
 -- Changes of a content to what its repair has.
 use Rattle.std.specs.Prelude.{◌≡◌, ◌⊎◌, ◌<◌, ◌==◌, ◌||◌, ◌-◌, nat_lt, ℕ, Bool, List, [], ◌∷◌, ◌++◌, length, slice_index_or, Contains, if◌then◌else◌}
 use Rattle.std.specs.Str.{bytes_eq}
+use Rattle.hx_bytes.specs.Field.{AreBytes}
 use Rattle.sector_disk.specs.Lists.{Content, sector}
 use Rattle.volume_repair.specs.Repair.{sector_mended}
 use Rattle.fsck_repair.specs.Overlay.{places_of}
@@ -11,6 +12,7 @@ pub record IsRightChange (content : Content) (change : Change) : Type 0 where
   pub inside : change.at < length content
   pub bytes : change.bytes ≡ sector_mended content change.at
   pub differs : ¬ (change.bytes ≡ sector content change.at)
+  pub are : AreBytes change.bytes
 
 -- past the end of a list of changes
 abbrev pub no_change : Change

@@ -3,6 +3,7 @@ ghost use Rattle.std.specs.Prelude.{◌≡◌, OnOk, IfOk};
 ghost use Rattle.std.specs.List.Sorted.{IsNonDecreasingBy};
 ghost use Rattle.fsck_repair.specs.Changing.{noted, is_behind, fitting_added, IsInOrder};
 ghost use Rattle.fsck_repair.specs.Overlay.{ChangesOnce};
+ghost use Rattle.hx_bytes.specs.Field.{AreBytes};
 
 use crate::mend::Change;
 use hx_bytes::{OutOfMemory, Sector};
@@ -15,7 +16,8 @@ pub(crate) fn note(
     old: &Sector,
     new: &Sector,
 ) -> Result<(), OutOfMemory>
-    ensures { OnOk result (changes.new.items ≡ noted changes.old.items at old.now new.now) }
+    ensures noted { OnOk result (changes.new.items ≡ noted changes.old.items at old.now new.now) }
+    ensures bytes { AreBytes new.now }
 {
     if old == new {
         return Ok(());

@@ -11,4 +11,4 @@ returns-clause-notes g c content shows skipped mends =
     let plain = c.has.ensures.plain content skipped c.if-has.false in
     let low : at < length content = omega (arith, c.if-at-sectors.false, c.sectors.ensures ∙ shows.size) in
     let was = c.in_ok-get.ensures.value shows.tells ∙ ap (λ (ct : Content). sector ct at) shows.is in
-    place_noted content (fork_sectors c.args.fork.now.extents.now c.args.fork.now.per_block) c.args.place c.args.changes.now.items at c.get.new.into c.args.new.now c.note.new.changes.items place low was (mends at (place, plain)) c.in_ok-note.ensures
+    place_noted content (fork_sectors c.args.fork.now.extents.now c.args.fork.now.per_block) c.args.place c.args.changes.now.items at c.get.new.into c.args.new.now c.note.new.changes.items place low was (mends at (place, plain)) c.note.ensures.bytes c.in_ok-note.ensures.noted
