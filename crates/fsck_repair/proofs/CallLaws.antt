@@ -1,12 +1,17 @@
 -- The repair of a content, seen through changes.
-use Rattle.std.proofs.Common.{◌≡◌, ◌⊎◌, ◌<◌, ◌≤◌, ℕ, suc, Bool, true, false, not, cond, List, [], ◌∷◌, length, get_or, inl, inr, refl, sym, ◌∙◌, ap, subst, arith, ⊎_elim, map}
+use Rattle.std.proofs.Common.{◌≡◌, ◌⊎◌, ◌<◌, ◌≤◌, ℕ, suc, Bool, true, false, not, cond, List, [], ◌∷◌, length, get_or, inl, inr, refl, sym, ◌∙◌, ap, subst, arith, ⊎_elim, map, IsTrue}
 use Rattle.std.specs.Prelude.{Contains, All, slice_index}
 use Rattle.std.proofs.lemmas.Bool.{cases_lt}
 use Rattle.std.proofs.lemmas.List.{get_or_past}
 use Rattle.std.proofs.lemmas.List.FromFn.{length-map-range_with_len}
 use Rattle.hx_bytes.specs.Field.{AreBytes}
 use Rattle.sector_disk.specs.Lists.{Content, sector}
-use Rattle.sector_disk.specs.Putting.{unput}
+use Rattle.sector_disk.specs.Clock.{TimePasses}
+use Rattle.sector_disk.specs.Space.{Space, SameSpace, LeavesDurable}
+use Rattle.sector_disk.specs.Putting.{unput, PutsThese}
+use Rattle.sector_disk.proofs.Passing.{both_pass}
+use Rattle.sector_disk.proofs.SpaceLaws.{leaves_as_before}
+use Rattle.btree_file.specs.Frame.{ReadsSpace}
 use Rattle.sector_disk.proofs.PutLaws.{unput-cons}
 use Rattle.hfs_volume.specs.Findings.{HasBytes}
 use Rattle.hfs_volume.proofs.Members.{all_of, map_cases}
@@ -85,3 +90,19 @@ change_differs content changes at right stands same = elim (changed_cases change
       one.differs (sym there.3 ∙ sym (overlaid_at changes content (length content) at refl (omega (arith, low, there.2))) ∙ same ∙ ap (sector content) (sym there.2))
   | inr none ↦ none.0 stands
 ]
+
+pub no_places : (changes : List Change) (at : ℕ) → changes ≡ [] → ¬ Contains (places_of changes) at
+no_places changes at none stands = let there : Contains (places_of []) at = subst (λ (l : List Change). Contains (places_of l) at) none stands in absurd (omega (arith, there.1))
+
+-- more changes than may be put
+pub too_many : (content : Content) (changes : List Change) (count sectors : ℕ) → length changes ≡ differing content (overlaid changes content) → differing content (overlaid changes content) ≤ sectors → count ≡ length changes → sectors < count → ⊥
+too_many content changes count sectors differ enough is more = omega (arith, differ, enough, is, more)
+
+pub hidden_if : (tells : Bool) → (tells ≡ true → ⊥) → tells ≡ false
+hidden_if false none = refl
+hidden_if true none = absurd (none refl)
+
+-- a stretch of reading, and one of putting
+pub time_then : (Places : ℕ → Type 0) (a b c : Space) → IsTrue a.tells → ReadsSpace a b → PutsThese Places b c → SameSpace b c → TimePasses b.clock c.clock (LeavesDurable c) → TimePasses a.clock c.clock (LeavesDurable c)
+time_then Places a b c tells reads puts same later =
+    both_pass a.clock b.clock c.clock (LeavesDurable b) (LeavesDurable c) (LeavesDurable c) (reads.time tells) later (λ image told l. leaves_as_before b c image told puts.durable puts.spilled puts.closed same.told l) (λ image told l. l)

@@ -57,9 +57,10 @@ all_used P overflow id kind fork all = all_of P (extents_of overflow id kind for
 
 pub once_told : (volume : VolumeState) (extents written : List Extent) (met : Bool) → blocks_of extents ≡ used_in volume → blocks_of written ≡ blocks_written volume
     → IsTrue met ↔ All (λ block. times block (blocks_of extents) ≤ 1) (blocks_of written) → IsTrue met ↔ UsesOnce volume
-once_told volume extents written met used writes told =
-    (λ is. subst (λ us. All (λ block. times block us ≤ 1) (blocks_written volume)) used (subst (λ ws. All (λ block. times block (blocks_of extents) ≤ 1) ws) writes (told.0 is)),
-    λ has. told.1 (subst (λ ws. All (λ block. times block (blocks_of extents) ≤ 1) ws) (sym writes) (subst (λ us. All (λ block. times block us ≤ 1) (blocks_written volume)) (sym used) has)))
+once_told volume extents written met used writes told = (
+  λ is. subst (λ us. All (λ block. times block us ≤ 1) (blocks_written volume)) used (subst (λ ws. All (λ block. times block (blocks_of extents) ≤ 1) ws) writes (told.0 is)),
+  λ has. told.1 (subst (λ ws. All (λ block. times block (blocks_of extents) ≤ 1) ws) (sym writes) (subst (λ us. All (λ block. times block us ≤ 1) (blocks_written volume)) (sym used) has)),
+)
 
 -- ---- all conditions
 

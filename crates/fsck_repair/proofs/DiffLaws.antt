@@ -34,10 +34,13 @@ changed_cases (change ∷ changes) at old = ⊎_elim
     let step : changed (change ∷ changes) at old ≡ changed changes at old = ap (λ b. if b then change.bytes else changed changes at old) other.0 in
     elim (changed_cases changes at old) [
       | inl there ↦ inl (there.0, behind change there.0 changes there.1, there.2, step ∙ there.3)
-      | inr none ↦ inr (λ stands. elim (first_or_later change.at at (places_of changes) stands) [
-        | inl is ↦ other.1 (sym is)
-        | inr later ↦ none.0 later
-      ], step ∙ none.1)
+      | inr none ↦ inr (
+        λ stands. elim (first_or_later change.at at (places_of changes) stands) [
+          | inl is ↦ other.1 (sym is)
+          | inr later ↦ none.0 later
+        ],
+        step ∙ none.1,
+      )
     ])
     (eqb_tells change.at at)
 
@@ -48,8 +51,8 @@ mended_is_overlaid content changes right settled =
     ext_get_or [] (overlaid changes content) (map (sector_mended content) (range_with_len 0 (length content)))
     (length-map-range_with_len (λ at. changed changes at (sector content at)) 0 (length content) ∙ sym (length-map-range_with_len (sector_mended content) 0 (length content)))
     (λ k inside.
-        let low : k < length content = omega (arith, inside, length-map-range_with_len (λ at. changed changes at (sector content at)) 0 (length content)) in
-        overlaid_at changes content (length content) k refl low ∙ each k low ∙ sym (get_or-map-range_with_len (sector_mended content) 0 (length content) k k [] low (omega arith)))
+    let low : k < length content = omega (arith, inside, length-map-range_with_len (λ at. changed changes at (sector content at)) 0 (length content)) in
+    overlaid_at changes content (length content) k refl low ∙ each k low ∙ sym (get_or-map-range_with_len (sector_mended content) 0 (length content) k k [] low (omega arith)))
   where
     each : (k : ℕ) → k < length content → changed changes k (sector content k) ≡ sector_mended content k
     each k low = elim (changed_cases changes k (sector content k)) [

@@ -264,11 +264,11 @@ counted_stands (x ∷ xs) k some = ⊎_elim
 pub once_told : (used written : List Extent) (first sorted : List Use) (met : Bool) → first ≡ as_uses false used ++ as_uses true written → IsPermutation first sorted
     → (IsTrue met ↔ ((k : ℕ) → 0 < times_written sorted k → times_used sorted k ≤ 1)) → IsTrue met ↔ All (λ block. times block (blocks_of used) ≤ 1) (blocks_of written)
 once_told used written first sorted met is shuffled tells = (
-    λ yes. all_of (λ (block : ℕ). times block (blocks_of used) ≤ 1) (blocks_of written) (λ block stands.
-        let few = tells.0 yes block (omega (arith, writes block, stands_once block (blocks_of written) stands)) in omega (arith, few, uses block)),
-    λ all. tells.1 (λ k some.
-        let few : times k (blocks_of used) ≤ 1 = each_of (λ (block : ℕ). times block (blocks_of used) ≤ 1) (blocks_of written) all k (counted_stands (blocks_of written) k (omega (arith, some, writes k))) in
-        omega (arith, few, uses k)),
+  λ yes. all_of (λ (block : ℕ). times block (blocks_of used) ≤ 1) (blocks_of written) (λ block stands.
+      let few = tells.0 yes block (omega (arith, writes block, stands_once block (blocks_of written) stands)) in omega (arith, few, uses block)),
+  λ all. tells.1 (λ k some.
+      let few : times k (blocks_of used) ≤ 1 = each_of (λ (block : ℕ). times block (blocks_of used) ≤ 1) (blocks_of written) all k (counted_stands (blocks_of written) k (omega (arith, some, writes k))) in
+      omega (arith, few, uses k)),
 )
   where
     uses : (k : ℕ) → times_used sorted k ≡ times k (blocks_of used)

@@ -66,13 +66,16 @@ place_once (s ∷ rest) base at (suc i) is once =
 of_block : (per at block : ℕ) → 0 < per → ((at / per ≡ block) × (block * per ≤ at) × (at < block * per + per)) ⊎ ((at / per ≢ block) × ((at < block * per) ⊎ (block * per + per ≤ at)))
 of_block per at block some = ⊎_elim
     (λ (same : (at / per == block ≡ true) × (at / per ≡ block)). inl (same.1, subst (λ b. b * per ≤ at) same.1 (div-mul-le_self at per), subst (λ b. at < b * per + per) same.1 (lt-div-mul-add {a = at} some)))
-    (λ (other : (at / per == block ≡ false) × (at / per ≢ block)). inr (other.1, ⊎_elim
-    (λ (low : at < block * per). inl low)
-    (λ (from : block * per ≤ at). ⊎_elim
-    (λ (inside : at < block * per + per). absurd (other.1 (between from inside)))
-    (λ (past : block * per + per ≤ at). inr past)
-    (cases_lt at (block * per + per)))
-    (cases_lt at (block * per))))
+    (λ (other : (at / per == block ≡ false) × (at / per ≢ block)). inr (
+      other.1,
+      ⊎_elim
+          (λ (low : at < block * per). inl low)
+          (λ (from : block * per ≤ at). ⊎_elim
+          (λ (inside : at < block * per + per). absurd (other.1 (between from inside)))
+          (λ (past : block * per + per ≤ at). inr past)
+          (cases_lt at (block * per + per)))
+          (cases_lt at (block * per)),
+    ))
     (eqb_tells (at / per) block)
   where
     between : block * per ≤ at → at < block * per + per → at / per ≡ block

@@ -1,5 +1,5 @@
 //! The repair of a volume: the sectors in which it differs, how many they are, and putting them.
-ghost use Rattle.std.specs.Prelude.{◌≡◌, ◌↔◌, ◌<◌, ◌≤◌, ℕ, length, true, All, IsTrue, IfOk, OnErr, IsErrOf};
+ghost use Rattle.std.specs.Prelude.{◌≡◌, ◌↔◌, ◌<◌, ◌≤◌, ℕ, length, true, All, Contains, IsTrue, IfOk, OnErr, IsErrOf};
 ghost use Rattle.hx_bytes.specs.declared.faults.Trouble.TheVariants.{Disk};
 ghost use Rattle.sector_disk.specs.Cause.{Rose};
 ghost use Rattle.sector_disk.specs.Clock.{TimePasses};
@@ -29,6 +29,9 @@ impl Mend {
         ensures repair { IsTrue (V.space view.old).tells → HasBytes (V.space view.old).content → IfOk result (λ mend. IsRepair (V.space view.old).content (overlaid mend.changes.items (V.space view.old).content)) }
         // There are as many as differ.
         ensures differ { IsTrue (V.space view.old).tells → HasBytes (V.space view.old).content → IfOk result (λ mend. length mend.changes.items ≡ differing (V.space view.old).content (overlaid mend.changes.items (V.space view.old).content)) }
+        // Each of them differs.
+        ensures each { IsTrue (V.space view.old).tells → HasBytes (V.space view.old).content
+            → IfOk result (λ mend. (at : ℕ) → Contains (places_of mend.changes.items) at → Differs (V.space view.old).content (overlaid mend.changes.items (V.space view.old).content) at) }
         ensures bytes { IsTrue (V.space view.old).tells → HasBytes (V.space view.old).content → IfOk result (λ mend. HasBytes (overlaid mend.changes.items (V.space view.old).content)) }
         ensures once { IfOk result (λ mend. ChangesOnce mend.changes.items) }
         ensures inside { IfOk result (λ mend. All (λ at. at < (V.space view.old).sectors) (places_of mend.changes.items)) }

@@ -36,11 +36,7 @@ fn is_behind(changes: &[Change], at: u64) -> bool
 }
 
 /// Adds a change, where it is of one of so many sectors, behind that of the last one.
-fn add_behind(
-    sorted: &mut Vec<Change>,
-    sectors: u64,
-    change: &Change,
-) -> Result<(), OutOfMemory>
+fn add_behind(sorted: &mut Vec<Change>, sectors: u64, change: &Change) -> Result<(), OutOfMemory>
     ensures { OnOk result (sorted.new.items ≡ fitting_added sectors sorted.old.items change.now) }
 {
     if change.at >= sectors {

@@ -9,18 +9,22 @@ use Rattle.fsck_repair.proofs.CountTelling.{good_in}
 use Rattle.fsck_repair.proofs.counts.count_volume.Goals as goal
 
 pub read_trees-requires : goal.read_trees-requires
-read_trees-requires g c =    record { good = good_still (g.V.SectorView.space c.args.view.now) (g.V.SectorView.space c.read_good_header.new.view) c.in-Some.headers.head c.read_good_header.ensures.reads
-    (some_both c.in_ok-headers.field-0 c.in-Some.headers _ c.in-Some.is c.in_ok-headers.ensures.good) }
+read_trees-requires g c = record {
+  good = good_still (g.V.SectorView.space c.args.view.now) (g.V.SectorView.space c.read_good_header.new.view) c.in-Some.headers.head c.read_good_header.ensures.reads
+      (some_both c.in_ok-headers.field-0 c.in-Some.headers _ c.in-Some.is c.in_ok-headers.ensures.good);
+}
 
 pub read_sizes-requires : goal.read_sizes-requires
-read_sizes-requires g c =    let old : Space = g.V.SectorView.space c.args.view.now in
+read_sizes-requires g c = let old : Space = g.V.SectorView.space c.args.view.now in
     let first : Space = g.V.SectorView.space c.read_good_header.new.view in
     let second : Space = g.V.SectorView.space c.read_trees.new.view in
-    record { good = good_still old second c.in-Some.headers.head (reads_both old first second c.read_good_header.ensures.reads c.read_trees.ensures.reads)
-    (some_both c.in_ok-headers.field-0 c.in-Some.headers _ c.in-Some.is c.in_ok-headers.ensures.good) }
+    record {
+      good = good_still old second c.in-Some.headers.head (reads_both old first second c.read_good_header.ensures.reads c.read_trees.ensures.reads)
+          (some_both c.in_ok-headers.field-0 c.in-Some.headers _ c.in-Some.is c.in_ok-headers.ensures.good);
+    }
 
 pub count_trees-requires : goal.count_trees-requires
-count_trees-requires g c =    let old : Space = g.V.SectorView.space c.args.view.now in
+count_trees-requires g c = let old : Space = g.V.SectorView.space c.args.view.now in
     let first : Space = g.V.SectorView.space c.read_good_header.new.view in
     let second : Space = g.V.SectorView.space c.read_trees.new.view in
     let third : Space = g.V.SectorView.space c.read_sizes.new.view in

@@ -22,8 +22,7 @@ pub returns : goal.returns
 returns c volume sectors head overflow catalog =
     let forks = ap (λ (l : List OwnedFork). owned_all l) c.deref.ensures.value ∙ c.in_ok-forks.ensures ∙ (λ i. all_forks (head i) (placed_in (catalog i))) in
     let used = c.in_ok-extents.ensures volume sectors head overflow forks in
-    let writes = c.in_ok-written.ensures volume sectors head overflow in
-    (
+    let writes = c.in_ok-written.ensures volume sectors head overflow in (
       (once_told volume c.in_ok-extents.extents c.in_ok-written.written c.in_ok-once.once used writes c.in_ok-once.ensures).0 c.if-not-once.false,
       c.in_ok-used.ensures volume (ap (λ (h : VolumeHeader). h.total_blocks) head) used,
     )

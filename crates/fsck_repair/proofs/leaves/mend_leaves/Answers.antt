@@ -19,9 +19,9 @@ loop-read-init g c = record {
   below = g.met.V.SectorView.follows_refl c.args.view.now;
   reads = reads_none (g.V.SectorView.space c.args.view.now);
   noted = λ content records leaves shows skipped are first good. (
-      first,
-      omega arith,
-      notes_none content (IsOfLeaves content (fork_sectors c.args.fork.now.extents.now c.args.fork.now.per_block) (length c.args.node.now / 512) leaves 0) c.args.changes.now.items (λ at is. absurd (let low = is.1 in omega (arith, low))),
+    first,
+    omega arith,
+    notes_none content (IsOfLeaves content (fork_sectors c.args.fork.now.extents.now c.args.fork.now.per_block) (length c.args.node.now / 512) leaves 0) c.args.changes.now.items (λ at is. absurd (let low = is.1 in omega (arith, low))),
   );
 }
 
@@ -59,8 +59,7 @@ loop-read-preserved g c =
           let there = shows_still old now content shows c.loop-read.invariant.reads in
           let its_good = subst (λ m. IsGoodLeaf (node_of_fork content limit sectors m c.loop-read.next)) (sym long) (subst (λ n. IsGoodLeaf (node_of_fork content limit sectors size n)) (sym so_far.0) (good.good c.loop-read._read low)) in
           let its_mends = subst (λ m. MendsNode content sectors (m / 512) c.loop-read.next (leaf_mended records (node_of_fork content limit sectors m c.loop-read.next))) (sym long)
-          (subst (λ n. MendsNode content sectors (size / 512) n (leaf_mended records (node_of_fork content limit sectors size n))) (sym so_far.0) (good.mends c.loop-read._read low)) in
-          (
+          (subst (λ n. MendsNode content sectors (size / 512) n (leaf_mended records (node_of_fork content limit sectors size n))) (sym so_far.0) (good.mends c.loop-read._read low)) in (
             c.in_ok-next.ensures.next content there ∙ (λ i. next_of (node_of_fork content limit sectors (long i) (so_far.0 i))) ∙ good.next c.loop-read._read low,
             omega (arith, low),
             leaves_more content sectors (size / 512) c.loop-read._read c.loop-read.next leaves c.args.changes.now.items c.loop-read.changes.items c.mend_node.new.changes.items so_far.0 so_far.2

@@ -8,7 +8,7 @@ pub has_attributes_size-requires : goal.has_attributes_size-requires
 has_attributes_size-requires g c = record { good = good_still (g.V.SectorView.space c.args.view.now) (g.V.SectorView.space c.has_extents_size.new.view) c.args.head.now c.has_extents_size.ensures.reads c.requires.good }
 
 pub read_sized_catalog-requires : goal.read_sized_catalog-requires
-read_sized_catalog-requires g c =    let old : Space = g.V.SectorView.space c.args.view.now in
+read_sized_catalog-requires g c = let old : Space = g.V.SectorView.space c.args.view.now in
     let first : Space = g.V.SectorView.space c.has_extents_size.new.view in
     let second : Space = g.V.SectorView.space c.has_attributes_size.new.view in
     record { good = good_still old second c.args.head.now (reads_both old first second c.has_extents_size.ensures.reads c.has_attributes_size.ensures.reads) c.requires.good }

@@ -11,7 +11,7 @@ pub has_attributes_tree-requires : goal.has_attributes_tree-requires
 has_attributes_tree-requires g c = record { good = good_still (g.V.SectorView.space c.args.view.now) (g.V.SectorView.space c.read_rows.new.view) c.args.head.now c.read_rows.ensures.reads c.requires.good }
 
 pub read_catalog-requires : goal.read_catalog-requires
-read_catalog-requires g c =    let old : Space = g.V.SectorView.space c.args.view.now in
+read_catalog-requires g c = let old : Space = g.V.SectorView.space c.args.view.now in
     let first : Space = g.V.SectorView.space c.read_rows.new.view in
     let second : Space = g.V.SectorView.space c.has_attributes_tree.new.view in
     record { good = good_still old second c.args.head.now (reads_both old first second c.read_rows.ensures.reads c.has_attributes_tree.ensures.reads) c.requires.good }
