@@ -21,6 +21,7 @@ use Rattle.hfs_volume.proofs.Apart.{used_is, stands_once, stands_twice}
 use Rattle.hfs_volume.proofs.Reaching.{flat_stands}
 use Rattle.hfs_volume.proofs.Untouched.{HasWholeBlocks, whole_blocks, special_stands}
 use Rattle.volume_repair.specs.Repair.{blocks_written}
+use Rattle.volume_repair.proofs.Distinct.{piece_times}
 
 -- an accepted header stands on a volume of some sectors
 passed : (b : Bool) (why : HeaderRefusal) (rest : Option HeaderRefusal) → (if not b then Some why else rest) ≡ None → b ≡ true
@@ -79,6 +80,17 @@ module _ (volume : VolumeState) (once : All (λ block. times block (used_in volu
 
   differs : (one other : Owned) → one.id ≢ other.id → one ≢ other
   differs one other differ same = differ (ap (λ (o : Owned). o.id) same)
+
+  -- each block of the two files stands once
+  fork_once : (owned : Owned) (block : ℕ) → Contains (special_forks volume.head) owned → Contains (blocks_written volume) block → times block (blocks_owned (overflow_in_volume volume) owned) ≤ 1
+  fork_once owned block stands written =
+      omega (arith, lone block written, counted block, piece_times (blocks_owned (overflow_in_volume volume)) (forks_of volume) owned block (special_stands volume owned stands))
+
+  pub map_once : (block : ℕ) → Contains maps block → times block maps ≤ 1
+  map_once block stands = fork_once map_fork block (2, omega arith, refl) (map_written block stands)
+
+  pub catalog_once : (block : ℕ) → Contains leaves block → times block leaves ≤ 1
+  catalog_once block stands = fork_once catalog_fork block (1, omega arith, refl) (catalog_written block stands)
 
   -- a block of the allocation file is in no other special file
   pub map_apart : (owned : Owned) (block : ℕ) → Contains (special_forks volume.head) owned → owned.id ≢ allocation_id → Contains (blocks_owned (overflow_in_volume volume) owned) block → Contains maps block → ⊥

@@ -1,13 +1,14 @@
 -- The sectors of the mended content: its header, and which sectors are as they were.
-use Rattle.std.proofs.Common.{◌≡◌, ◌≢◌, ◌<◌, ◌≤◌, ℕ, ◌+◌, ◌-◌, ◌*◌, ◌/◌, ◌==◌, ◌&&◌, true, false, List, [], ◌∷◌, length, refl, sym, ◌∙◌, ap, subst, arith, ⊎_elim, if◌then◌else◌}
-use Rattle.std.specs.Prelude.{Contains, Some, None}
-use Rattle.std.proofs.lemmas.Bool.{ne_eqb, cases_lt}
+use Rattle.std.proofs.Common.{◌≡◌, ◌≢◌, ◌<◌, ◌≤◌, ℕ, ◌+◌, ◌-◌, ◌*◌, ◌/◌, ◌==◌, ◌&&◌, Bool, true, false, List, [], ◌∷◌, length, refl, sym, ◌∙◌, ap, subst, arith, ⊎_elim, if◌then◌else◌}
+use Rattle.std.specs.Prelude.{Contains, Some, None, slice_get}
+use Rattle.std.proofs.lemmas.Bool.{eq-eqb, ne_eqb, cases_lt}
 use Rattle.std.proofs.lemmas.Bool.Decides.{eqb_tells}
 use Rattle.std.proofs.lemmas.List.{get_or_past}
 use Rattle.std.proofs.lemmas.List.FromFn.{length-map-range_with_len, get_or-map-range_with_len}
 use Rattle.std.proofs.Math.Nat.{le-div_iff_mul-le}
 use Rattle.jnl_format.specs.Recovery.{Content, sector, header_of_volume}
 use Rattle.fork_map.specs.Blocks.{sectors_of}
+use Rattle.alloc_bitmap.specs.Apart.{times}
 use Rattle.volume_header.specs.Refusal.{header_refusal}
 use Rattle.volume_header.specs.Header.{header_of}
 use Rattle.volume_header.specs.declared.header.VolumeHeader.{VolumeHeader}
@@ -17,10 +18,16 @@ use Rattle.hfs_volume.proofs.Members.{at_front, behind}
 use Rattle.hfs_volume.proofs.Sectors.{in_block}
 use Rattle.hfs_volume.proofs.Untouched.{special_stands}
 use Rattle.volume_repair.specs.Recount.{header_recounted}
-use Rattle.volume_repair.specs.Repair.{IsMendable, mended, sector_mended, header_mended, file_sector_mended, place_from, catalog_sectors, needs_copy}
-use Rattle.volume_repair.proofs.Alone.{many_sectors, kept_apart, map_apart, catalog_apart, whole, header_kept, alternate_kept}
+use Rattle.volume_repair.specs.Repair.{IsMendable, mended, sector_mended, header_mended, file_sector_mended, bitmap_mended, catalog_mended, place_from, catalog_sectors, needs_copy}
+use Rattle.volume_repair.proofs.Slices.{stands_there}
+use Rattle.volume_repair.proofs.Distinct.{place_there, sectors_once}
+use Rattle.volume_repair.proofs.Alone.{many_sectors, kept_apart, map_apart, map_once, catalog_apart, catalog_once, whole, header_kept, alternate_kept}
 use Rattle.volume_repair.proofs.Rereads.{relabelled, sectors_by, extents_stay, attributes_stay}
 use Rattle.volume_repair.proofs.Words.{low, counts_spell}
+
+and_false : (b : Bool) → (b && false) ≡ false
+and_false true = refl
+and_false false = refl
 
 -- ---- places
 
@@ -146,6 +153,58 @@ module _ (content : Content) (may : IsMendable content) where
       (λ in_catalog. catalog_apart was may.once owned (at / per) stands no_catalog (block_of owned at has) (catalog_block at in_catalog)))
       (λ (past : length content ≤ at). get_or_past (mended content) at [] (omega (arith, size_mended content, past)) ∙ sym (get_or_past content at [] past))
       (cases_lt at (length content))
+
+  -- a sector of the allocation file that lies in the volume, counted anew
+  pub map_is : (at k : ℕ) → at < length content → at < limit → slice_get (bitmap_sectors content) k ≡ Some at → sector (mended content) at ≡ bitmap_mended content at k
+  unfolding volume_of
+  map_is at k inside below found =
+      let has = stands_there (bitmap_sectors content) k at found in
+      let here = subst (λ o. Contains (sectors_by head o allocation_id head.allocation_fork) at) (sym overflow_is) has in
+      let once : times at (bitmap_sectors content) ≤ 1 = subst (λ o. times at (sectors_by head o allocation_id head.allocation_fork) ≤ 1) overflow_is
+      (omega (arith, sectors_once per (blocks_owned (overflow_in_volume was) map_fork) at some, map_once was may.once (at / per) (map_block at has))) in
+      sector_of_mended content at inside
+      ∙ mended_file content at (special_not_two map_fork (2, omega arith, refl) at here) (no_alternate content at (special_not_alternate map_fork (2, omega arith, refl) at here below))
+      ∙ ap (λ o. file_sector_mended content at o (place_from 0 (catalog_sectors content) at)) (place_there 0 (bitmap_sectors content) k at found once)
+      ∙ ap (bitmap_mended content at) (let same : 0 + k ≡ k = omega arith in same)
+
+  -- the same for a sector of the catalog file
+  pub catalog_is : (at k : ℕ) → at < length content → at < limit → slice_get (catalog_sectors content) k ≡ Some at → sector (mended content) at ≡ catalog_mended content at k
+  unfolding volume_of
+  catalog_is at k inside below found =
+      let has = stands_there (catalog_sectors content) k at found in
+      let here = subst (λ o. Contains (sectors_by head o catalog_id head.catalog_fork) at) (sym overflow_is) has in
+      let once : times at (catalog_sectors content) ≤ 1 = subst (λ o. times at (sectors_by head o catalog_id head.catalog_fork) ≤ 1) overflow_is
+      (omega (arith, sectors_once per (blocks_owned (overflow_in_volume was) catalog_fork) at some, catalog_once was may.once (at / per) (catalog_block at has))) in
+      sector_of_mended content at inside
+      ∙ mended_file content at (special_not_two catalog_fork (1, omega arith, refl) at here) (no_alternate content at (special_not_alternate catalog_fork (1, omega arith, refl) at here below))
+      ∙ ap (λ o. file_sector_mended content at o (place_from 0 (catalog_sectors content) at))
+      (place_none 0 (bitmap_sectors content) at (λ in_map. map_apart was may.once catalog_fork (at / per) (1, omega arith, refl) (omega arith) (catalog_block at has) (map_block at in_map)))
+      ∙ ap (file_sector_mended content at None) (place_there 0 (catalog_sectors content) k at found once)
+      ∙ ap (catalog_mended content at) (let same : 0 + k ≡ k = omega arith in same)
+
+  -- the alternate header's sector is in neither file, where both lie in the volume
+  pub alternate_plain : ((at : ℕ) → Contains (bitmap_sectors content) at → at < limit) → ((at : ℕ) → Contains (catalog_sectors content) at → at < limit) → needs_copy content ≡ false
+      → sector (mended content) (length content - 2) ≡ sector content (length content - 2)
+  unfolding volume_of
+  alternate_plain map_inside catalog_inside none =
+      let last : ℕ = length content - 2 in
+      sector_of_mended content last (omega (arith, some_sectors))
+      ∙ mended_file content last (λ two. absurd (omega (arith, two, some_sectors))) (ap (λ b. (last == last) && b) none ∙ and_false (last == last))
+      ∙ ap (λ o. file_sector_mended content last o (place_from 0 (catalog_sectors content) last))
+      (place_none 0 (bitmap_sectors content) last (λ has. special_not_alternate map_fork (2, omega arith, refl) last (subst (λ o. Contains (sectors_by head o allocation_id head.allocation_fork) last) (sym overflow_is) has) (map_inside last has) refl))
+      ∙ ap (λ o. file_sector_mended content last None o)
+      (place_none 0 (catalog_sectors content) last (λ has. special_not_alternate catalog_fork (1, omega arith, refl) last (subst (λ o. Contains (sectors_by head o catalog_id head.catalog_fork) last) (sym overflow_is) has) (catalog_inside last has) refl))
+
+  -- or it is a copy of the mended header
+  pub alternate_copied : needs_copy content ≡ true → sector (mended content) (length content - 2) ≡ header_mended content
+  unfolding sector_mended
+  alternate_copied copy =
+      let last : ℕ = length content - 2 in
+      let file : List ℕ = file_sector_mended content last (place_from 0 (bitmap_sectors content) last) (place_from 0 (catalog_sectors content) last) in
+      sector_of_mended content last (omega (arith, some_sectors))
+      ∙ ap (λ b. if b then header_mended content else if (last == last) && needs_copy content then header_mended content else file) (ne_eqb last 2 (λ two. omega (arith, two, some_sectors)))
+      ∙ ap (λ b. if b && needs_copy content then header_mended content else file) (eq-eqb last last refl)
+      ∙ ap (λ b. if b then header_mended content else file) copy
 
   -- ---- the header
 
