@@ -24,7 +24,7 @@ use Rattle.volume_repair.proofs.Rereads.{sectors_by}
 
 -- ---- the blocks of an accepted header
 
-passed : (b : Bool) (why : HeaderRefusal) (rest : Option HeaderRefusal) → (if not b then Some why else rest) ≡ None → (b ≡ true) × (rest ≡ None)
+pub passed : (b : Bool) (why : HeaderRefusal) (rest : Option HeaderRefusal) → (if not b then Some why else rest) ≡ None → (b ≡ true) × (rest ≡ None)
 passed true why rest is = (refl, is)
 passed false why rest is = absurd (cc)
 

@@ -22,3 +22,4 @@ pub mod CatalogMending
 pub mod CatalogPairs
 pub mod BitsMending
 pub mod NodeBytes
+pub mod Keeping

@@ -14,6 +14,7 @@ use Rattle.volume_header.specs.Header.{header_of}
 use Rattle.volume_header.specs.declared.header.VolumeHeader.{VolumeHeader}
 use Rattle.hfs_volume.specs.Forks.{Owned, per_block_of, data_kind, extents_of, fork_blocks, blocks_owned, special_forks, reserved_blocks, extents_id, catalog_id, allocation_id, attributes_id}
 use Rattle.hfs_volume.specs.Content.{VolumeState, volume_of, overflow_in_volume, overflow_of_content, bitmap_sectors, attributes_file, extents_file}
+use Rattle.hfs_volume.specs.Blocks.{forks_of}
 use Rattle.hfs_volume.proofs.Members.{at_front, behind}
 use Rattle.hfs_volume.proofs.Sectors.{in_block}
 use Rattle.hfs_volume.proofs.Untouched.{special_stands}
@@ -130,29 +131,39 @@ module _ (content : Content) (may : IsMendable content) where
   unfolding volume_of
   catalog_block at has = block_of catalog_fork at (subst (λ o. Contains (sectors_by head o catalog_id head.catalog_fork) at) (sym overflow_is) has)
 
-  -- a block that is kept back is in no special file
-  special_not_kept : (owned : Owned) → Contains (special_forks was.head) owned → (at : ℕ) → Contains (sectors_of per (blocks_owned (overflow_in_volume was) owned)) at → Contains (reserved_blocks (length content) head) (at / per) → ⊥
-  special_not_kept owned stands at has kept = kept_apart was may.once owned (at / per) (special_stands was owned stands) (block_of owned at has) (subst (λ l. Contains l (at / per)) (sym kept_is) kept)
+  -- a block that is kept back is in no file
+  fork_not_kept : (owned : Owned) → Contains (forks_of was) owned → (at : ℕ) → Contains (sectors_of per (blocks_owned (overflow_in_volume was) owned)) at → Contains (reserved_blocks (length content) head) (at / per) → ⊥
+  fork_not_kept owned stands at has kept = kept_apart was may.once owned (at / per) stands (block_of owned at has) (subst (λ l. Contains l (at / per)) (sym kept_is) kept)
 
   -- so the header is in none
-  pub special_not_two : (owned : Owned) → Contains (special_forks was.head) owned → (at : ℕ) → Contains (sectors_of per (blocks_owned (overflow_in_volume was) owned)) at → at ≢ 2
-  special_not_two owned stands at has two =
-      special_not_kept owned stands at has (subst (λ n. Contains (reserved_blocks (length content) head) (n / per)) (sym two) (header_kept (length content) head accepted))
+  fork_not_two : (owned : Owned) → Contains (forks_of was) owned → (at : ℕ) → Contains (sectors_of per (blocks_owned (overflow_in_volume was) owned)) at → at ≢ 2
+  fork_not_two owned stands at has two =
+      fork_not_kept owned stands at has (subst (λ n. Contains (reserved_blocks (length content) head) (n / per)) (sym two) (header_kept (length content) head accepted))
 
   -- nor is the alternate header in one that lies in the volume
-  pub special_not_alternate : (owned : Owned) → Contains (special_forks was.head) owned → (at : ℕ) → Contains (sectors_of per (blocks_owned (overflow_in_volume was) owned)) at → at < limit → at ≢ length content - 2
-  special_not_alternate owned stands at has below same =
-      special_not_kept owned stands at has (subst (λ n. Contains (reserved_blocks (length content) head) (n / per)) (sym same) (alternate_kept (length content) head accepted (block_inside (length content - 2) (omega (arith, below, same)))))
+  fork_not_alternate : (owned : Owned) → Contains (forks_of was) owned → (at : ℕ) → Contains (sectors_of per (blocks_owned (overflow_in_volume was) owned)) at → at < limit → at ≢ length content - 2
+  fork_not_alternate owned stands at has below same =
+      fork_not_kept owned stands at has (subst (λ n. Contains (reserved_blocks (length content) head) (n / per)) (sym same) (alternate_kept (length content) head accepted (block_inside (length content - 2) (omega (arith, below, same)))))
 
-  -- a sector of a special file other than those two is as it was
-  pub special_stays : (owned : Owned) → Contains (special_forks was.head) owned → owned.id ≢ allocation_id → owned.id ≢ catalog_id
+  pub special_not_two : (owned : Owned) → Contains (special_forks was.head) owned → (at : ℕ) → Contains (sectors_of per (blocks_owned (overflow_in_volume was) owned)) at → at ≢ 2
+  special_not_two owned stands at has = fork_not_two owned (special_stands was owned stands) at has
+
+  pub special_not_alternate : (owned : Owned) → Contains (special_forks was.head) owned → (at : ℕ) → Contains (sectors_of per (blocks_owned (overflow_in_volume was) owned)) at → at < limit → at ≢ length content - 2
+  special_not_alternate owned stands at has below = fork_not_alternate owned (special_stands was owned stands) at has below
+
+  -- a sector of a file other than the two is as it was
+  pub fork_stays : (owned : Owned) → Contains (forks_of was) owned → owned.id ≢ allocation_id → owned.id ≢ catalog_id
       → (at : ℕ) → Contains (sectors_of per (blocks_owned (overflow_in_volume was) owned)) at → at < limit → sector (mended content) at ≡ sector content at
-  special_stays owned stands no_map no_catalog at has below = ⊎_elim
-      (λ (inside : at < length content). sector_of_mended content at inside ∙ mended_else content at (special_not_two owned stands at has) (special_not_alternate owned stands at has below)
+  fork_stays owned stands no_map no_catalog at has below = ⊎_elim
+      (λ (inside : at < length content). sector_of_mended content at inside ∙ mended_else content at (fork_not_two owned stands at has) (fork_not_alternate owned stands at has below)
       (λ in_map. map_apart was may.once owned (at / per) stands no_map (block_of owned at has) (map_block at in_map))
       (λ in_catalog. catalog_apart was may.once owned (at / per) stands no_catalog (block_of owned at has) (catalog_block at in_catalog)))
       (λ (past : length content ≤ at). get_or_past (mended content) at [] (omega (arith, size_mended content, past)) ∙ sym (get_or_past content at [] past))
       (cases_lt at (length content))
+
+  special_stays : (owned : Owned) → Contains (special_forks was.head) owned → owned.id ≢ allocation_id → owned.id ≢ catalog_id
+      → (at : ℕ) → Contains (sectors_of per (blocks_owned (overflow_in_volume was) owned)) at → at < limit → sector (mended content) at ≡ sector content at
+  special_stays owned stands no_map no_catalog at has below = fork_stays owned (special_stands was owned stands) no_map no_catalog at has below
 
   -- a sector of the allocation file that lies in the volume, counted anew
   pub map_is : (at k : ℕ) → at < length content → at < limit → slice_get (bitmap_sectors content) k ≡ Some at → sector (mended content) at ≡ bitmap_mended content at k
@@ -178,7 +189,7 @@ module _ (content : Content) (may : IsMendable content) where
       sector_of_mended content at inside
       ∙ mended_file content at (special_not_two catalog_fork (1, omega arith, refl) at here) (no_alternate content at (special_not_alternate catalog_fork (1, omega arith, refl) at here below))
       ∙ ap (λ o. file_sector_mended content at o (place_from 0 (catalog_sectors content) at))
-      (place_none 0 (bitmap_sectors content) at (λ in_map. map_apart was may.once catalog_fork (at / per) (1, omega arith, refl) (omega arith) (catalog_block at has) (map_block at in_map)))
+      (place_none 0 (bitmap_sectors content) at (λ in_map. map_apart was may.once catalog_fork (at / per) (special_stands was catalog_fork (1, omega arith, refl)) (omega arith) (catalog_block at has) (map_block at in_map)))
       ∙ ap (file_sector_mended content at None) (place_there 0 (catalog_sectors content) k at found once)
       ∙ ap (catalog_mended content at) (let same : 0 + k ≡ k = omega arith in same)
 

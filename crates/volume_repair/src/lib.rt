@@ -12,4 +12,4 @@ pub use laws_repair::{
     bytes_are_bits, leaf_stays, repair_is_one, repair_keeps_size, sound_is_mendable,
     sound_is_own_repair, sound_keeps_header,
 };
-pub use laws_whole::repair_counts;
+pub use laws_whole::{repair_counts, repair_keeps_forks, repair_keeps_trees};
