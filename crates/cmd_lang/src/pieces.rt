@@ -18,6 +18,8 @@ pub(crate) fn push_pieces(text: &mut Vec<u8>, value: &[u8]) -> Result<(), AllocE
     if value.len() < PIECE {
         return push_each(text, value);
     }
+    // No byte has more than three in its text.
+    text.reserve(value.len().saturating_mul(3))?;
     let table = spellings();
     let mut room = [0; 3 * PIECE + 1];
     let mut rest = value;
