@@ -1,7 +1,7 @@
 use Rattle.std.proofs.Common.{◌≡◌, ◌≤◌, ◌*◌, length, take}
 use Rattle.std.specs.List.{flat_map}
 use Rattle.hfs_language.specs.Text as spec
-use Rattle.cmd_lang.proofs.pieces.spell.Given as goal
+use Rattle.cmd_lang.proofs.spellings.spell.Given as goal
 
 abbrev pub invariant-loop-byte : goal.invariant-loop-byte
 invariant-loop-byte l = record {
