@@ -1,7 +1,6 @@
 //! Paths between the user's spelling and that of a line: a name is shown in composed form wherever that is read back as the same name.
 
-use files_talk::{NameLack, child_of, name_of, word_of};
-use name_text::{NameFault, print_component, read_component};
+use files_talk::{NameLack, child_of, component_word, name_of, word_of};
 use std::alloc::{AllocError, Global};
 
 /// The path of a line for one that a user gives: `/`, or a slash before each name, which is spelled as in a line and may have spaces. A
@@ -25,19 +24,6 @@ pub fn path_word(alloc: Global, text: &str) -> Result<Result<String, NameLack>, 
         }
     }
     Ok(Ok(path))
-}
-
-// The word of a name that is spelled as in a line.
-fn component_word(alloc: Global, name: &str) -> Result<Result<String, NameLack>, AllocError> {
-    match read_component(alloc, name) {
-        Ok(units) => match print_component(alloc, &units) {
-            Ok(word) => Ok(Ok(word)),
-            Err(_) => Err(AllocError),
-        },
-        Err(NameFault::NameTooLong) => Ok(Err(NameLack::TooLong)),
-        Err(NameFault::Memory) => Err(AllocError),
-        Err(NameFault::BadName) => Ok(Err(NameLack::Unspelled)),
-    }
 }
 
 /// A path of a line as a user may give it back: composed, with spaces, wherever that names the same.

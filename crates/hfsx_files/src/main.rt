@@ -63,7 +63,7 @@ fn refuse(rt: &HostRuntime, why: &str) -> u8 {
 // Does what a call asks for.
 fn work(rt: &HostRuntime, call: Call) -> Result<u8, AllocError> {
     match call.verb {
-        Verb::Help => Ok(tell(rt, texts::HELP)),
+        Verb::Help => Ok(help(rt)),
         Verb::Version => Ok(tell(rt, texts::VERSION)),
         Verb::Put => match read_options(rt, &call)? {
             Ok(options) => put::put(rt, &call, &options),
@@ -73,6 +73,15 @@ fn work(rt: &HostRuntime, call: Call) -> Result<u8, AllocError> {
         Verb::Explain => explain(rt, call.image(), call.json),
         Verb::Get | Verb::List | Verb::Cat | Verb::Stat => out::take_out(rt, &call),
     }
+}
+
+// Tells how the program is called, and what it does.
+fn help(rt: &HostRuntime) -> u8 {
+    let status = tell(rt, texts::USAGE);
+    if status != 0 {
+        return status;
+    }
+    tell(rt, texts::HELP)
 }
 
 // Tells a text on standard output.
