@@ -69,14 +69,9 @@ pub fn component_word(alloc: Global, name: &str) -> Result<Result<String, NameLa
     }
 }
 
-/// The name of the file that a word spells, in NFC. It never leads out of the folder in which it stands.
-pub fn name_of(alloc: Global, word: &str) -> Result<Result<String, NameLack>, AllocError> {
-    let units = match read_component(alloc, word) {
-        Ok(units) => units,
-        Err(NameFault::Memory) => return Err(AllocError),
-        Err(_) => return Ok(Err(NameLack::Unspelled)),
-    };
-    let text = match String::from_utf16(alloc, units.as_slice())? {
+/// The name of the file that a name of the volume stands for, in NFC. It never leads out of the folder in which it stands.
+pub fn name_of(alloc: Global, units: &[u16]) -> Result<Result<String, NameLack>, AllocError> {
+    let text = match String::from_utf16(alloc, units)? {
         Ok(text) => text,
         Err(_) => return Ok(Err(NameLack::NoText)),
     };
@@ -97,6 +92,9 @@ fn leads_elsewhere(name: &str) -> bool {
 
 // The same text in NFC.
 fn composed(alloc: Global, text: &str) -> Result<String, AllocError> {
+    if text.is_ascii() {
+        return String::from_str(alloc, text);
+    }
     let characters: Vec<char> = text.chars().collect(alloc)?;
     let mut composed = Vec::new(alloc);
     extend_nfc(&mut composed, characters.as_slice())?;

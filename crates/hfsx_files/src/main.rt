@@ -1,7 +1,7 @@
 //! The program `hfsx-files`: files of the system are put into a volume, and a volume's files are taken out, listed and told.
 //!
-//! It stands on the top call of the volume's server: what it asks are lines, and what it hears are replies. So whatever it does, a volume
-//! keeps what the server promises.
+//! It stands on the calls of the volume's server: what changes a volume goes through its top call, as lines, so a volume keeps what the server
+//! promises; and what is taken out is asked of its look, which writes nothing.
 #![tactic(auto)]
 
 mod call;
@@ -11,7 +11,6 @@ mod options;
 mod out;
 mod put;
 mod serving;
-mod site;
 mod status;
 mod texts;
 mod words;
