@@ -1,1 +1,4 @@
+pub mod Faults
+pub mod Fits
 pub mod Talks
+pub mod Whole

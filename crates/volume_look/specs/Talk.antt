@@ -1,5 +1,5 @@
 -- Commands that are asked of a look, and the replies that are heard.
-use Rattle.std.specs.Prelude.{◌≡◌, ◌⊎◌, ◌×◌, ◌&&◌, ◌==◌, ◌++◌, ◌∷◌, [], nat_le, ℕ, Bool, true, not, List, map, length, Option, Some, None, is_some, option_to_list, Result, Ok, Err, if◌then◌else◌}
+use Rattle.std.specs.Prelude.{◌≡◌, ◌&&◌, ◌==◌, ◌++◌, ◌∷◌, [], nat_le, ℕ, Bool, true, false, not, List, map, length, Option, is_some, option_to_list, Result, Ok, Err, if◌then◌else◌}
 use Rattle.std.specs.List.{AllByRecursion, list_all}
 use Rattle.jnl_format.specs.Recovery.{Content}
 use Rattle.hfs_language.specs.declared.command.Command.{Command}
@@ -19,29 +19,20 @@ is_name most name = not (length name == 0) && nat_le (length name) most
 abbrev pub are_names : List (List ℕ) → Bool
 are_names path = list_all (is_name 255) path
 
--- nothing, where what a command needs of its names holds
-abbrev pub unless : Bool → Option Refusal
-unless spelled = if spelled then None else Some refusal.BadName
+-- a look answers a command: it only reads, and each of its names has a unit and not too many
+abbrev pub allows : Command → Bool
+allows (command.Read path from long) = are_names path
+allows (command.Ls path) = are_names path
+allows (command.Stat path) = are_names path
+allows (command.LsAttr path) = are_names path
+allows (command.GetAttr path name) = are_names path && is_name 127 name
+allows command.Df = true
+allows command.Sync = true
+allows _ = false
 
--- why a look refuses a command: it may change the volume, or a name has no unit or too many
-abbrev pub refusal_of : Command → Option Refusal
-refusal_of (command.Read path from long) = unless (are_names path)
-refusal_of (command.Ls path) = unless (are_names path)
-refusal_of (command.Stat path) = unless (are_names path)
-refusal_of (command.LsAttr path) = unless (are_names path)
-refusal_of (command.GetAttr path name) = unless (are_names path && is_name 127 name)
-refusal_of command.Df = None
-refusal_of command.Sync = None
-refusal_of _ = Some refusal.BadCommand
-
--- the command, unless it is refused
-abbrev pub or_refused : Option Refusal → Command → Result Command Refusal
-or_refused None asked = Ok asked
-or_refused (Some why) asked = Err why
-
--- what a look takes a command for: the command, or why it is refused
+-- what a look takes a command for: the command, or a refusal
 abbrev pub taken : Command → Result Command Refusal
-taken asked = or_refused (refusal_of asked) asked
+taken asked = if allows asked then Ok asked else Err refusal.BadCommand
 
 -- ---- talks
 
@@ -65,8 +56,8 @@ pub record Asks (old new : Talk) (found : Option Command) : Type 0 where
   pub ended : new.ended ≡ not (is_some found)
 
 -- A reply was heard.
-pub record Hears (old : Talk) (asked : Command) (said : Reply) (new : Talk) : Type 0 where
-  pub heard : new.heard ≡ old.heard ++ record { command = asked; reply = said } ∷ []
+pub record Hears (old : Talk) (it : Command) (said : Reply) (new : Talk) : Type 0 where
+  pub heard : new.heard ≡ old.heard ++ record { command = it; reply = said } ∷ []
   pub asked : new.asked ≡ old.asked
 
 -- the reply is that of the plain tree's step on the tree that the content tells, or the volume's gauge, or the refusal

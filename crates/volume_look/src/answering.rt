@@ -1,12 +1,13 @@
 //! Commands are answered by a volume in service, which is only read.
 ghost use Rattle.std.specs.Prelude.{◌≡◌, IsTrue, IsFalse, IfOk, OnOk};
-ghost use Rattle.btree_edit.specs.Causes.{HasTroubleCause};
+ghost use Rattle.hx_bytes.specs.declared.faults.Trouble.TheVariants as trouble;
+ghost use Rattle.line_source.specs.Cause.{IsCause};
 ghost use Rattle.volume_base.specs.Room.{capacity_of};
 ghost use Rattle.volume_base.specs.Standing.{IsSettled, StandsOver};
 ghost use Rattle.volume_runs.specs.Run.{reply_to};
 ghost use Rattle.volume_look.specs.Talk.{Ends, HearsEach, HearsRight, taken};
 
-use crate::allowing::refusal_of;
+use crate::allowing::{allows, look_at_command};
 use crate::asker::Asker;
 use hfs_language::{Command, Refusal, Reply};
 use hx_bytes::Trouble;
@@ -26,7 +27,7 @@ pub(crate) fn answer_all<P: SectorSpace, A: Asker>(
     ensures right { IsTrue (P.SectorView.space space.old).tells → IsTrue (A.state asker.old).tells → HearsRight (capacity_of volume.old) (P.SectorView.space space.old).content (A.state asker.old) (A.state asker.new) }
     ensures ends { IsTrue (A.state asker.old).tells → OnOk result (Ends (A.state asker.old) (A.state asker.new)) }
     ensures below { P.SectorView.follows space.old space.new }
-    ensures cause { HasTroubleCause (P.SectorView.space space.old).faults (P.SectorView.space space.new).faults result }
+    ensures cause { IsCause trouble.Disk (P.SectorView.space space.old).faults (P.SectorView.space space.new).faults result }
 {
     for _ in 0..u64::MAX {
         if !answer_next(alloc, volume, space, asker)? {
@@ -55,7 +56,7 @@ fn answer_next<P: SectorSpace, A: Asker>(
     ensures settled { IsTrue (P.SectorView.space space.old).tells → IsSettled volume.new (P.SectorView.space space.new).content }
     ensures capacity { capacity_of volume.new ≡ capacity_of volume.old }
     ensures below { P.SectorView.follows space.old space.new }
-    ensures cause { HasTroubleCause (P.SectorView.space space.old).faults (P.SectorView.space space.new).faults result }
+    ensures cause { IsCause trouble.Disk (P.SectorView.space space.old).faults (P.SectorView.space space.new).faults result }
 {
     match asker.ask() {
         Ok(Some(command)) => {
@@ -86,11 +87,12 @@ fn answer<P: SectorSpace>(
     ensures settled { IsTrue (P.SectorView.space space.old).tells → IsSettled volume.new (P.SectorView.space space.new).content }
     ensures capacity { capacity_of volume.new ≡ capacity_of volume.old }
     ensures below { P.SectorView.follows space.old space.new }
-    ensures cause { HasTroubleCause (P.SectorView.space space.old).faults (P.SectorView.space space.new).faults result }
+    ensures cause { IsCause trouble.Disk (P.SectorView.space space.old).faults (P.SectorView.space space.new).faults result }
 {
-    if let Some(why) = refusal_of(command) {
-        return Ok(Reply::No(why));
+    if !allows(command) {
+        return Ok(Reply::No(Refusal::BadCommand));
     }
+    look_at_command(command);
     match volume.tell(alloc, space, command)? {
         Some(reply) => Ok(reply),
         None => Ok(Reply::No(Refusal::BadCommand)),

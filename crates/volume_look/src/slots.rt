@@ -1,7 +1,7 @@
 //! Sectors that were read, kept in memory.
-ghost use Rattle.std.specs.Prelude.{◌≡◌, IfSome};
+ghost use Rattle.std.specs.Prelude.{◌≡◌, IfOk, IfSome};
 ghost use Rattle.sector_disk.specs.Lists.{Content, sector};
-ghost use Rattle.volume_look.specs.Slots.{AreCopies};
+ghost use Rattle.volume_look.specs.Slots.{AreCopies, IsCopy};
 
 use hx_bytes::{OutOfMemory, Sector};
 use std::alloc::Global;
