@@ -11,8 +11,8 @@ units_from [] each = tt
 units_from (u ∷ units) each = (each 0 (omega arith), units_from units (λ k low. each (suc k) (omega (arith, low))))
 
 some_of : (n : ℕ) → IsTrue (not (n == 0)) → 0 < n
-some_of zero no = absurd (cc no)
-some_of (suc n) yes = omega arith
+some_of zero never = absurd (cc never)
+some_of (suc n) some = omega arith
 
 -- a name that has its length, and whose units are numbers of sixteen bits
 pub name_from : (most : ℕ) (name : List ℕ) → IsTrue (is_name most name) → AreUnits name → IsName most name

@@ -1,12 +1,15 @@
 -- Talks that go on.
-use Rattle.std.proofs.Common.{◌≡◌, ◌++◌, ◌⊎◌, ℕ, List, [], ◌∷◌, map, true, refl, sym, ◌∙◌, ap, ⊎_elim}
-use Rattle.std.specs.Prelude.{Option, Some, None}
+use Rattle.std.proofs.Common.{◌≡◌, ◌++◌, ◌⊎◌, ℕ, List, [], ◌∷◌, map, refl, sym, ◌∙◌, ap, ⊎_elim}
+use Rattle.std.specs.Prelude.{Bool, IsTrue, Result, Ok, Err, if◌then◌else◌}
 use Rattle.std.specs.List.{AllByRecursion}
 use Rattle.std.proofs.lemmas.List.{append-nil, append_assoc, map-append}
 use Rattle.jnl_format.specs.Recovery.{Content}
 use Rattle.hfs_language.specs.declared.command.Command.{Command}
 use Rattle.hfs_language.specs.declared.reply.Reply.{Reply}
-use Rattle.volume_look.specs.Talk.{Asks, Ends, Heard, Hears, HearsEach, HearsRight, IsRight, Talk}
+use Rattle.hfs_language.specs.declared.refusal.Refusal.{Refusal}
+use Rattle.hfs_language.specs.declared.refusal.Refusal.TheVariants as refusal
+use Rattle.volume_runs.specs.Run.{reply_to}
+use Rattle.volume_look.specs.Talk.{Heard, Hears, HearsEach, HearsRight, IsRight, Talk, allows, taken}
 
 all_append : {X : Type 0} (P : X → Type 0) (xs ys : List X) → AllByRecursion P xs → AllByRecursion P ys → AllByRecursion P (xs ++ ys)
 all_append P [] ys none all = all
@@ -31,7 +34,7 @@ right_both capacity content a b c first second = record {
 
 -- ---- each command that was asked
 
-command_of : Heard → Command
+abbrev command_of : Heard → Command
 command_of it = it.command
 
 pub each_none : (old new : Talk) → new.heard ≡ old.heard → new.asked ≡ old.asked ++ [] → HearsEach old new
@@ -54,3 +57,17 @@ each_both a b c first second = record {
       ∙ append_assoc a.asked (map command_of first.list) (map command_of second.list)
       ∙ ap (λ (l : List Command). a.asked ++ l) (sym (map-append command_of first.list second.list));
 }
+
+-- ---- one command
+
+-- a reply was heard where it could be kept
+pub right_unsure : (capacity : ℕ) (content : Content) (old mid new : Talk) (it : Command) (said : Reply) → mid.heard ≡ old.heard → said ≡ reply_to capacity content (taken it) → Hears mid it said new ⊎ (new.heard ≡ mid.heard) → HearsRight capacity content old new
+right_unsure capacity content old mid new it said same right heard =
+    ⊎_elim
+    (λ (hears : Hears mid it said new).
+    right_one capacity content old new (record { command = it; reply = said }) (hears.heard ∙ ap (λ (l : List Heard). l ++ record { command = it; reply = said } ∷ []) same) right)
+    (λ (kept : new.heard ≡ mid.heard). right_none capacity content old new (kept ∙ same)) heard
+
+-- a look takes a command for itself where it answers it
+pub taken_is : (asked : Command) → IsTrue (allows asked) → taken asked ≡ Ok asked
+taken_is asked is = ap (λ (b : Bool). if b then Ok asked else Err refusal.BadCommand) is

@@ -52,7 +52,11 @@ pub(crate) fn look_at_command(command: &Command)
     ensures reads { IsTrue (spec.allows command.now) → only_reads command.now ≡ true }
 {
     match command {
-        Command::Read { path, from, length } => look_at_path(path.as_slice()),
+        Command::Read { path, from, length } => {
+            let _from = *from;
+            let _length = *length;
+            look_at_path(path.as_slice());
+        }
         Command::Ls(path) => look_at_path(path.as_slice()),
         Command::Stat(path) => look_at_path(path.as_slice()),
         Command::LsAttr(path) => look_at_path(path.as_slice()),

@@ -1,11 +1,10 @@
 //! Commands are answered by a volume in service, which is only read.
-ghost use Rattle.std.specs.Prelude.{◌≡◌, IsTrue, IsFalse, IfOk, OnOk};
-ghost use Rattle.hx_bytes.specs.declared.faults.Trouble.TheVariants as trouble;
-ghost use Rattle.line_source.specs.Cause.{IsCause};
+ghost use Rattle.std.specs.Prelude.{◌≡◌, not, IsTrue, IfOk, OnOk};
+ghost use Rattle.btree_edit.specs.Causes.{HasTroubleCause};
 ghost use Rattle.volume_base.specs.Room.{capacity_of};
 ghost use Rattle.volume_base.specs.Standing.{IsSettled, StandsOver};
 ghost use Rattle.volume_runs.specs.Run.{reply_to};
-ghost use Rattle.volume_look.specs.Talk.{Ends, HearsEach, HearsRight, taken};
+ghost use Rattle.volume_look.specs.Talk.{Ends, HearsEach, HearsRight, allows, taken};
 
 use crate::allowing::{allows, look_at_command};
 use crate::asker::Asker;
@@ -27,7 +26,7 @@ pub(crate) fn answer_all<P: SectorSpace, A: Asker>(
     ensures right { IsTrue (P.SectorView.space space.old).tells → IsTrue (A.state asker.old).tells → HearsRight (capacity_of volume.old) (P.SectorView.space space.old).content (A.state asker.old) (A.state asker.new) }
     ensures ends { IsTrue (A.state asker.old).tells → OnOk result (Ends (A.state asker.old) (A.state asker.new)) }
     ensures below { P.SectorView.follows space.old space.new }
-    ensures cause { IsCause trouble.Disk (P.SectorView.space space.old).faults (P.SectorView.space space.new).faults result }
+    ensures cause { HasTroubleCause (P.SectorView.space space.old).faults (P.SectorView.space space.new).faults result }
 {
     for _ in 0..u64::MAX {
         if !answer_next(alloc, volume, space, asker)? {
@@ -48,7 +47,7 @@ fn answer_next<P: SectorSpace, A: Asker>(
     requires settled { IsTrue (P.SectorView.space space.old).tells → IsSettled volume.old (P.SectorView.space space.old).content }
     ensures right { IsTrue (P.SectorView.space space.old).tells → IsTrue (A.state asker.old).tells → HearsRight (capacity_of volume.old) (P.SectorView.space space.old).content (A.state asker.old) (A.state asker.new) }
     ensures each { IsTrue (A.state asker.old).tells → OnOk result (HearsEach (A.state asker.old) (A.state asker.new)) }
-    ensures ended { IsTrue (A.state asker.old).tells → IfOk result (λ asked. IsFalse asked → IsTrue (A.state asker.new).ended) }
+    ensures ended { IsTrue (A.state asker.old).tells → IfOk result (λ asked. IsTrue (not asked) → IsTrue (A.state asker.new).ended) }
     ensures told { (A.state asker.new).tells ≡ (A.state asker.old).tells }
     ensures content { IsTrue (P.SectorView.space space.old).tells → (P.SectorView.space space.new).content ≡ (P.SectorView.space space.old).content }
     ensures tells { (P.SectorView.space space.new).tells ≡ (P.SectorView.space space.old).tells }
@@ -56,7 +55,7 @@ fn answer_next<P: SectorSpace, A: Asker>(
     ensures settled { IsTrue (P.SectorView.space space.old).tells → IsSettled volume.new (P.SectorView.space space.new).content }
     ensures capacity { capacity_of volume.new ≡ capacity_of volume.old }
     ensures below { P.SectorView.follows space.old space.new }
-    ensures cause { IsCause trouble.Disk (P.SectorView.space space.old).faults (P.SectorView.space space.new).faults result }
+    ensures cause { HasTroubleCause (P.SectorView.space space.old).faults (P.SectorView.space space.new).faults result }
 {
     match asker.ask() {
         Ok(Some(command)) => {
@@ -87,11 +86,33 @@ fn answer<P: SectorSpace>(
     ensures settled { IsTrue (P.SectorView.space space.old).tells → IsSettled volume.new (P.SectorView.space space.new).content }
     ensures capacity { capacity_of volume.new ≡ capacity_of volume.old }
     ensures below { P.SectorView.follows space.old space.new }
-    ensures cause { IsCause trouble.Disk (P.SectorView.space space.old).faults (P.SectorView.space space.new).faults result }
+    ensures cause { HasTroubleCause (P.SectorView.space space.old).faults (P.SectorView.space space.new).faults result }
 {
-    if !allows(command) {
-        return Ok(Reply::No(Refusal::BadCommand));
+    if allows(command) {
+        return answer_allowed(alloc, volume, space, command);
     }
+    Ok(Reply::No(Refusal::BadCommand))
+}
+
+// The reply to a command that is allowed.
+fn answer_allowed<P: SectorSpace>(
+    alloc: Global,
+    volume: &mut Volume,
+    space: &mut P,
+    command: &Command,
+) -> Result<Reply, Trouble>
+    requires stands { StandsOver volume.old (P.SectorView.space space.old) }
+    requires settled { IsTrue (P.SectorView.space space.old).tells → IsSettled volume.old (P.SectorView.space space.old).content }
+    requires allowed { IsTrue (allows command.now) }
+    ensures reply { IsTrue (P.SectorView.space space.old).tells → IfOk result (λ reply. reply ≡ reply_to (capacity_of volume.old) (P.SectorView.space space.old).content (taken command.now)) }
+    ensures content { IsTrue (P.SectorView.space space.old).tells → (P.SectorView.space space.new).content ≡ (P.SectorView.space space.old).content }
+    ensures tells { (P.SectorView.space space.new).tells ≡ (P.SectorView.space space.old).tells }
+    ensures stands { StandsOver volume.new (P.SectorView.space space.new) }
+    ensures settled { IsTrue (P.SectorView.space space.old).tells → IsSettled volume.new (P.SectorView.space space.new).content }
+    ensures capacity { capacity_of volume.new ≡ capacity_of volume.old }
+    ensures below { P.SectorView.follows space.old space.new }
+    ensures cause { HasTroubleCause (P.SectorView.space space.old).faults (P.SectorView.space space.new).faults result }
+{
     look_at_command(command);
     match volume.tell(alloc, space, command)? {
         Some(reply) => Ok(reply),

@@ -3,6 +3,7 @@ ghost use Rattle.std.specs.Prelude.{◌≡◌, IsTrue, IfOk, IfErr, OnOk};
 ghost use Rattle.hx_bytes.specs.declared.faults.Trouble.TheVariants as trouble;
 ghost use Rattle.sector_disk.specs.Disk.{OnlyReads, content};
 ghost use Rattle.jnl_format.specs.Recovery.{Content};
+ghost use Rattle.btree_edit.specs.Causes.{HasTroubleCause};
 ghost use Rattle.jnl_replay.specs.Plan.{FitsPlan};
 ghost use Rattle.line_source.specs.Cause.{IsCause};
 ghost use Rattle.hfs_volume.specs.Mount.{IsMountable, Mounts};
@@ -66,7 +67,7 @@ fn look_through<D: SectorDisk, A: Asker>(
         → HearsRight capacity start (A.state asker.old) (A.state asker.new) }
     ensures ends { IsTrue (A.state asker.old).tells → OnOk result (Ends (A.state asker.old) (A.state asker.new)) }
     ensures reads { OnlyReads (D.state disk.old) (D.state disk.new) }
-    ensures cause { IsCause trouble.Disk (D.state disk.old).faults (D.state disk.new).faults result }
+    ensures cause { HasTroubleCause (D.state disk.old).faults (D.state disk.new).faults result }
 {
     let peek = Peek::new(alloc, disk, plan)?;
     let slots = empty_slots(alloc, SLOTS)?;
@@ -75,6 +76,7 @@ fn look_through<D: SectorDisk, A: Asker>(
         disk,
         slots,
     };
-    let mut volume = Volume::attach(alloc, &mut space, capacity(plan))?;
+    let most = capacity(plan);
+    let mut volume = Volume::attach(alloc, &mut space, most)?;
     answer_all(alloc, &mut volume, &mut space, asker)
 }
