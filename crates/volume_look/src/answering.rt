@@ -1,5 +1,5 @@
 //! Commands are answered by a volume in service, which is only read.
-ghost use Rattle.std.specs.Prelude.{◌≡◌, not, IsTrue, IfOk, OnOk};
+ghost use Rattle.std.specs.Prelude.{◌≡◌, IsTrue, IsFalse, IfOk, OnOk};
 ghost use Rattle.btree_edit.specs.Causes.{HasTroubleCause};
 ghost use Rattle.volume_base.specs.Room.{capacity_of};
 ghost use Rattle.volume_base.specs.Standing.{IsSettled, StandsOver};
@@ -47,7 +47,7 @@ fn answer_next<P: SectorSpace, A: Asker>(
     requires settled { IsTrue (P.SectorView.space space.old).tells → IsSettled volume.old (P.SectorView.space space.old).content }
     ensures right { IsTrue (P.SectorView.space space.old).tells → IsTrue (A.state asker.old).tells → HearsRight (capacity_of volume.old) (P.SectorView.space space.old).content (A.state asker.old) (A.state asker.new) }
     ensures each { IsTrue (A.state asker.old).tells → OnOk result (HearsEach (A.state asker.old) (A.state asker.new)) }
-    ensures ended { IsTrue (A.state asker.old).tells → IfOk result (λ asked. IsTrue (not asked) → IsTrue (A.state asker.new).ended) }
+    ensures ended { IsTrue (A.state asker.old).tells → IfOk result (λ asked. IsFalse asked → IsTrue (A.state asker.new).ended) }
     ensures told { (A.state asker.new).tells ≡ (A.state asker.old).tells }
     ensures content { IsTrue (P.SectorView.space space.old).tells → (P.SectorView.space space.new).content ≡ (P.SectorView.space space.old).content }
     ensures tells { (P.SectorView.space space.new).tells ≡ (P.SectorView.space space.old).tells }
