@@ -1,5 +1,5 @@
 //! An image is opened for reading, and commands are answered from what it stands for.
-ghost use Rattle.std.specs.Prelude.{◌≡◌, IsTrue, IfOk, IfErr, OnOk};
+ghost use Rattle.std.specs.Prelude.{◌≡◌, ℕ, IsTrue, IfOk, IfErr, OnOk};
 ghost use Rattle.hx_bytes.specs.declared.faults.Trouble.TheVariants as trouble;
 ghost use Rattle.sector_disk.specs.Disk.{OnlyReads, content};
 ghost use Rattle.jnl_format.specs.Recovery.{Content};
