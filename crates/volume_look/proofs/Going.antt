@@ -17,6 +17,7 @@ pub record Goes (v : Volume) (a : Space) (t : Talk) (w : Volume) (b : Space) (u 
   pub tells : b.tells ≡ a.tells
   pub content : IsTrue a.tells → b.content ≡ a.content
   pub capacity : capacity_of w ≡ capacity_of v
+  pub names : b.names ≡ a.names
   pub faults : a.faults ≤ b.faults
   pub told : u.tells ≡ t.tells
   pub right : IsTrue a.tells → IsTrue t.tells → HearsRight (capacity_of v) a.content t u
@@ -29,6 +30,7 @@ goes_none v a t stands settled = record {
   tells = refl;
   content = λ tells. refl;
   capacity = refl;
+  names = refl;
   faults = omega arith;
   told = refl;
   right = λ tells told. right_none (capacity_of v) a.content t t refl;
@@ -53,6 +55,7 @@ module _ (v : Volume) (a : Space) (t : Talk) (w : Volume) (b : Space) (u : Talk)
     tells = next.tells ∙ goes.tells;
     content = λ tells. next.content (goes.tells ∙ tells) ∙ goes.content tells;
     capacity = next.capacity ∙ goes.capacity;
+    names = next.names ∙ goes.names;
     faults = omega (arith, goes.faults, next.faults);
     told = next.told ∙ goes.told;
     right = right_then s next.right;

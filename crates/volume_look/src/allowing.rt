@@ -35,8 +35,7 @@ pub(crate) fn allows(command: &Command) -> bool
 fn are_names(path: &[Units]) -> bool
     ensures { result ≡ spec.are_names path.now }
 {
-    path.iter()
-        .all(|name| is_name(name.as_slice(), MOST_UNITS))
+    path.iter().all(|name| is_name(name.as_slice(), MOST_UNITS))
 }
 
 // Whether a name has a unit, and at most so many.

@@ -25,6 +25,7 @@ pub(crate) fn answer_all<P: SectorSpace, A: Asker>(
     requires settled { IsTrue (P.SectorView.space space.old).tells → IsSettled volume.old (P.SectorView.space space.old).content }
     ensures right { IsTrue (P.SectorView.space space.old).tells → IsTrue (A.state asker.old).tells → HearsRight (capacity_of volume.old) (P.SectorView.space space.old).content (A.state asker.old) (A.state asker.new) }
     ensures ends { IsTrue (A.state asker.old).tells → OnOk result (Ends (A.state asker.old) (A.state asker.new)) }
+    ensures names { (P.SectorView.space space.new).names ≡ (P.SectorView.space space.old).names }
     ensures below { P.SectorView.follows space.old space.new }
     ensures cause { HasTroubleCause (P.SectorView.space space.old).faults (P.SectorView.space space.new).faults result }
 {
@@ -54,6 +55,7 @@ fn answer_next<P: SectorSpace, A: Asker>(
     ensures stands { StandsOver volume.new (P.SectorView.space space.new) }
     ensures settled { IsTrue (P.SectorView.space space.old).tells → IsSettled volume.new (P.SectorView.space space.new).content }
     ensures capacity { capacity_of volume.new ≡ capacity_of volume.old }
+    ensures names { (P.SectorView.space space.new).names ≡ (P.SectorView.space space.old).names }
     ensures below { P.SectorView.follows space.old space.new }
     ensures cause { HasTroubleCause (P.SectorView.space space.old).faults (P.SectorView.space space.new).faults result }
 {
@@ -85,6 +87,7 @@ fn answer<P: SectorSpace>(
     ensures stands { StandsOver volume.new (P.SectorView.space space.new) }
     ensures settled { IsTrue (P.SectorView.space space.old).tells → IsSettled volume.new (P.SectorView.space space.new).content }
     ensures capacity { capacity_of volume.new ≡ capacity_of volume.old }
+    ensures names { (P.SectorView.space space.new).names ≡ (P.SectorView.space space.old).names }
     ensures below { P.SectorView.follows space.old space.new }
     ensures cause { HasTroubleCause (P.SectorView.space space.old).faults (P.SectorView.space space.new).faults result }
 {
@@ -110,6 +113,7 @@ fn answer_allowed<P: SectorSpace>(
     ensures stands { StandsOver volume.new (P.SectorView.space space.new) }
     ensures settled { IsTrue (P.SectorView.space space.old).tells → IsSettled volume.new (P.SectorView.space space.new).content }
     ensures capacity { capacity_of volume.new ≡ capacity_of volume.old }
+    ensures names { (P.SectorView.space space.new).names ≡ (P.SectorView.space space.old).names }
     ensures below { P.SectorView.follows space.old space.new }
     ensures cause { HasTroubleCause (P.SectorView.space space.old).faults (P.SectorView.space space.new).faults result }
 {

@@ -70,11 +70,11 @@ fn look_through<D: SectorDisk, A: Asker>(
     ensures cause { HasTroubleCause (D.state disk.old).faults (D.state disk.new).faults result }
 {
     let peek = Peek::new(alloc, disk, plan)?;
-    let slots = empty_slots(alloc, SLOTS)?;
+    let mut slots = empty_slots(alloc, SLOTS)?;
     let mut space = ReadOnly {
         peek: &peek,
         disk,
-        slots,
+        slots: slots.as_mut_slice(),
     };
     let most = capacity(plan);
     let mut volume = Volume::attach(alloc, &mut space, most)?;

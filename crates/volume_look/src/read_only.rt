@@ -10,9 +10,9 @@ use sector_disk::SectorDisk;
 
 /// What a disk stands for, by a peek that was made of it, and sectors of it that were read. There is no room for puts, and nothing is written.
 #[derive(Drop)]
-pub(crate) struct ReadOnly<'a, 'b, D: SectorDisk> {
+pub(crate) struct ReadOnly<'a, 'b, 'c, D: SectorDisk> {
     pub(crate) peek: &'a Peek,
     pub(crate) disk: &'b mut D,
-    pub(crate) slots: Vec<Option<Copied>>,
-    ghost fresh: { IsTrue (D.state disk.now).tells → AreCopies (shown peek.now (D.state disk.now).sectors (content (D.state disk.now))) slots.items },
+    pub(crate) slots: &'c mut [Option<Copied>],
+    ghost fresh: { IsTrue (D.state disk.now).tells → AreCopies (shown peek.now (D.state disk.now).sectors (content (D.state disk.now))) slots.now },
 }

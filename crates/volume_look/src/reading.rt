@@ -1,11 +1,19 @@
 //! The calls of a space that is only read.
 
+ghost use Rattle.std.specs.Prelude.{◌≡◌, ◌<◌, IsTrue, OnOk};
+ghost use Rattle.sector_disk.specs.Cause.{HasCause};
+ghost use Rattle.sector_disk.specs.Disk.{OnlyReads, content};
+ghost use Rattle.sector_disk.specs.Lists.{sector};
+ghost use Rattle.jnl_replay.specs.Viewing.{shown};
+ghost use Rattle.volume_look.specs.Slots.{AreCopies};
+
 use crate::read_only::ReadOnly;
-use crate::slots::{keep, recall};
+use crate::slots::{Copied, keep, recall};
 use hx_bytes::{Failed, Sector};
+use jnl_replay::Peek;
 use sector_disk::{SectorDisk, SectorSpace, SectorView};
 
-impl<D: SectorDisk> SectorView for ReadOnly<'_, '_, D> {
+impl<D: SectorDisk> SectorView for ReadOnly<'_, '_, '_, D> {
     ghost use Rattle.std.specs.Prelude.{◌∷◌, []};
     ghost use Rattle.jnl_replay.specs.Viewing.{view_of, view_size};
     ghost use Rattle.jnl_replay.specs.Peeked.{PeeksOn, peeks_none, peeks_both};
@@ -25,17 +33,11 @@ impl<D: SectorDisk> SectorView for ReadOnly<'_, '_, D> {
     }
 
     fn get(&mut self, at: u64, into: &mut Sector) -> Result<(), Failed> {
-        if let Some(bytes) = recall(self.slots.as_slice(), at) {
-            *into = *bytes;
-            return Ok(());
-        }
-        self.peek.read(self.disk, at, into)?;
-        keep(self.slots.as_mut_slice(), at, into);
-        Ok(())
+        fetch(self.peek, self.disk, self.slots, at, into)
     }
 }
 
-impl<D: SectorDisk> SectorSpace for ReadOnly<'_, '_, D> {
+impl<D: SectorDisk> SectorSpace for ReadOnly<'_, '_, '_, D> {
     fn spare(&self) -> u64 {
         0
     }
@@ -55,4 +57,28 @@ impl<D: SectorDisk> SectorSpace for ReadOnly<'_, '_, D> {
     fn fail(&mut self) -> Failed {
         self.disk.fail()
     }
+}
+
+// Reads a sector from its slot, or else through the peek, and keeps it.
+fn fetch<D: SectorDisk>(
+    peek: &Peek,
+    disk: &mut D,
+    slots: &mut [Option<Copied>],
+    at: u64,
+    into: &mut Sector,
+) -> Result<(), Failed>
+    requires inside { at < (D.state disk.old).sectors }
+    requires fresh { IsTrue (D.state disk.old).tells → AreCopies (shown peek.now (D.state disk.old).sectors (content (D.state disk.old))) slots.old }
+    ensures value { IsTrue (D.state disk.old).tells → OnOk result (into.new ≡ sector (shown peek.now (D.state disk.old).sectors (content (D.state disk.old))) at) }
+    ensures fresh { IsTrue (D.state disk.old).tells → AreCopies (shown peek.now (D.state disk.new).sectors (content (D.state disk.new))) slots.new }
+    ensures reads { OnlyReads (D.state disk.old) (D.state disk.new) }
+    ensures cause { HasCause (D.state disk.old).faults (D.state disk.new).faults result }
+{
+    if let Some(bytes) = recall(slots, at) {
+        *into = *bytes;
+        return Ok(());
+    }
+    peek.read(disk, at, into)?;
+    keep(slots, at, into);
+    Ok(())
 }

@@ -60,6 +60,7 @@ loop-preserved g c =
             tells = e.tells;
             content = e.content;
             capacity = e.capacity;
+            names = e.names;
             faults = e.cause.later;
             told = e.told;
             right = e.right;
@@ -76,3 +77,12 @@ returns-clause-below g c = c.loop.invariant.below
 
 pub returns-clause-cause : goal.returns-clause-cause
 returns-clause-cause g c = record { later = c.loop.invariant.goes.faults; failed = tt }
+
+pub returns-in_err-answer_next-clause-names : goal.returns-in_err-answer_next-clause-names
+returns-in_err-answer_next-clause-names g c = c.answer_next.ensures.names ∙ c.loop.invariant.goes.names
+
+pub returns-then-not-branch-clause-names : goal.returns-then-not-branch-clause-names
+returns-then-not-branch-clause-names g c = c.answer_next.ensures.names ∙ c.loop.invariant.goes.names
+
+pub returns-clause-names : goal.returns-clause-names
+returns-clause-names g c = c.loop.invariant.goes.names
