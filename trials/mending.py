@@ -147,7 +147,8 @@ def mended(content):
 
 def differing(one, other):
     """The sectors in which two contents differ."""
-    return [at for at in range(len(one) // 512) if one[512 * at : 512 * at + 512] != other[512 * at : 512 * at + 512]]
+    parts = [at for at in range(0, len(one), 65536) if one[at : at + 65536] != other[at : at + 65536]]
+    return [at // 512 for start in parts for at in range(start, min(start + 65536, len(one)), 512) if one[at : at + 512] != other[at : at + 512]]
 
 
 # ---- the journal

@@ -74,6 +74,7 @@ pub fn is_clean(alloc: Global, image: &MemImage) -> Result<bool, OutOfMemory> {
 }
 
 /// How a command ended, and what it told.
+#[derive(Drop)]
 pub struct Told {
     pub status: Status,
     pub text: Vec<u8>,

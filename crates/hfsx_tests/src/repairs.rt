@@ -15,6 +15,7 @@ const ALTERNATE: u64 = 16_382;
 const LEAF: u64 = 2_336;
 
 /// How a command ended, and what it told.
+#[derive(Drop)]
 struct Ended {
     status: Status,
     told: Vec<u8>,
