@@ -1,11 +1,12 @@
 //! Files with several names, and the links that are these names (rule 19).
-ghost use Rattle.std.specs.Prelude.{◌≡◌, ◌⊎◌, ◌+◌, ℕ, length, IfOk, OnOk, if◌then◌else◌};
+ghost use Rattle.std.specs.Prelude.{◌≡◌, ◌⊎◌, ◌≤◌, ◌+◌, ℕ, length, All, IfOk, OnOk, if◌then◌else◌};
 ghost use Rattle.std.specs.List.{flat_map};
 ghost use Rattle.std.specs.List.Sorted.{IsNonDecreasing, IsNonDecreasingBy};
 ghost use Rattle.alloc_bitmap.specs.Apart.{times};
 ghost use Rattle.hfs_volume.specs.Content.{VolumeState, records_of, overflow_in_volume};
 ghost use Rattle.hfs_volume.specs.Entries.{AreSpelled};
-ghost use Rattle.hfs_volume.specs.Links.{AreLinks};
+ghost use Rattle.hfs_volume.specs.Links.{AreLinks, private_id};
+ghost use Rattle.hfs_volume.specs.Records.{placed_in};
 ghost use Rattle.fsck_core.specs.Judged.{Judged, AddsUnmet};
 ghost use Rattle.fsck_core.specs.Decided.{Adds, Decided, AllPass, IsMissed};
 ghost use Rattle.fsck_core.specs.Rows.{row_at};
@@ -41,6 +42,15 @@ fn folder_id(found: &Option<CatRecord>) -> Option<u32>
     }
 }
 
+/// The CNID of the private folder, if there is one: the folder of this name in the root.
+pub fn find_private(alloc: Global, pairs: &Pairs) -> Result<Option<u32>, OutOfMemory>
+    requires { AreSpelled pairs.now }
+    ensures { All (λ pair. 8 ≤ length pair.0) pairs.now → IfOk result (λ found. found ≡ private_id (placed_in pairs.now)) }
+{
+    let found = record_in_root(alloc, pairs, PRIVATE_FOLDER.as_slice())?;
+    Ok(folder_id(&found))
+}
+
 /// Whether what was found is a folder, if something was.
 fn is_private(found: &Option<CatRecord>) -> bool
     ensures { result ≡ is_private found.now }
@@ -73,7 +83,7 @@ fn add_link(numbers: &mut Vec<u32>, row: Row) -> Result<(), OutOfMemory>
 }
 
 /// The numbers that links tell, in order.
-fn link_numbers(alloc: Global, rows: &[Row]) -> Result<Vec<u32>, OutOfMemory>
+pub fn link_numbers(alloc: Global, rows: &[Row]) -> Result<Vec<u32>, OutOfMemory>
     ensures order { IfOk result (λ numbers. IsNonDecreasing numbers.items) }
     ensures same { IfOk result (λ numbers. (number : ℕ) → times number numbers.items ≡ link_count rows.now number) }
 {

@@ -24,7 +24,7 @@ fn numbers_below(numbers: &[u32], number: u64) -> usize
 }
 
 /// How many of numbers in order are this one, found by halves.
-pub(crate) fn count_number(numbers: &[u32], number: u32) -> u64
+pub fn count_number(numbers: &[u32], number: u32) -> u64
     ensures { IsNonDecreasing numbers.now → result ≡ times number numbers.now }
 {
     let from = numbers_below(numbers, number as u64);

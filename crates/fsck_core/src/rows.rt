@@ -34,7 +34,7 @@ pub(crate) fn rows_below(rows: &[Row], parent: u64) -> usize
 }
 
 /// How many rows have this parent, found by halves.
-pub(crate) fn count_under(rows: &[Row], parent: u32) -> u64
+pub fn count_under(rows: &[Row], parent: u32) -> u64
     ensures { IsNonDecreasingBy (λ row. row.parent) rows.now → result ≡ rows_under rows.now parent }
 {
     let from = rows_below(rows, parent as u64);
@@ -43,7 +43,7 @@ pub(crate) fn count_under(rows: &[Row], parent: u32) -> u64
 }
 
 /// How many rows are files.
-pub(crate) fn count_files(rows: &[Row]) -> u64
+pub fn count_files(rows: &[Row]) -> u64
     ensures { result ≡ count_by (λ row. row.file) rows.now }
 {
     let mut count = 0;
@@ -56,7 +56,7 @@ pub(crate) fn count_files(rows: &[Row]) -> u64
 }
 
 /// How many rows are folders.
-pub(crate) fn count_folders(rows: &[Row]) -> u64
+pub fn count_folders(rows: &[Row]) -> u64
     ensures { result ≡ count_by (λ row. row.folder) rows.now }
 {
     let mut count = 0;

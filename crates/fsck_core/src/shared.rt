@@ -18,7 +18,7 @@ use std::alloc::Global;
 
 /// A file with several names.
 #[derive(Clone, Copy, Debug, PartialEq, Eq)]
-pub(crate) struct SharedFile {
+pub struct SharedFile {
     /// The number that its links tell.
     pub reference: u32,
     pub id: u32,
@@ -41,7 +41,7 @@ fn shared_record(rec: &CatRecord, reference: u32) -> Option<SharedFile>
 }
 
 /// The file with several names of a pair, where it is one of this private folder.
-fn shared_file(
+pub fn shared_file(
     alloc: Global,
     private: u32,
     key: &[u8],

@@ -44,7 +44,7 @@ fn back_block(sectors: u64, size: u32) -> u32
 }
 
 /// The reserved blocks of a volume of so many sectors, whose header keeps rule 1 (TN1150, "Volume Header").
-fn read_reserved(
+pub fn read_reserved(
     alloc: Global,
     sectors: u64,
     head: &VolumeHeader,

@@ -54,7 +54,7 @@ pub fn read_sector<V: SectorView>(
 }
 
 /// Reads a node of a fork, of the length of the buffer.
-pub(crate) fn read_node<V: SectorView>(
+pub fn read_node<V: SectorView>(
     view: &mut V,
     fork: &Fork,
     node: u32,

@@ -15,7 +15,7 @@ mod trees;
 mod whole;
 
 pub use children::{WrongChild, mark_children};
-pub use fork::{Fork, read_sector};
+pub use fork::{Fork, read_node, read_sector};
 pub use form::{Form, Head, TreeName};
 pub use level::{WrongNode, read_level};
 pub use look::Fault;

@@ -1,7 +1,8 @@
 // How many barriers and device calls a run makes.
 use crate::counting::Counting;
 use hfsx_server::{Status, hfsx};
-use mem_disk::MemSource;
+use hx_bytes::OutOfMemory;
+use mem_disk::{MemRig, MemSource};
 use std::alloc::{AllocError, Global};
 use std::test::Fail;
 use test_kit::{fresh_rig, run_on, words};
@@ -90,5 +91,50 @@ fn more_lines_that_read_the_same_make_no_more_calls(rt: HostRuntime) -> Result<(
     assert_eq!(rt; one.told(), repeated(alloc, b"ok 0\n", 100)?.as_slice());
     assert_eq!(rt; other.told(), repeated(alloc, b"ok 0\n", 200)?.as_slice());
     assert_eq!(rt; one.calls(), other.calls());
+    Ok(())
+}
+
+// Serves lines that come at once; answers how the run ended.
+fn run_at_once(alloc: Global, rig: &mut Counting, lines: &[u8]) -> Result<Status, OutOfMemory> {
+    let mut source = MemSource::new(alloc, lines, 65_536, None)?;
+    let words = words(alloc, "run v.img")?;
+    let mut watchers: Vec<Box<dyn Watcher>> = Vec::new(alloc);
+    Ok(hfsx(alloc, words.as_slice(), rig, &mut source, &mut watchers))
+}
+
+// A line for each of 80 files, with a name of 254 letters, of which the last two tell it from the others.
+fn filling(alloc: Global) -> Result<Vec<u8>, AllocError> {
+    let mut lines = Vec::new(alloc);
+    for file in 0..80u8 {
+        lines.extend_from_slice(b"create /")?;
+        for _letter in 0..252 {
+            lines.push(b'n')?;
+        }
+        lines.push(b'a' + file / 26 % 26)?;
+        lines.push(b'a' + file % 26)?;
+        lines.push(b'\n')?;
+    }
+    Ok(lines)
+}
+
+const GROWING: &[u8] = b"mkdir /d\ncreate /d/x\nwrite /d/x 0 =y\nsync\ndf\n";
+
+// The catalog, which those files fill, grows ahead of the first line. That is made durable by the commit of its batch: there is no barrier more
+// than on a new volume, where no tree has to grow.
+#[test]
+fn a_tree_grows_in_the_commit_of_its_batch(rt: HostRuntime) -> Result<(), Fail> {
+    let alloc = rt.alloc();
+    let mut full = fresh_rig(alloc)?;
+    let ended = run_on(alloc, "run v.img", &mut full, &filling(alloc)?)?;
+    assert_eq!(rt; ended, Status::Done);
+    let mut grown = Counting::over(MemRig::from_image(alloc, &full.image(alloc, 1)?)?);
+    let mut other = Counting::over(fresh_rig(alloc)?);
+    assert_eq!(rt; run_at_once(alloc, &mut grown, GROWING)?, Status::Done);
+    assert_eq!(rt; run_at_once(alloc, &mut other, GROWING)?, Status::Done);
+    assert_eq!(rt;
+        grown.rig.told(),
+        b"ok\nok\nok\nok\nok 4096 2048 1675 1675 1982 0 16 15 3 80 25 0 16 15\n".as_slice()
+    );
+    assert_eq!(rt; grown.barriers, other.barriers);
     Ok(())
 }

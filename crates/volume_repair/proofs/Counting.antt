@@ -20,10 +20,8 @@ use Rattle.hfs_volume.specs.Links.{is_shared_file, reference_of, links_to}
 use Rattle.hfs_volume.specs.Blocks.{AgreesWith, is_among, count_used, used_in}
 use Rattle.hfs_volume.specs.Sound.{IsSoundVolume}
 use Rattle.hfs_volume.proofs.Members.{each_of, kept_stands, map_stands, at_front, behind}
-use Rattle.fsck_core.proofs.RecordBytes.{folder_long, file_long}
-use Rattle.fsck_core.proofs.RecordBytes as bytes
-use Rattle.fsck_core.proofs.RowLaws.{true_below, not_below}
 use Rattle.volume_repair.specs.Recount.{with_word, folder_recounted, file_recounted, value_recounted, pair_recounted, header_recounted, agrees, alternate_mended, is_bit_wanted, bits_recounted, recounted}
+use Rattle.volume_repair.proofs.Typed.{true_below, not_below, folder_long, file_long, spells_folder, spells_file, spells_thread}
 use Rattle.volume_repair.specs.Laws.{HasByteValues, SoundStaysAsItIs, OnceIsEnough, KeysStay, SameButWord, ValuesStay}
 
 -- ---- numbers in bytes
@@ -62,9 +60,9 @@ by_kind kind folder file other = ⊎_elim
 folder_word : (value : List ℕ) → IsTrue (is_catalog value) → is_folder (catalog_of value) ≡ true → (8 ≤ length value) × (big_at 4 value 4 ≡ valence_in (catalog_of value))
 unfolding entry_of
 folder_word value is folder = by_kind (big_at 2 value 0)
-    (λ one. (let long = folder_long value (big_at 2 value 0) is refl one in omega (arith, long), sym (ap valence_in (bytes.is_folder value (big_at 2 value 0) refl one))))
-    (λ two. false_is_true (sym (ap is_folder (bytes.is_file value (big_at 2 value 0) refl two)) ∙ folder))
-    (λ no_folder no_file. false_is_true (sym (ap is_folder (bytes.by_type value (big_at 2 value 0) refl no_folder no_file)) ∙ folder))
+    (λ one. (let long = folder_long value is one in omega (arith, long), sym (ap valence_in (spells_folder value one))))
+    (λ two. false_is_true (sym (ap is_folder (spells_file value two)) ∙ folder))
+    (λ no_folder no_file. false_is_true (sym (ap is_folder (spells_thread value no_folder no_file)) ∙ folder))
 
 -- the special word in a value
 abbrev special_in : CatRecord → ℕ
@@ -74,9 +72,9 @@ special_in value = special_of (record { parent = 0; name = []; value = value })
 file_word : (value : List ℕ) → IsTrue (is_catalog value) → is_file (catalog_of value) ≡ true → (48 ≤ length value) × (big_at 4 value 44 ≡ special_in (catalog_of value))
 unfolding entry_of
 file_word value is file = by_kind (big_at 2 value 0)
-    (λ one. false_is_true (sym (ap is_file (bytes.is_folder value (big_at 2 value 0) refl one)) ∙ file))
-    (λ two. (let long = file_long value (big_at 2 value 0) is refl two in omega (arith, long), sym (ap special_in (bytes.is_file value (big_at 2 value 0) refl two))))
-    (λ no_folder no_file. false_is_true (sym (ap is_file (bytes.by_type value (big_at 2 value 0) refl no_folder no_file)) ∙ file))
+    (λ one. false_is_true (sym (ap is_file (spells_folder value one)) ∙ file))
+    (λ two. (let long = file_long value is two in omega (arith, long), sym (ap special_in (spells_file value two))))
+    (λ no_folder no_file. false_is_true (sym (ap is_file (spells_thread value no_folder no_file)) ∙ file))
 
 -- the value of a record whose numbers are right
 value_stays : (records : List Placed) (placed : Placed) (value : List ℕ) → AreBytes value → IsTrue (is_catalog value) → placed.value ≡ catalog_of value
@@ -157,7 +155,7 @@ header_stays volume sound = λ i. record volume.head { file_count = sym files i;
     free : volume.head.free_blocks ≡ volume.head.total_blocks - count_used volume.head.total_blocks (used_in volume)
     free = omega (arith, sound.blocks.bits.free)
 
-agreement : (head alternate : VolumeHeader) → AgreesWith head alternate → agrees head alternate ≡ true
+pub agreement : (head alternate : VolumeHeader) → AgreesWith head alternate → agrees head alternate ≡ true
 agreement head alternate is = rw (
   eq-eqb alternate.signature head.signature is.signature,
   eq-eqb alternate.version head.version is.version,

@@ -2,3 +2,12 @@ pub mod Bytes
 pub mod Counting
 pub mod Leaves
 pub mod Repairing
+pub mod Typed
+pub mod Words
+pub mod Remounting
+pub mod Alone
+pub mod Rereads
+pub mod Mending
+pub mod Journals
+pub mod Remounted
+pub mod Sounding

@@ -3,3 +3,4 @@ pub mod Laws
 pub mod Recount
 pub mod Repair
 pub mod RepairLaws
+pub mod Remount

@@ -56,10 +56,12 @@ byte_of_bits is_set j =
     128 * bit (is_set (8 * j)) + 64 * bit (is_set (8 * j + 1)) + 32 * bit (is_set (8 * j + 2)) + 16 * bit (is_set (8 * j + 3))
     + 8 * bit (is_set (8 * j + 4)) + 4 * bit (is_set (8 * j + 5)) + 2 * bit (is_set (8 * j + 6)) + bit (is_set (8 * j + 7))
 
--- sector k of the allocation file, which is this one of the content; behind the file's end its bytes stay
+-- sector k of the allocation file, which is this one of the content; behind the file's end all stays as it is
 abbrev pub bitmap_mended : Content → ℕ → ℕ → List ℕ
 bitmap_mended content at k =
+    if nat_lt (512 * k) (header_of_volume content).allocation_fork.logical_size then
     map (λ i. if nat_lt (512 * k + i) (header_of_volume content).allocation_fork.logical_size then byte_of_bits (is_bit_wanted (volume_of content)) (512 * k + i) else slice_index (sector content at) i) (range_with_len 0 512)
+    else sector content at
 
 -- a leaf of the catalog with the i-th of its records counted anew
 abbrev pub record_mended : List Placed → List ℕ → ℕ → List ℕ

@@ -2,9 +2,11 @@
 #![tactic(auto)]
 
 mod laws;
+mod laws_remount;
 mod laws_repair;
 
 pub use laws::{keys_stay, once_is_enough, sound_stays_as_it_is, values_stay};
+pub use laws_remount::repair_stays_remounted;
 pub use laws_repair::{
     bytes_are_bits, leaf_stays, repair_is_one, repair_keeps_size, sound_is_mendable,
     sound_is_own_repair, sound_keeps_header,
