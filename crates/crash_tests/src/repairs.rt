@@ -39,7 +39,7 @@ fn miscounted(alloc: Global) -> Result<MemImage, OutOfMemory> {
     rig.image(alloc, 1)
 }
 
-/// Stops the repair of an image after each call. Of the image of this choice another repair makes the volume of the first check; it finds two sectors to
+/// Stops the repair of an image ahead of its first call, after each call that wrote, and at its end. Of the image of this choice another repair makes the volume of the first check; it finds two sectors to
 /// change, or none, and none where the one that was stopped had told its answer. It is stopped too after some calls, and a third one ends it.
 fn try_repairs(alloc: Global, choice: u64) -> Result<Tried, OutOfMemory> {
     let start = miscounted(alloc)?;
@@ -50,7 +50,12 @@ fn try_repairs(alloc: Global, choice: u64) -> Result<Tried, OutOfMemory> {
         unrepaired: 0,
         wrong: None,
     };
-    for stop in 0..whole.rig.calls().saturating_add(1) {
+    let calls = whole.rig.calls();
+    for stop in 0..calls.saturating_add(1) {
+        // (a read leaves what the call before it left)
+        if 0 < stop && stop < calls && !whole.rig.wrote(stop.saturating_sub(1)) {
+            continue;
+        }
         let mut disk = Few::over(alloc, &start)?;
         disk.rig.stop_after(stop);
         let stopped = told_by_words(alloc, "repair v.img", &mut disk)?;
