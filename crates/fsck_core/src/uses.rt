@@ -40,13 +40,14 @@ fn count_uses(extents: &[Extent], block: u64) -> u64
 }
 
 /// Marks the blocks from one up to another that are blocks of the volume. None of them is marked yet.
-fn mark_stretch(used: &mut Marks, from: u64, to: u64)
+fn mark_stretch(used: &mut Marks, from: u64, to: u64) -> Result<(), OutOfMemory>
     requires { length used.old ≤ 2 ^ 32 }
     ensures long { length used.new ≡ length used.old }
-    ensures sets { ((k : ℕ) → from ≤ k → slice_index_or used.old k false ≡ false) → (k : ℕ) → from ≤ k → k < to → k < length used.old → slice_index_or used.new k false ≡ true }
+    ensures sets { OnOk result (((k : ℕ) → from ≤ k → slice_index_or used.old k false ≡ false) → (k : ℕ) → from ≤ k → k < to → k < length used.old → slice_index_or used.new k false ≡ true) }
     ensures keeps { (k : ℕ) → (k < from) ⊎ (to ≤ k) → slice_index_or used.new k false ≡ slice_index_or used.old k false }
 {
-    used.mark_stretch(from, to);
+    used.mark_stretch(from, to)?;
+    Ok(())
 }
 
 /// Adds a finding for a block that these extents have more than once. Where there are as many findings as are kept, none is added.
@@ -104,7 +105,7 @@ fn sweep_extent(
     let start = extent.start as u64;
     let stop = start + extent.count as u64;
     let from = start.max(sweep.end);
-    mark_stretch(used, from, stop);
+    mark_stretch(used, from, stop)?;
     let end = stop.max(sweep.end);
     if start >= sweep.end {
         return Ok(Sweep { end, ..sweep });

@@ -3,3 +3,4 @@ pub mod KeptLaws
 pub mod FlatLaws
 pub mod MarkLaws
 pub mod Ranges
+pub mod PieceLaws

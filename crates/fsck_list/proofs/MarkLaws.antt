@@ -1,7 +1,7 @@
--- One mark more.
+-- Marks that are set one by one, or in a stretch.
 use Rattle.std.proofs.Common.{◌≡◌, ◌⊎◌, ◌<◌, ◌≤◌, ℕ, zero, suc, ◌+◌, Bool, true, false, cond, List, [], ◌∷◌, ◌++◌, length, take, drop, replicate, set, get_or, refl, ◌∙◌, ap, arith, ⊎_elim}
 use Rattle.std.proofs.lemmas.List.Sums.{count_by-le-length, sum_by-append, sum_by-cons, sum_by-take-drop}
-use Rattle.std.proofs.lemmas.List.{get_or-drop, get_or-take, length-take, drop-drop}
+use Rattle.std.proofs.lemmas.List.{get_or_default, get_or-drop, get_or-take, length-take, drop-drop}
 use Rattle.std.proofs.lemmas.Bool.Decides.{nat_tests}
 use Rattle.hx_bytes.specs.declared.extents.Extent.{Extent}
 use Rattle.flag_rows.specs.Bits.{count_set, has, mark}
@@ -82,3 +82,13 @@ stretch_stays flags e k inside was = get_or-mark flags e true k false inside ∙
     either : (b : Bool) → cond b true (get_or flags k false) ≡ true
     either true = refl
     either false = was
+
+-- flags that are clear, whatever is read past the end
+clear_too : (flags : List Bool) (e : Extent) → e.start + e.count ≤ length flags → ((k : ℕ) → e.start ≤ k → k < e.start + e.count → get_or flags k false ≡ false) → (k : ℕ) → e.start ≤ k → k < e.start + e.count → get_or flags k true ≡ false
+clear_too flags e inside clear k low high = get_or_default flags k true false (omega (arith, inside, high)) ∙ clear k low high
+
+pub stretch_more : (flags new : List Bool) (e : Extent) → new ≡ mark flags e true → e.start + e.count ≤ length flags → ((k : ℕ) → e.start ≤ k → k < e.start + e.count → get_or flags k false ≡ false) → count_set new ≡ count_set flags + e.count
+stretch_more flags new e is inside clear = ap count_set is ∙ stretch_count flags e inside (clear_too flags e inside clear)
+
+pub stretch_fits : (flags : List Bool) (e : Extent) → e.start + e.count ≤ length flags → ((k : ℕ) → e.start ≤ k → k < e.start + e.count → get_or flags k false ≡ false) → count_set flags + e.count ≤ length flags
+stretch_fits flags e inside clear = stretch_few flags e inside (clear_too flags e inside clear)

@@ -1,3 +1,4 @@
 pub mod Order
 pub mod Kept
 pub mod Flat
+pub mod Pieces

@@ -4,6 +4,7 @@
 mod finding;
 mod findings;
 mod marks;
+mod pieces;
 mod records;
 
 pub use finding::Finding;

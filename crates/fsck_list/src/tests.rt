@@ -118,7 +118,7 @@ fn a_place_is_marked_once(rt: HostRuntime) -> Result<(), Fail> {
         (u32::MAX, false),
     ];
     for (place, could) in steps {
-        assert_eq!(rt; marks.mark(place), could, "{place}");
+        assert_eq!(rt; marks.mark(place)?, could, "{place}");
     }
     assert_eq!(rt;
         (
@@ -129,6 +129,31 @@ fn a_place_is_marked_once(rt: HostRuntime) -> Result<(), Fail> {
             marks.has(9)
         ),
         (2, true, false, true, false)
+    );
+    Ok(())
+}
+
+#[test]
+fn a_stretch_is_marked_over_pieces(rt: HostRuntime) -> Result<(), Fail> {
+    let mut marks = Marks::new(rt.alloc(), 20000)?;
+    marks.mark_stretch(8190, 16385)?;
+    let places = [
+        (8189, false),
+        (8190, true),
+        (8191, true),
+        (8192, true),
+        (16383, true),
+        (16384, true),
+        (16385, false),
+    ];
+    for (place, has) in places {
+        assert_eq!(rt; marks.has(place), has, "{place}");
+    }
+    assert_eq!(rt; marks.count(), 8195);
+    marks.mark_stretch(0, 30000)?;
+    assert_eq!(rt;
+        (marks.count(), marks.has(8189), marks.has(16385)),
+        (16385, true, false)
     );
     Ok(())
 }

@@ -59,7 +59,8 @@ pub fn mark_children(
                 again: false,
             }));
         }
-        if !marks.mark(n) {
+        let taken = marks.mark(n)?;
+        if !taken {
             return Ok(Some(WrongChild {
                 node: n,
                 again: stands(nodes.as_slice(), n),

@@ -85,7 +85,8 @@ fn read_first<V: SectorView>(
     if !is_header {
         return Ok(false);
     }
-    Ok(marks.mark(0))
+    let taken = marks.mark(0)?;
+    Ok(taken)
 }
 
 /// Reads a map node, marks it and takes its stretch of the map, or says that it is none, or was marked.
@@ -121,7 +122,8 @@ fn read_next<V: SectorView>(
     if !is_map {
         return Ok(false);
     }
-    Ok(marks.mark(n))
+    let taken = marks.mark(n)?;
+    Ok(taken)
 }
 
 /// Reads the header node and the map nodes, marks each, and adds the bytes of the map to none. The first node that isn't what it must be

@@ -132,7 +132,8 @@ fn take_root<K: KeyOrder>(
     if root >= total {
         return Ok(Some(failed(5, form.id, root)));
     }
-    if !marks.mark(root) {
+    let taken = marks.mark(root)?;
+    if !taken {
         return Ok(Some(failed(5, form.id, root)));
     }
     push_node(&mut level.nodes, root)?;

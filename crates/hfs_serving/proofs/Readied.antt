@@ -77,19 +77,19 @@ module _ (plan : Plan) (total : ℕ) (fits : FitsPlan total plan) (before : Cont
   abbrev p : Plan
   p = rested plan
 
-  two_inside : 2 < length c
+  pub two_inside : 2 < length c
   two_inside = omega (arith, long_c plan total fits before is long whole start recovers home, fits.inside, fits.least)
 
-  two_start : 2 < length start
+  pub two_start : 2 < length start
   two_start = omega (arith, two_inside, home.size)
 
-  lies_start : (volume_of start).journal ≡ record { offset = p.info.offset; size = p.info.size }
+  pub lies_start : (volume_of start).journal ≡ record { offset = p.info.offset; size = p.info.size }
   lies_start = journal_lies plan before total fits is start recovers ∙ (λ i. record { offset = sym (offset_is plan plan.fresh refl) i; size = sym (size_is plan plan.fresh refl) i })
 
   -- an image that has the version
   module _ (now image : Content) (size : length image ≡ length c) (same : (s : ℕ) → s ≢ 2 → sector image s ≡ sector c s) (head_is : header_of_volume image ≡ version_header (header_of_volume c))
       (agrees : AgreesOutside (IsClosed p) now image) (journal : (s : ℕ) → IsClosed p s → IsJournalSector now s) (lies : (volume_of now).journal ≡ (volume_of start).journal) where
-    found_now : found plan image ≡ image
+    pub found_now : found plan image ≡ image
     found_now =
         found_before plan total fits before is long whole start recovers home journaling_version image
         ∙ found_here (with_version p) (rest_version p (rest plan total fits before is long whole start recovers home) c (h plan total fits before is long whole start recovers home)) image
@@ -98,7 +98,7 @@ module _ (plan : Plan) (total : ℕ) (fits : FitsPlan total plan) (before : Cont
     stands_now : StandsAs now (found plan image)
     stands_now = subst (λ (x : Content). StandsAs now x) (sym found_now) (agrees_more (IsClosed p) (IsAside now) now image (λ s closed. inr (journal s closed)) agrees)
 
-    ready_now : (disk : State) → disk.candidates ≡ only image → IsReady (mounted_plan plan) now disk
+    pub ready_now : (disk : State) → disk.candidates ≡ only image → IsReady (mounted_plan plan) now disk
     ready_now disk settled =
         let content_is : content disk ≡ image = ap content_of settled ∙ content_of-only image in
         let resting = rest_version p (rest plan total fits before is long whole start recovers home) c (h plan total fits before is long whole start recovers home) in

@@ -6,6 +6,7 @@ use Rattle.volume_header.specs.Refusal.{header_refusal}
 use Rattle.volume_header.specs.declared.refusal.HeaderRefusal.{HeaderRefusal}
 use Rattle.sector_disk.specs.Lists.{sector}
 use Rattle.sector_disk.specs.Disk.{CrashesLeave, SameSink, State, content}
+use Rattle.sector_disk.specs.Space.{AgreesOutside}
 use Rattle.jnl_format.specs.Info.{info_of}
 use Rattle.jnl_format.specs.Keeping.{IsSame}
 use Rattle.jnl_format.specs.Recovery.{Content, header_of_volume, info_sector_of, journal_in, recovery, replayed}
@@ -18,11 +19,12 @@ use Rattle.jnl_replay.specs.Plan.{FitsPlan, IsPlan, journal_of}
 use Rattle.jnl_replay.specs.declared.plan.Plan.{Plan}
 use Rattle.jnl_store.specs.Spaces.{found, found_in, is_in_form, is_mountable}
 use Rattle.jnl_store.proofs.SpacedTime.{same_volume_self}
-use Rattle.hfs_volume.specs.Aside.{IsAside}
+use Rattle.hfs_volume.specs.Aside.{IsAside, IsJournalSector}
 use Rattle.hfs_volume.specs.Content.{JournalPlace, journal_place, volume_of}
 use Rattle.hfs_serving.specs.Outside.{outside_of}
 use Rattle.hfs_serving.specs.Runs.{StandsAs}
 use Rattle.hfs_serving.specs.Stages.{Turns}
+use Rattle.hfs_serving.proofs.Agreeing.{agrees_more}
 use Rattle.hfs_serving.proofs.Bridging.{lifted}
 use Rattle.hfs_serving.proofs.Recoveries.{recovery_parts}
 
@@ -51,12 +53,12 @@ module _ (plan : Plan) (old : Content) (total : ℕ) (fits : FitsPlan total plan
       place_in : Info → JournalPlace
       place_in info = record { offset = info.offset; size = info.size }
 
-  is_aside : (at : ℕ) → (at ≡ plan.info.offset / 512) ⊎ (at ≡ plan.place.info_sector) → IsAside start at
-  is_aside at (inl header) =
+  is_journal : (at : ℕ) → (at ≡ plan.info.offset / 512) ⊎ (at ≡ plan.place.info_sector) → IsJournalSector start at
+  is_journal at (inl header) =
       let offset : (volume_of start).journal.offset ≡ plan.info.offset = ap (λ (j : JournalPlace). j.offset) journal_lies in
       let size : (volume_of start).journal.size ≡ plan.info.size = ap (λ (j : JournalPlace). j.size) journal_lies in
-      inr (inl (omega (arith, header, offset), omega (arith, header, offset, size, fits.least)))
-  is_aside at (inr info) = inr (inr (info ∙ sym start_info))
+      inl (omega (arith, header, offset), omega (arith, header, offset, size, fits.least))
+  is_journal at (inr info) = inr (info ∙ sym start_info)
 
   module _ (image : Content) (stands : StandsForSame plan old image) (same_start : start ≡ replayed (journal_of plan) old) where
     long : length image ≡ length old
@@ -86,12 +88,16 @@ module _ (plan : Plan) (old : Content) (total : ℕ) (fits : FitsPlan total plan
     unfolding found
     found_same = ap (found_in plan image) stands.stands ∙ ap (λ t. cond t stands.recovered []) mountable
 
-    pub found_as : StandsAs start (found plan image)
-    found_as = subst (λ (c : Content). StandsAs start c) (sym found_same) (record {
+    -- what is found is what the image stood for, but in the journal
+    pub found_outside : AgreesOutside (IsJournalSector start) start (found plan image)
+    found_outside = subst (λ (c : Content). AgreesOutside (IsJournalSector start) start c) (sym found_same) (record {
       size = stands.agrees.size ∙ ap (λ (c : Content). length c) (sym same_start);
       each = λ at.
-          ⊎_elim (λ same. inl (same ∙ ap (λ (c : Content). sector c at) (sym same_start))) (λ other. inr (is_aside at other)) (stands.agrees.each at);
+          ⊎_elim (λ same. inl (same ∙ ap (λ (c : Content). sector c at) (sym same_start))) (λ other. inr (is_journal at other)) (stands.agrees.each at);
     })
+
+    pub found_as : StandsAs start (found plan image)
+    found_as = agrees_more (IsJournalSector start) (IsAside start) start (found plan image) (λ s is. inr is) found_outside
 
 pub replay_turns : (plan : Plan) (disk new : State) (total : ℕ) → FitsPlan total plan → IsPlan (content disk) plan → (start : Content) → recovery (content disk) ≡ Ok start → start ≡ replayed (journal_of plan) (content disk)
     → CrashesLeave disk new (StandsForSame plan (content disk)) → SameSink disk new → Turns start start (outside_of plan disk) (outside_of plan new)

@@ -52,6 +52,22 @@ pub record IsReady (plan : Plan) (now : Content) (disk : State) : Type 0 where
   pub version : (header_of_volume (content disk)).last_mounted_version ≡ journaling_version
   pub apart : IsClosed plan 2 → ⊥
 
+-- ---- of any content, sound or not
+
+-- What was found is this content, or it with the version in its header, but in the journal and in its info block.
+abbrev pub StandsMounted : Content → Content → Type 0
+StandsMounted start recovered = AgreesOutside (IsJournalSector start) start recovered ⊎ AgreesOutside (IsJournalSector start) (with_version_set start) recovered
+
+-- The disk is ready for a store, and has this content, whose header had this version, with that of systems that keep the journal, but in the journal and in
+-- its info block. The journal lies where it lay.
+pub record IsMountedFrom (version : ℕ) (start : Content) (ready : Plan) (disk : State) : Type 0 where
+  pub is_ready : IsReady ready (content disk) disk
+  pub agrees : AgreesOutside (IsJournalSector start) (versioned version start) (content disk)
+  pub header : header_of_volume (content disk) ≡ version_header (header_of_volume start)
+  pub journal : (volume_of (content disk)).journal ≡ (volume_of start).journal
+
+-- ---- of a sound content
+
 -- An image was made ready, from the content that it stood for to one that has the version.
 pub record IsMadeReady (start : Content) (ready : Plan) (disk : State) : Type 0 where
   pub now : Content

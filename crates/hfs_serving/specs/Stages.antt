@@ -12,6 +12,12 @@ pub record MayTurn (old new : Content) (before after : Outside) : Type 0 where
   pub leaves : (recovered : Content) → after.leaves recovered → StandsAs old recovered ⊎ StandsAs new recovered
   pub told : after.told ≡ before.told
 
+-- A stage, whatever ended it, of which each crash in it, and at its end, leaves a content of this kind. Nothing is told.
+pub record MayLeave (is_left : Content → Type 0) (before after : Outside) : Type 0 where
+  pub time : TimePasses before.clock after.clock (λ recovered told. is_left recovered × (told ≡ before.told))
+  pub leaves : (recovered : Content) → after.leaves recovered → is_left recovered
+  pub told : after.told ≡ before.told
+
 -- A stage that was made: at its end a crash leaves what it makes, alone.
 pub record Turns (old new : Content) (before after : Outside) : Type 0 where
   pub may : MayTurn old new before after

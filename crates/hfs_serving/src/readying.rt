@@ -6,7 +6,9 @@ ghost use Rattle.jnl_format.specs.Recovery.{Content, journaling_version, recover
 ghost use Rattle.jnl_replay.specs.Plan.{FitsPlan, IsPlan, journal_of};
 ghost use Rattle.jnl_store.specs.Plan.{info_after};
 ghost use Rattle.hfs_volume.specs.Sound.{IsSound};
-ghost use Rattle.hfs_serving.specs.Readying.{IsMadeReady, MayReady, Readies, mounted_plan, version_sector, versioned};
+ghost use Rattle.hfs_serving.specs.Outside.{outside_of};
+ghost use Rattle.hfs_serving.specs.Stages.{MayLeave};
+ghost use Rattle.hfs_serving.specs.Readying.{IsMadeReady, IsMountedFrom, MayReady, Readies, StandsMounted, mounted_plan, version_sector, versioned};
 
 use crate::opening::HEADER;
 use hfs_volume::mount_keeps_the_tree;
@@ -33,6 +35,10 @@ pub fn ready_image<D: SectorDisk>(disk: &mut D, plan: &Plan) -> Result<Plan, Fai
     ensures ready { IsTrue (D.state disk.old).tells → HasNothingPending (D.state disk.old) → (start : Content) → recovery (content (D.state disk.old)) ≡ Ok start → start ≡ replayed (journal_of plan.now) (content (D.state disk.old)) → IsSound start
         → IfOk result (λ ready. Readies plan.now start ready (D.state disk.old) (D.state disk.new)) }
     ensures made { IsTrue (D.state disk.old).tells → (start : Content) → recovery (content (D.state disk.old)) ≡ Ok start → start ≡ replayed (journal_of plan.now) (content (D.state disk.old)) → IsSound start → IfOk result (λ ready. IsMadeReady start ready (D.state disk.new)) }
+    // Of any content, sound or not: a crash leaves it, maybe with the version in its header, but in the journal and in its info block.
+    ensures leaves { IsTrue (D.state disk.old).tells → HasNothingPending (D.state disk.old) → (start : Content) → recovery (content (D.state disk.old)) ≡ Ok start → start ≡ replayed (journal_of plan.now) (content (D.state disk.old))
+        → MayLeave (StandsMounted start) (outside_of plan.now (D.state disk.old)) (outside_of plan.now (D.state disk.new)) }
+    ensures mounted { IsTrue (D.state disk.old).tells → (start : Content) → recovery (content (D.state disk.old)) ≡ Ok start → start ≡ replayed (journal_of plan.now) (content (D.state disk.old)) → IfOk result (λ ready. IsMountedFrom plan.now.place.last_mounted start ready (D.state disk.new)) }
     ensures plan { IfOk result (λ ready. ready ≡ mounted_plan plan.now) }
     ensures fits { IfOk result (FitsPlan (D.state disk.new).sectors) }
     ensures same { SameDisk (D.state disk.old) (D.state disk.new) }

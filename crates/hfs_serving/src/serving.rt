@@ -169,8 +169,12 @@ fn serve_ready<V: Volume, R: Rig, W: Watcher, S: Source>(
     run(alloc, &mut volume, &mut base, watchers, source)
 }
 
-// The store of a disk that is ready with this plan, with the memory for one transaction.
-fn attach_store<D: SectorDisk>(alloc: Global, plan: &Plan, cache: u32) -> Result<Store, OutOfMemory>
+/// The store of a disk that is ready with this plan, with the memory for one transaction.
+pub fn attach_store<D: SectorDisk>(
+    alloc: Global,
+    plan: &Plan,
+    cache: u32,
+) -> Result<Store, OutOfMemory>
     requires fits { (sectors : ℕ) × FitsPlan sectors plan.now }
     ensures { (disk : D) → FitsPlan (D.state disk).sectors plan.now → IfOk result (λ store. IsAttached store plan.now (D.state disk)) }
 {

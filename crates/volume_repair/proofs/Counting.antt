@@ -113,33 +113,34 @@ no_thread_of_file (Folder folder) is = false_is_true is
 no_thread_of_file (File file) is = refl
 no_thread_of_file (Thread thread) is = false_is_true is
 
+-- the value of a pair of a sound volume's catalog
+pub value_is : (volume : VolumeState) → IsSoundVolume volume → (pair : Pair) → AreBytes pair.1 → Contains volume.catalog_pairs pair → value_recounted (records_of volume) (placed_of pair) pair.1 ≡ pair.1
+unfolding placed_of
+value_is volume sound pair bytes stands = value_stays (records_of volume) (placed_of pair) pair.1 bytes
+    (each_of (λ (p : Pair). IsTrue (is_catalog p.1)) volume.catalog_pairs sound.entries.threads.spelled pair stands)
+    refl valence links shared
+  where
+    there : Contains (records_of volume) (placed_of pair)
+    there = map_stands placed_of volume.catalog_pairs pair stands
+
+    kind : is_thread (placed_of pair).value ≡ is_empty (placed_of pair).name
+    kind = each_of (λ (p : Placed). is_thread p.value ≡ is_empty p.name) (records_of volume) sound.entries.threads.kinds (placed_of pair) there
+
+    valence : is_folder (placed_of pair).value ≡ true → valence_in (placed_of pair).value ≡ count_in (entries_of (records_of volume)) (id_of (placed_of pair))
+    valence folder = each_of (λ (p : Placed). is_folder p.value ≡ true → valence_in p.value ≡ count_in (entries_of (records_of volume)) (id_of p)) (entries_of (records_of volume)) sound.entries.counts.valences (placed_of pair)
+        (is_entry (records_of volume) (placed_of pair) there (sym kind ∙ no_thread (placed_of pair).value folder)) folder
+
+    shared : is_shared_file (records_of volume) (reference_of (placed_of pair)) (placed_of pair) ≡ true → is_file (placed_of pair).value ≡ true
+    shared is = shared_is_file (records_of volume) (reference_of (placed_of pair)) (placed_of pair) is
+
+    links : is_shared_file (records_of volume) (reference_of (placed_of pair)) (placed_of pair) ≡ true → special_of (placed_of pair) ≡ length (links_to (records_of volume) (reference_of (placed_of pair)))
+    links is = sound.links.counts (reference_of (placed_of pair)) (placed_of pair)
+        (is_entry (records_of volume) (placed_of pair) there (sym kind ∙ no_thread_of_file (placed_of pair).value (shared is))) is
+
 -- the pairs of a sound volume's catalog
 pairs_stay : (volume : VolumeState) → HasByteValues volume → IsSoundVolume volume → map (pair_recounted (records_of volume)) volume.catalog_pairs ≡ volume.catalog_pairs
-unfolding placed_of
-pairs_stay volume bytes sound = map_same (pair_recounted (records_of volume)) volume.catalog_pairs each
-  where
-    each : (pair : Pair) → Contains volume.catalog_pairs pair → pair_recounted (records_of volume) pair ≡ pair
-    each pair stands = ap (λ (value : List ℕ). (pair.0, value)) (value_stays (records_of volume) (placed_of pair) pair.1
-        (each_of (λ (p : Pair). AreBytes p.1) volume.catalog_pairs bytes pair stands)
-        (each_of (λ (p : Pair). IsTrue (is_catalog p.1)) volume.catalog_pairs sound.entries.threads.spelled pair stands)
-        refl valence links shared)
-      where
-        there : Contains (records_of volume) (placed_of pair)
-        there = map_stands placed_of volume.catalog_pairs pair stands
-
-        kind : is_thread (placed_of pair).value ≡ is_empty (placed_of pair).name
-        kind = each_of (λ (p : Placed). is_thread p.value ≡ is_empty p.name) (records_of volume) sound.entries.threads.kinds (placed_of pair) there
-
-        valence : is_folder (placed_of pair).value ≡ true → valence_in (placed_of pair).value ≡ count_in (entries_of (records_of volume)) (id_of (placed_of pair))
-        valence folder = each_of (λ (p : Placed). is_folder p.value ≡ true → valence_in p.value ≡ count_in (entries_of (records_of volume)) (id_of p)) (entries_of (records_of volume)) sound.entries.counts.valences (placed_of pair)
-            (is_entry (records_of volume) (placed_of pair) there (sym kind ∙ no_thread (placed_of pair).value folder)) folder
-
-        shared : is_shared_file (records_of volume) (reference_of (placed_of pair)) (placed_of pair) ≡ true → is_file (placed_of pair).value ≡ true
-        shared is = shared_is_file (records_of volume) (reference_of (placed_of pair)) (placed_of pair) is
-
-        links : is_shared_file (records_of volume) (reference_of (placed_of pair)) (placed_of pair) ≡ true → special_of (placed_of pair) ≡ length (links_to (records_of volume) (reference_of (placed_of pair)))
-        links is = sound.links.counts (reference_of (placed_of pair)) (placed_of pair)
-            (is_entry (records_of volume) (placed_of pair) there (sym kind ∙ no_thread_of_file (placed_of pair).value (shared is))) is
+pairs_stay volume bytes sound = map_same (pair_recounted (records_of volume)) volume.catalog_pairs
+    (λ pair stands. ap (λ (value : List ℕ). (pair.0, value)) (value_is volume sound pair (each_of (λ (p : Pair). AreBytes p.1) volume.catalog_pairs bytes pair stands) stands))
 
 -- ---- the header and the bits
 
@@ -166,7 +167,7 @@ agreement head alternate is = rw (
 alternate_stays : (volume : VolumeState) → IsSoundVolume volume → alternate_mended volume ≡ volume.alternate
 alternate_stays volume sound = ap (λ b. if b then volume.alternate else header_recounted volume) (agreement volume.head volume.alternate sound.blocks.alternate)
 
-bit_stays : (volume : VolumeState) → IsSoundVolume volume → (k : ℕ) → is_bit_wanted volume k ≡ is_set volume k
+pub bit_stays : (volume : VolumeState) → IsSoundVolume volume → (k : ℕ) → is_bit_wanted volume k ≡ is_set volume k
 bit_stays volume sound k = ⊎_elim
     (λ (inside : k < volume.head.total_blocks). ap (λ b. b && is_among (used_in volume) k) (true_below k volume.head.total_blocks inside) ∙ sym (sound.blocks.bits.bits k inside))
     (λ (past : volume.head.total_blocks ≤ k). ap (λ b. b && is_among (used_in volume) k) (not_below k volume.head.total_blocks past) ∙ sym (sound.blocks.files.no_more k past))

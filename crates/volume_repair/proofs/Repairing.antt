@@ -1,9 +1,9 @@
 -- The repair of a content: there is one; a sound content has one that counts, and its header stays.
-use Rattle.std.proofs.Common.{◌≡◌, ℕ, ◌+◌, ◌≤◌, ◌==◌, List, [], map, ext_get_or, length, inl, inr, refl, sym, ◌∙◌, ap, arith, not}
+use Rattle.std.proofs.Common.{◌≡◌, ℕ, ◌+◌, ◌≤◌, ◌==◌, List, length, inl, inr, refl, sym, ◌∙◌, ap, arith, not}
 use Rattle.std.specs.Prelude.{Contains}
-use Rattle.std.specs.List.{flat_map, range_with_len}
+use Rattle.std.specs.List.{flat_map}
 use Rattle.std.proofs.lemmas.List.Elements.{Contains-append_cases}
-use Rattle.std.proofs.lemmas.List.FromFn.{length-map-range_with_len, get_or-map-range_with_len}
+use Rattle.std.proofs.lemmas.List.FromFn.{length-map-range_with_len}
 use Rattle.hx_bytes.specs.declared.extents.Extent.{Extent}
 use Rattle.volume_header.specs.declared.header.VolumeHeader.{VolumeHeader}
 use Rattle.jnl_format.specs.Recovery.{sector, header_of_volume}
@@ -16,7 +16,7 @@ use Rattle.hfs_volume.proofs.Members.{all_of, each_of, kept_cases}
 use Rattle.hfs_volume.proofs.EntryWants.{flat_cases}
 use Rattle.volume_repair.specs.Recount.{with_word, header_recounted}
 use Rattle.volume_repair.specs.Repair.{mended, sector_mended, blocks_written}
-use Rattle.volume_repair.specs.RepairLaws.{RepairIsOne, RepairKeepsSize, SoundIsMendable, SoundIsOwnRepair, SoundKeepsHeader}
+use Rattle.volume_repair.specs.RepairLaws.{RepairIsOne, RepairKeepsSize, SoundIsMendable, SoundKeepsHeader}
 use Rattle.volume_repair.proofs.Counting.{word_stays, header_stays}
 
 pub one_repair : RepairIsOne
@@ -93,14 +93,3 @@ keeps_header content bytes long sound =
 
     stays : head ≡ header_of_volume content
     stays = header_stays (volume_of content) sound.volume
-
-pub own : SoundIsOwnRepair
-unfolding mended
-own content sound same = inl (
-  mendable content sound,
-  ext_get_or [] content (map (sector_mended content) (range_with_len 0 (length content))) (sym long)
-      (λ k inside. sym (get_or-map-range_with_len (sector_mended content) 0 (length content) k k [] inside (omega arith) ∙ same k inside)),
-)
-  where
-    long : length (map (sector_mended content) (range_with_len 0 (length content))) ≡ length content
-    long = length-map-range_with_len (sector_mended content) 0 (length content)

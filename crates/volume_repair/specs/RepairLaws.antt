@@ -5,7 +5,8 @@ use Rattle.flag_rows.specs.Bits.{bit_of}
 use Rattle.jnl_format.specs.Recovery.{Content, sector}
 use Rattle.hfs_volume.specs.Findings.{HasBytes}
 use Rattle.hfs_volume.specs.Sound.{IsSound}
-use Rattle.volume_repair.specs.Repair.{IsMendable, IsRepair, sector_mended, header_mended, byte_of_bits, leaf_mended}
+use Rattle.volume_repair.specs.Differing.{differing}
+use Rattle.volume_repair.specs.Repair.{IsMendable, IsRepair, header_mended, byte_of_bits, leaf_mended}
 use Rattle.volume_repair.specs.Recount.{value_recounted}
 use Rattle.btree_node.specs.Node.{IsNode, offset, record_count}
 use Rattle.btree_node.specs.Levels.{value_of, pair_of}
@@ -27,9 +28,13 @@ SoundIsMendable = (content : Content) → IsSound content → IsMendable content
 abbrev pub SoundKeepsHeader : Type 0
 SoundKeepsHeader = (content : Content) → HasBytes content → length (sector content 2) ≡ 512 → IsSound content → header_mended content ≡ sector content 2
 
--- A sound content whose sectors count right already is its own repair.
+-- the sectors of a content have 512 bytes
+abbrev pub HasWholeSectors : Content → Type 0
+HasWholeSectors content = (at : ℕ) → at < length content → length (sector content at) ≡ 512
+
+-- A sound content of bytes is its own repair, which differs in no sector. So where a repair is sound, a second one changes nothing.
 abbrev pub SoundIsOwnRepair : Type 0
-SoundIsOwnRepair = (content : Content) → IsSound content → ((at : ℕ) → at < length content → sector_mended content at ≡ sector content at) → IsRepair content content
+SoundIsOwnRepair = (content other : Content) → HasBytes content → HasWholeSectors content → IsSound content → IsRepair content other → (other ≡ content) × (differing content other ≡ 0)
 
 -- A byte of the allocation file is the byte of its bits.
 abbrev pub BytesAreBits : Type 0

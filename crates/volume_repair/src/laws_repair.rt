@@ -21,7 +21,7 @@ pub fn sound_keeps_header()
     ensures { SoundKeepsHeader }
 {}
 
-/// A sound content whose sectors count right already is its own repair.
+/// A sound content is its own repair.
 pub fn sound_is_own_repair()
     ensures { SoundIsOwnRepair }
 {}

@@ -16,7 +16,7 @@ pub returns-then-start-sweep-clause-swept : goal.returns-then-start-sweep-clause
 returns-then-start-sweep-clause-swept c total last front first swept behind room =
     let from_is : c.max-from.result ≡ max c.args.extent.start c.args.sweep.end = c.max-from.ensures in
     let sets : (k : ℕ) → max c.args.extent.start c.args.sweep.end ≤ k → k < c.args.extent.start + c.args.extent.count → k < length c.args.used.now → get_or c.mark_stretch.new.used k false ≡ true =
-    λ k low high within. c.mark_stretch.ensures.sets (λ n from. fresh total (blocks_of c.args.extents.now) front first c.args.used.now c.args.out.now c.args.sweep last c.args.extent swept behind room n (omega (arith, from, from_is))) k (omega (arith, low, from_is)) high within in
+    λ k low high within. c.in_ok-mark_stretch.ensures.sets (λ n from. fresh total (blocks_of c.args.extents.now) front first c.args.used.now c.args.out.now c.args.sweep last c.args.extent swept behind room n (omega (arith, from, from_is))) k (omega (arith, low, from_is)) high within in
     let keeps : (k : ℕ) → (k < max c.args.extent.start c.args.sweep.end) ⊎ (c.args.extent.start + c.args.extent.count ≤ k) → get_or c.mark_stretch.new.used k false ≡ get_or c.args.used.now k false =
     λ k out. c.mark_stretch.ensures.keeps k (subst (λ n. (k < n) ⊎ (c.args.extent.start + c.args.extent.count ≤ k)) (sym from_is) out) in
     subst (λ n. HasSwept total (blocks_of c.args.extents.now) (front ++ range_with_len c.args.extent.start c.args.extent.count) first c.mark_stretch.new.used c.args.out.now (record { end = n; told = c.args.sweep.told; met = c.args.sweep.met }) c.args.extent.start) (sym c.max-end.ensures)
@@ -27,7 +27,7 @@ returns-then-sweep-start-clause-swept c total last front first swept behind room
     let unmet : c.args.sweep.met ≡ false = no_then c.args.sweep.met c.if-not-sweep.true in
     let from_is : c.max-from.result ≡ max c.args.extent.start c.args.sweep.end = c.max-from.ensures in
     let sets : (k : ℕ) → max c.args.extent.start c.args.sweep.end ≤ k → k < c.args.extent.start + c.args.extent.count → k < length c.args.used.now → get_or c.mark_stretch.new.used k false ≡ true =
-    λ k low high within. c.mark_stretch.ensures.sets (λ n from. fresh total (blocks_of c.args.extents.now) front first c.args.used.now c.args.out.now c.args.sweep last c.args.extent swept behind room n (omega (arith, from, from_is))) k (omega (arith, low, from_is)) high within in
+    λ k low high within. c.in_ok-mark_stretch.ensures.sets (λ n from. fresh total (blocks_of c.args.extents.now) front first c.args.used.now c.args.out.now c.args.sweep last c.args.extent swept behind room n (omega (arith, from, from_is))) k (omega (arith, low, from_is)) high within in
     let keeps : (k : ℕ) → (k < max c.args.extent.start c.args.sweep.end) ⊎ (c.args.extent.start + c.args.extent.count ≤ k) → get_or c.mark_stretch.new.used k false ≡ get_or c.args.used.now k false =
     λ k out. c.mark_stretch.ensures.keeps k (subst (λ n. (k < n) ⊎ (c.args.extent.start + c.args.extent.count ≤ k)) (sym from_is) out) in
     subst (λ n. HasSwept total (blocks_of c.args.extents.now) (front ++ range_with_len c.args.extent.start c.args.extent.count) first c.mark_stretch.new.used c.args.out.now (record { end = n; told = c.args.sweep.told; met = c.args.sweep.met }) c.args.extent.start) (sym c.max-end.ensures)
@@ -38,7 +38,7 @@ pub returns-in_err-tell_use-clause-each : goal.returns-in_err-tell_use-clause-ea
 returns-in_err-tell_use-clause-each c total last front first swept behind room =
     let from_is : c.max-from.result ≡ max c.args.extent.start c.args.sweep.end = c.max-from.ensures in
     let sets : (k : ℕ) → max c.args.extent.start c.args.sweep.end ≤ k → k < c.args.extent.start + c.args.extent.count → k < length c.args.used.now → get_or c.mark_stretch.new.used k false ≡ true =
-    λ k low high within. c.mark_stretch.ensures.sets (λ n from. fresh total (blocks_of c.args.extents.now) front first c.args.used.now c.args.out.now c.args.sweep last c.args.extent swept behind room n (omega (arith, from, from_is))) k (omega (arith, low, from_is)) high within in
+    λ k low high within. c.in_ok-mark_stretch.ensures.sets (λ n from. fresh total (blocks_of c.args.extents.now) front first c.args.used.now c.args.out.now c.args.sweep last c.args.extent swept behind room n (omega (arith, from, from_is))) k (omega (arith, low, from_is)) high within in
     let keeps : (k : ℕ) → (k < max c.args.extent.start c.args.sweep.end) ⊎ (c.args.extent.start + c.args.extent.count ≤ k) → get_or c.mark_stretch.new.used k false ≡ get_or c.args.used.now k false =
     λ k out. c.mark_stretch.ensures.keeps k (subst (λ n. (k < n) ⊎ (c.args.extent.start + c.args.extent.count ≤ k)) (sym from_is) out) in
     tells_more total (blocks_of c.args.extents.now) front first c.args.used.now c.args.out.now c.args.sweep last c.args.extent swept behind room c.mark_stretch.new.used c.mark_stretch.ensures.long sets keeps c.tell_use.new.out (omega (arith, c.if-extent-eq0.false)) (omega (arith, c.if-start-sweep.false)) c.tell_use.ensures.each
@@ -47,7 +47,7 @@ pub returns-clause-swept : goal.returns-clause-swept
 returns-clause-swept c total last front first swept behind room =
     let from_is : c.max-from.result ≡ max c.args.extent.start c.args.sweep.end = c.max-from.ensures in
     let sets : (k : ℕ) → max c.args.extent.start c.args.sweep.end ≤ k → k < c.args.extent.start + c.args.extent.count → k < length c.args.used.now → get_or c.mark_stretch.new.used k false ≡ true =
-    λ k low high within. c.mark_stretch.ensures.sets (λ n from. fresh total (blocks_of c.args.extents.now) front first c.args.used.now c.args.out.now c.args.sweep last c.args.extent swept behind room n (omega (arith, from, from_is))) k (omega (arith, low, from_is)) high within in
+    λ k low high within. c.in_ok-mark_stretch.ensures.sets (λ n from. fresh total (blocks_of c.args.extents.now) front first c.args.used.now c.args.out.now c.args.sweep last c.args.extent swept behind room n (omega (arith, from, from_is))) k (omega (arith, low, from_is)) high within in
     let keeps : (k : ℕ) → (k < max c.args.extent.start c.args.sweep.end) ⊎ (c.args.extent.start + c.args.extent.count ≤ k) → get_or c.mark_stretch.new.used k false ≡ get_or c.args.used.now k false =
     λ k out. c.mark_stretch.ensures.keeps k (subst (λ n. (k < n) ⊎ (c.args.extent.start + c.args.extent.count ≤ k)) (sym from_is) out) in
     subst (λ n. HasSwept total (blocks_of c.args.extents.now) (front ++ range_with_len c.args.extent.start c.args.extent.count) first c.mark_stretch.new.used c.tell_use.new.out (record { end = n; told = c.args.extent.start; met = false }) c.args.extent.start) (sym c.max-end.ensures)
@@ -59,7 +59,7 @@ pub returns-clause-each : goal.returns-clause-each
 returns-clause-each c total last front first swept behind room =
     let from_is : c.max-from.result ≡ max c.args.extent.start c.args.sweep.end = c.max-from.ensures in
     let sets : (k : ℕ) → max c.args.extent.start c.args.sweep.end ≤ k → k < c.args.extent.start + c.args.extent.count → k < length c.args.used.now → get_or c.mark_stretch.new.used k false ≡ true =
-    λ k low high within. c.mark_stretch.ensures.sets (λ n from. fresh total (blocks_of c.args.extents.now) front first c.args.used.now c.args.out.now c.args.sweep last c.args.extent swept behind room n (omega (arith, from, from_is))) k (omega (arith, low, from_is)) high within in
+    λ k low high within. c.in_ok-mark_stretch.ensures.sets (λ n from. fresh total (blocks_of c.args.extents.now) front first c.args.used.now c.args.out.now c.args.sweep last c.args.extent swept behind room n (omega (arith, from, from_is))) k (omega (arith, low, from_is)) high within in
     let keeps : (k : ℕ) → (k < max c.args.extent.start c.args.sweep.end) ⊎ (c.args.extent.start + c.args.extent.count ≤ k) → get_or c.mark_stretch.new.used k false ≡ get_or c.args.used.now k false =
     λ k out. c.mark_stretch.ensures.keeps k (subst (λ n. (k < n) ⊎ (c.args.extent.start + c.args.extent.count ≤ k)) (sym from_is) out) in
     tells_more total (blocks_of c.args.extents.now) front first c.args.used.now c.args.out.now c.args.sweep last c.args.extent swept behind room c.mark_stretch.new.used c.mark_stretch.ensures.long sets keeps c.tell_use.new.out (omega (arith, c.if-extent-eq0.false)) (omega (arith, c.if-start-sweep.false)) c.tell_use.ensures.each

@@ -23,8 +23,8 @@ returns-clause-taken g c tells marked =
     let is : c.read_node.new.into ≡ node = c.in_ok-read_node.ensures.value tells in
     record {
       is = subst IsHeaderNode is (c.in_ok-is_header.ensures.is.0 c.if-not-is_header.false);
-      clear = not_true (get_or c.args.marks.now 0 true) (sym marked ∙ c.mark.ensures.could);
-      marked = c.mark.ensures.marks ∙ ap (λ b. if b then set c.args.marks.now 0 true else c.args.marks.now) marked;
+      clear = not_true (get_or c.args.marks.now 0 true) (sym marked ∙ c.in_ok-taken.ensures.could);
+      marked = c.in_ok-taken.ensures.marks ∙ ap (λ b. if b then set c.args.marks.now 0 true else c.args.marks.now) marked;
       bits_are =
           c.in_ok-is_header.ensures.bits c.if-not-is_header.false ∙ ap (λ (l : List ℕ). l ++ slice_range c.read_node.new.into 248 (length c.read_node.new.into - 8)) c.requires.no_bit
           ∙ ap (λ n. slice_range c.read_node.new.into 248 (n - 8)) c.read_node.ensures.length ∙ ap (λ (l : List ℕ). slice_range l 248 (length c.args.node.now - 8)) is;
@@ -32,4 +32,4 @@ returns-clause-taken g c tells marked =
     }
 
 pub returns-clause-refused : goal.returns-clause-refused
-returns-clause-refused g c tells not header = not_false (get_or c.args.marks.now 0 true) (sym not ∙ c.mark.ensures.could)
+returns-clause-refused g c tells not header = not_false (get_or c.args.marks.now 0 true) (sym not ∙ c.in_ok-taken.ensures.could)

@@ -26,8 +26,8 @@ returns-clause-taken g c tells marked =
     let map = c.in_ok-is_map.ensures.is.0 c.if-not-is_map.false in
     record {
       is = (c.if-n-total.false, subst (λ (l : List ℕ). IsNodeOf (pos 2) 0 l) is map.0, subst (λ (l : List ℕ). 0 < record_count l) is map.1);
-      clear = not_true (get_or c.args.marks.now c.args.n true) (sym marked ∙ c.mark.ensures.could);
-      marked = c.mark.ensures.marks ∙ ap (λ b. if b then set c.args.marks.now c.args.n true else c.args.marks.now) marked;
+      clear = not_true (get_or c.args.marks.now c.args.n true) (sym marked ∙ c.in_ok-taken.ensures.could);
+      marked = c.in_ok-taken.ensures.marks ∙ ap (λ b. if b then set c.args.marks.now c.args.n true else c.args.marks.now) marked;
       bits_are = c.in_ok-is_map.ensures.bits c.if-not-is_map.false ∙ ap (λ (l : List ℕ). c.args.bits.now.items ++ map_record l) is;
       node_is = is;
     }
@@ -38,4 +38,4 @@ returns-clause-refused g c tells not =
     let node : List ℕ = node_of_fork old.content c.args.fork.now.limit (fork_sectors c.args.fork.now.extents.now c.args.fork.now.per_block) (length c.args.node.now) c.args.n in
     let is : c.read_node.new.into ≡ node = c.in_ok-read_node.ensures.value tells in
     let map = c.in_ok-is_map.ensures.is.0 c.if-not-is_map.false in
-    inr (not_false (get_or c.args.marks.now c.args.n true) (sym not ∙ c.mark.ensures.could), (c.if-n-total.false, subst (λ (l : List ℕ). IsNodeOf (pos 2) 0 l) is map.0, subst (λ (l : List ℕ). 0 < record_count l) is map.1))
+    inr (not_false (get_or c.args.marks.now c.args.n true) (sym not ∙ c.in_ok-taken.ensures.could), (c.if-n-total.false, subst (λ (l : List ℕ). IsNodeOf (pos 2) 0 l) is map.0, subst (λ (l : List ℕ). 0 < record_count l) is map.1))

@@ -16,10 +16,10 @@ use Rattle.fsck_scan.proofs.MarkLaws.{not_true, not_false}
 use Rattle.fsck_scan.proofs.TreeSteps.{root_taken, root_broken, root_wrong}
 use Rattle.fsck_scan.proofs.tree.take_root.Goals as goal
 
-pub returns-then-not-mark-clause-wrong : goal.returns-then-not-mark-clause-wrong
-returns-then-not-mark-clause-wrong g c tree at =
-    subst (λ (f : Finding). IsBrokenTree (form_in c.args.form.now) g.K.KeyOrder.is_key g.K.KeyOrder.is_value g.K.KeyOrder.cmp c.args.form.now.id tree f) (sym c.failed-then-not-mark.ensures)
-    (root_broken (form_in c.args.form.now) g.K.KeyOrder.is_key g.K.KeyOrder.is_value g.K.KeyOrder.cmp c.args.form.now.id tree (length c.args.node.now) c.args.total c.args.height c.args.root c.args.marks.now c.args.node.now at (inr (not_false (get_or c.args.marks.now c.args.root true) (sym c.if-not-mark.true ∙ c.mark.ensures.could))))
+pub returns-then-not-taken-clause-wrong : goal.returns-then-not-taken-clause-wrong
+returns-then-not-taken-clause-wrong g c tree at =
+    subst (λ (f : Finding). IsBrokenTree (form_in c.args.form.now) g.K.KeyOrder.is_key g.K.KeyOrder.is_value g.K.KeyOrder.cmp c.args.form.now.id tree f) (sym c.failed-then-not-taken.ensures)
+    (root_broken (form_in c.args.form.now) g.K.KeyOrder.is_key g.K.KeyOrder.is_value g.K.KeyOrder.cmp c.args.form.now.id tree (length c.args.node.now) c.args.total c.args.height c.args.root c.args.marks.now c.args.node.now at (inr (not_false (get_or c.args.marks.now c.args.root true) (sym c.if-not-taken.true ∙ c.in_ok-taken.ensures.could))))
 
 pub returns-in-Some-clause-wrong : goal.returns-in-Some-clause-wrong
 returns-in-Some-clause-wrong g c tree at =
@@ -43,8 +43,8 @@ returns-clause-right g c tree at =
     none_is c.in_ok-fault.field-0 (IsRight g.K.KeyOrder.is_key g.K.KeyOrder.is_value g.K.KeyOrder.cmp (record { most = length c.bytes.result.now / 2 - 10; height = c.args.height; next = 0; back = 0 }) c.new-names.result 0 c.args.node.now c.args.level.now.records c.look_at.new.records) c.in_default.is c.in_ok-fault.ensures.right in
     subst (λ (l : List ℕ). StandsAt g.K.KeyOrder.is_key g.K.KeyOrder.is_value g.K.KeyOrder.cmp tree 0 c.mark.new.self l c.look_at.new.records c.push_end.new.ends.items) (sym nodes_are)
     (subst (λ (l : List ℕ). StandsAt g.K.KeyOrder.is_key g.K.KeyOrder.is_value g.K.KeyOrder.cmp tree 0 c.mark.new.self (root ∷ []) c.look_at.new.records l) (sym ends_are)
-    (root_taken (form_in c.args.form.now) g.K.KeyOrder.is_key g.K.KeyOrder.is_value g.K.KeyOrder.cmp c.args.form.now.id tree (length c.args.node.now) c.args.total c.args.height c.args.root c.args.marks.now c.args.node.now at c.mark.new.self c.look_at.new.records c.if-root-total.false (not_true (get_or c.args.marks.now root true) (sym c.if-not-mark.false ∙ c.mark.ensures.could))
-    (c.mark.ensures.marks ∙ ap (λ b. if b then set c.args.marks.now root true else c.args.marks.now) c.if-not-mark.false)
+    (root_taken (form_in c.args.form.now) g.K.KeyOrder.is_key g.K.KeyOrder.is_value g.K.KeyOrder.cmp c.args.form.now.id tree (length c.args.node.now) c.args.total c.args.height c.args.root c.args.marks.now c.args.node.now at c.mark.new.self c.look_at.new.records c.if-root-total.false (not_true (get_or c.args.marks.now root true) (sym c.if-not-taken.false ∙ c.in_ok-taken.ensures.could))
+    (c.in_ok-taken.ensures.marks ∙ ap (λ b. if b then set c.args.marks.now root true else c.args.marks.now) c.if-not-taken.false)
     (subst (λ (l : List (List ℕ)). IsRight g.K.KeyOrder.is_key g.K.KeyOrder.is_value g.K.KeyOrder.cmp (place_in (length c.args.node.now / 2 - 10) c.args.height (root ∷ []) 0) [] 0 c.args.node.now l c.look_at.new.records) c.requires.no_record
     (subst (λ (l : List (List ℕ)). IsRight g.K.KeyOrder.is_key g.K.KeyOrder.is_value g.K.KeyOrder.cmp (place_in (length c.args.node.now / 2 - 10) c.args.height (root ∷ []) 0) l 0 c.args.node.now c.args.level.now.records c.look_at.new.records) c.new-names.ensures
     (subst (λ (b : List ℕ). IsRight g.K.KeyOrder.is_key g.K.KeyOrder.is_value g.K.KeyOrder.cmp (place_in (length b / 2 - 10) c.args.height (root ∷ []) 0) c.new-names.result 0 c.args.node.now c.args.level.now.records c.look_at.new.records) c.bytes.ensures.value right)))))
