@@ -1,14 +1,12 @@
 -- What is found of an image that is to be repaired.
-use Rattle.std.proofs.Common.{◌≡◌, ◌<◌, ◌≤◌, ◌++◌, ℕ, Bool, true, false, List, length, refl, sym, ◌∙◌, ap, subst, arith, cond}
-use Rattle.std.specs.Prelude.{◌↔◌, Contains, IfErr, IfOk, IsTrue, Result, Ok, Err, nat_lt}
-use Rattle.std.proofs.lemmas.Bool.{cases_lt, ltb-true, ltb-false}
+use Rattle.std.proofs.Common.{◌≡◌, ℕ, Bool, true, false, refl, sym, subst, cond}
+use Rattle.std.specs.Prelude.{◌↔◌, IfErr, IfOk, IsTrue, Ok, Err, nat_lt}
+use Rattle.std.proofs.lemmas.Bool.{ltb-true}
 use Rattle.jnl_format.specs.Recovery.{Content, replayed}
 use Rattle.jnl_replay.specs.Plan.{journal_of}
 use Rattle.jnl_replay.specs.declared.plan.Plan.{Plan}
 use Rattle.volume_repair.specs.Differing.{differing}
 use Rattle.volume_repair.specs.Repair.{IsRepair}
-use Rattle.fsck_list.specs.declared.finding.Finding.{Finding}
-use Rattle.fsck_core.specs.Verdicts.{findings_in, is_clean}
 use Rattle.fsck_core.specs.declared.checking.Verdict.{Verdict}
 use Rattle.fsck_core.specs.declared.checking.Verdict.TheVariants as verdict
 use Rattle.hfs_serving.specs.Checking.{FoldsFirst}

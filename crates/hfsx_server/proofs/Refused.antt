@@ -1,6 +1,5 @@
 -- An image that a repair refuses can't be repaired.
-use Rattle.std.proofs.Common.{◌≡◌, ◌<◌, ◌≤◌, ℕ, inl, inr, sym, ◌∙◌, ap, subst, arith}
-use Rattle.std.specs.Prelude.{Ok}
+use Rattle.std.proofs.Common.{◌≡◌, ℕ, inl, inr, sym, ◌∙◌, ap, subst, arith}
 use Rattle.jnl_format.specs.Recovery.{Content, Journal, replayed}
 use Rattle.jnl_replay.specs.Plan.{journal_of}
 use Rattle.jnl_store.specs.Plan.{form_of, span_of}
@@ -8,7 +7,6 @@ use Rattle.hfs_volume.specs.Mount.{FoldsCase, HoldsAtMost}
 use Rattle.hfs_volume.specs.Sound.{IsSound}
 use Rattle.volume_repair.specs.Differing.{differing}
 use Rattle.volume_repair.specs.Repair.{IsRepair}
-use Rattle.hfs_serving.specs.Opening.{Opens}
 use Rattle.hfs_serving.specs.Refusing.{RefusesImage}
 use Rattle.hfs_serving.specs.declared.opening.OpenRefusal.{OpenRefusal}
 use Rattle.hfs_serving.specs.declared.opening.OpenRefusal.TheVariants as opening

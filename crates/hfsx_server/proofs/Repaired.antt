@@ -1,6 +1,5 @@
 -- What crashes leave of an image while it is repaired, and what stands at the end.
-use Rattle.std.proofs.Common.{◌≡◌, ◌≢◌, ◌⊎◌, ◌<◌, ◌≤◌, ◌++◌, ℕ, List, [], inl, inr, ⊎_elim, length, refl, sym, ◌∙◌, ap, subst, arith}
-use Rattle.std.specs.Prelude.{Ok}
+use Rattle.std.proofs.Common.{◌≡◌, ◌≢◌, ◌≤◌, ◌++◌, ℕ, List, [], inl, inr, ⊎_elim, refl, sym, ◌∙◌, ap, subst, arith}
 use Rattle.std.proofs.lemmas.Bool.{cases_lt}
 use Rattle.std.proofs.lemmas.List.{append-nil, append_cancel_left}
 use Rattle.hx_bytes.specs.declared.faults.Trouble.{Trouble}
@@ -8,7 +7,7 @@ use Rattle.hx_bytes.specs.declared.faults.Trouble.TheVariants as trouble
 use Rattle.sector_disk.specs.Clock.{TimePasses}
 use Rattle.sector_disk.specs.Disk.{Candidates, HasNothingPending, IsImage, LeftNow, OnlyReads, State, ToldPrefix, content, content_of, only}
 use Rattle.sector_disk.proofs.Stages.{image_only}
-use Rattle.jnl_format.specs.Recovery.{Content, Journal, header_of_volume, journaling_version}
+use Rattle.jnl_format.specs.Recovery.{Content, Journal, header_of_volume}
 use Rattle.jnl_replay.specs.declared.plan.Plan.{Plan}
 use Rattle.jnl_store.specs.Spaces.{found}
 use Rattle.hfs_volume.specs.Aside.{IsJournalSector}

@@ -1,10 +1,9 @@
 -- A store that was attached to an image made ready shows its content as it is mounted.
-use Rattle.std.proofs.Common.{◌≡◌, ◌≢◌, ◌⊎◌, ◌<◌, ◌≤◌, ◌+◌, ◌/◌, ◌*◌, ◌==◌, ◌&&◌, ◌||◌, ℕ, Bool, true, false, List, [], ◌∷◌, inl, inr, ⊎_elim, length, refl, sym, ◌∙◌, ap, subst, arith, eqb, cond}
+use Rattle.std.proofs.Common.{◌≡◌, ◌≢◌, ◌<◌, ◌+◌, ◌/◌, ◌==◌, ◌&&◌, ◌||◌, ℕ, Bool, true, false, List, [], ◌∷◌, inl, inr, ⊎_elim, length, refl, sym, ◌∙◌, ap, subst, arith, eqb, cond}
 use Rattle.std.specs.Prelude.{IsTrue, Ok, nat_le, nat_lt}
 use Rattle.sector_disk.specs.Disk.{Candidates, IsDisk, State, candidates_of, content}
 use Rattle.sector_disk.specs.Space.{AgreesOutside}
 use Rattle.sector_disk.proofs.Passing.{none_passes, passes_with}
-use Rattle.volume_header.specs.Header.{header_of}
 use Rattle.volume_header.specs.declared.header.VolumeHeader.{VolumeHeader}
 use Rattle.jnl_format.specs.Keeping.{KeepsHeader}
 use Rattle.jnl_format.specs.Recovery.{Content, header_of_volume, info_sector_of, journaling_version, recovery, replayed, sector}
@@ -19,7 +18,7 @@ use Rattle.jnl_store.specs.Overlay.{overlay}
 use Rattle.jnl_store.specs.Lists.{IsCapacity}
 use Rattle.jnl_store.specs.Plan.{IsCapacityOf, form_of, rested, span_of}
 use Rattle.jnl_store.specs.Spaces.{found, over}
-use Rattle.jnl_store.specs.Store.{content_over, durable_of, plan_of, puts_of}
+use Rattle.jnl_store.specs.Store.{content_over, durable_of, plan_of}
 use Rattle.jnl_store.specs.declared.puts.Put.{Put}
 use Rattle.jnl_store.specs.declared.store.Store.{Store}
 use Rattle.jnl_store.proofs.Attached.{offset_is, size_is}

@@ -1,12 +1,11 @@
 -- The sectors of what an image stands for have their bytes.
-use Rattle.std.proofs.Common.{◌≡◌, ◌+◌, ◌≤◌, ℕ, List, [], ◌∷◌, inl, inr, ⊎_elim, length, take, drop, sym, ◌∙◌, ap, subst, arith}
+use Rattle.std.proofs.Common.{◌≡◌, ℕ, List, [], ◌∷◌, inl, inr, ⊎_elim, length, drop, ◌∙◌, ap, subst, arith}
 use Rattle.std.specs.Prelude.{Ok}
 use Rattle.std.proofs.lemmas.List.{length-take, length-drop}
 use Rattle.sector_disk.specs.Disk.{IsDisk, State, content}
 use Rattle.jnl_format.specs.Info.{unless_fault}
 use Rattle.jnl_format.specs.Named.{Each, IsGoodHome, IsHomeOf, MixesHomes}
 use Rattle.jnl_format.specs.Recovery.{Content, Journal, header_of_volume, homes_of, info_sector_of, journal_in, recovery, recovery_at, replayed, sector, text_fault, text_of, volume_of}
-use Rattle.jnl_format.specs.Text.{bytes_at}
 use Rattle.jnl_format.specs.declared.blocks.Home.{Home}
 use Rattle.jnl_format.specs.declared.blocks.Volume.{Volume}
 use Rattle.jnl_replay.specs.Plan.{journal_of}

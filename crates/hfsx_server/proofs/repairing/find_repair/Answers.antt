@@ -1,6 +1,5 @@
 use Rattle.std.proofs.Common.{◌∙◌, subst}
 use Rattle.std.specs.Prelude.{IfErr, IfOk}
-use Rattle.sector_disk.specs.Disk.{content}
 use Rattle.jnl_format.specs.Recovery.{Content}
 use Rattle.hfs_serving.proofs.Served.{reads_content}
 use Rattle.hfsx_server.specs.Repairing.{RefusesRepair}

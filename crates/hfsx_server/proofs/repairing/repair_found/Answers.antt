@@ -1,7 +1,7 @@
 use Rattle.std.proofs.Common.{◌≡◌, ◌++◌, ℕ, List, sym, ◌∙◌, ap, subst, arith}
 use Rattle.std.specs.Prelude.{IsTrue}
 use Rattle.sector_disk.specs.Disk.{content}
-use Rattle.jnl_format.specs.Recovery.{Content, replayed}
+use Rattle.jnl_format.specs.Recovery.{replayed}
 use Rattle.jnl_replay.specs.Plan.{journal_of}
 use Rattle.jnl_replay.proofs.Checks.{length-content}
 use Rattle.hfs_volume.specs.Sound.{IsSound}
