@@ -127,6 +127,16 @@ class Reading:
         return bytes(found)
 
     def check(self):
+        self.header_holds()
+        want(self.agrees(), 2, "the alternate header")
+        pairs, attributes = self.trees_hold()
+        self.kinds_hold(pairs)
+        self.entries_hold()
+        self.links_hold()
+        self.attributes_hold(attributes)
+        self.blocks_hold()
+
+    def header_holds(self):
         want(2048 <= self.sectors <= 2**31, 1, "the size of the image")
         head = self.head = Header(self.sector(2))
         want((head.signature, head.version) == (0x4858, 5), 1, "signature and version")
@@ -135,11 +145,15 @@ class Reading:
         want(head.attributes >> 13 & 1 and not head.attributes >> 12 & 1, 1, "a journal, and ids that weren't used again")
         want(head.info < head.total, 1, "the place of the info block")
         want(head.next >= 16, 1, "the next CNID")
-        other = Header(self.sector(self.sectors - 2))
+
+    def agrees(self):
+        """Whether the alternate header says what volume this is."""
         same = lambda it: (it.signature, it.version, it.block, it.total)
-        want(same(head) == same(other), 2, "the alternate header")
-        info = self.sector(head.info * (head.block // 512))
-        self.journal = number(info, 36, 8), number(info, 44, 8)
+        return same(self.head) == same(Header(self.sector(self.sectors - 2)))
+
+    def trees_hold(self):
+        """The pairs of the catalog and of the attributes."""
+        head = self.head
         overflow = self.tree(3, in_use(head.extents.extents), head.extents, extent_key, 10, 2, 512)
         for _, value in overflow:
             want(len(value) == 64, 5, "an overflow record of another length")
@@ -148,10 +162,7 @@ class Reading:
         attributes = []
         if head.attributes_file.size:
             attributes = self.tree(8, self.whole(8, 0, head.attributes_file), head.attributes_file, attribute_key, 266, 6, 4096)
-        self.entries_hold(pairs)
-        self.links_hold()
-        self.attributes_hold(attributes)
-        self.blocks_hold()
+        return pairs, attributes
 
     def of(self, owner, kind):
         return [] if owner == 3 else [it for it in self.overflow if (it[0], it[1]) == (owner, kind)]
@@ -224,15 +235,15 @@ class Reading:
 
     # ---- entries
 
-    def entries_hold(self, pairs):
-        self.entries, self.at, threads = [], {}, {}
+    def kinds_hold(self, pairs):
+        self.entries, self.at, self.threads = [], {}, {}
         for (parent, name), value in pairs:
             kind = number(value, 0, 2) if len(value) >= 2 else 0
             long = {1: 88, 2: 248}.get(kind)
             if kind in (3, 4):
                 want(len(value) >= 10 and len(value) == 10 + 2 * number(value, 8, 2), 8, "the length of a thread")
                 want(not name, 8, "a thread with a name")
-                threads[parent] = number(value, 4, 4), units(value[10:]), kind == 4
+                self.threads[parent] = number(value, 4, 4), units(value[10:]), kind == 4
                 continue
             want(long is not None and len(value) == long and name, 8, "a record of its type under a name")
             entry = {"parent": parent, "name": name, "file": kind == 2, "id": number(value, 8, 4), "count": number(value, 4, 4)}
@@ -241,6 +252,9 @@ class Reading:
             entry["forks"] = [(0, Fork(value[88:168])), (255, Fork(value[168:248]))] if kind == 2 else []
             self.entries.append(entry)
             self.at[parent, name] = entry
+
+    def entries_hold(self):
+        threads = self.threads
         ids = [it["id"] for it in self.entries]
         want(len(set(ids)) == len(ids), 15, "a CNID twice")
         want(all(it == 2 or 16 <= it < self.head.next for it in ids), 15, "a CNID that wasn't given")
@@ -293,7 +307,8 @@ class Reading:
             size = number(value, 12, 4)
             want(len(value) >= 16 and number(value, 0, 4) == 0x10 and len(value) == 16 + size + size % 2, 20, "an attribute's record")
             want(start == 0 and name and owner in owners, 20, "an attribute's place, name or owner")
-        block, (offset, size) = self.head.block, self.journal
+        block, info = self.head.block, self.sector(self.head.info * (self.head.block // 512))
+        offset, size = number(info, 36, 8), number(info, 44, 8)
         journal = offset // block, -(-(offset + size) // block) - offset // block
         for name, wanted in ((".journal", journal), (".journal_info_block", (self.head.info, 1))):
             entry = self.at.get((2, text(name)))

@@ -2,9 +2,9 @@
 use Rattle.std.proofs.Common.{◌≡◌, ℕ, List, [], ◌∷◌, get_or, inl, inr, refl, subst, sym, ◌∙◌, ap, codes}
 use Rattle.std.specs.Prelude.{decimal}
 use Rattle.std.proofs.lemmas.Fmt.{decimal_injective}
-use Rattle.cli_words.specs.Words.{AreRun, AreCheck, AreFormat, AreGen, AreInUse, AreWordsOf, IsFormatOf, IsGenOf, MayName}
+use Rattle.cli_words.specs.Words.{AreRun, AreCheck, AreRepair, AreFormat, AreGen, AreInUse, AreWordsOf, IsFormatOf, IsGenOf, MayName}
 use Rattle.cli_words.specs.declared.named.Work.{Work}
-use Rattle.cli_words.specs.declared.named.Work.TheVariants.{Check, Format, Gen, Run, Wrong}
+use Rattle.cli_words.specs.declared.named.Work.TheVariants.{Check, Format, Gen, Repair, Run, Wrong}
 
 third : List (List ℕ) → List ℕ
 third words = get_or words 2 []
@@ -31,6 +31,25 @@ no_format words sectors check format = apart_check words check.0 format.0 (decim
 pub no_check : (words : List (List ℕ)) → AreRun words → AreCheck words → ⊥
 no_check words run check = apart_run words run.0 check.0 run.2 check.2
 
+apart_repair_format : (words : List (List ℕ)) (a b d : List ℕ) → words ≡ codes "repair" ∷ a ∷ [] → words ≡ codes "format" ∷ b ∷ d ∷ [] → ⊥
+apart_repair_format words a b d repair format = absurd (cc (repair, format))
+
+apart_repair_run : (words : List (List ℕ)) (a b : List ℕ) → words ≡ codes "repair" ∷ a ∷ [] → words ≡ codes "run" ∷ b ∷ [] → ⊥
+apart_repair_run words a b repair run = absurd (cc (repair, run))
+
+apart_repair_check : (words : List (List ℕ)) (a b : List ℕ) → words ≡ codes "repair" ∷ a ∷ [] → words ≡ codes "check" ∷ b ∷ [] → ⊥
+apart_repair_check words a b repair check = absurd (cc (repair, check))
+
+-- words that ask for a repair ask for nothing else
+pub no_format_of_repair : (words : List (List ℕ)) (sectors : ℕ) → AreRepair words → AreFormat words sectors → ⊥
+no_format_of_repair words sectors repair format = apart_repair_format words repair.0 format.0 (decimal sectors) repair.2 format.3
+
+pub no_run_of_repair : (words : List (List ℕ)) → AreRepair words → AreRun words → ⊥
+no_run_of_repair words repair run = apart_repair_run words repair.0 run.0 repair.2 run.2
+
+pub no_check_of_repair : (words : List (List ℕ)) → AreRepair words → AreCheck words → ⊥
+no_check_of_repair words repair check = apart_repair_check words repair.0 check.0 repair.2 check.2
+
 pub same_sectors : (words : List (List ℕ)) (a b : ℕ) → AreFormat words a → AreFormat words b → a ≡ b
 same_sectors words a b first second =
     decimal_injective a b first.2 second.2 (sym (the_third first.0 a) ∙ ap third (sym first.3 ∙ second.3) ∙ the_third second.0 b)
@@ -44,12 +63,18 @@ apart_gen_check words a b d check gen = absurd (cc (check, gen))
 apart_gen_format : (words : List (List ℕ)) (a e b d : List ℕ) → words ≡ codes "format" ∷ a ∷ e ∷ [] → words ≡ codes "gen" ∷ b ∷ d ∷ [] → ⊥
 apart_gen_format words a e b d format gen = absurd (cc (format, gen))
 
+apart_gen_repair : (words : List (List ℕ)) (a b d : List ℕ) → words ≡ codes "repair" ∷ a ∷ [] → words ≡ codes "gen" ∷ b ∷ d ∷ [] → ⊥
+apart_gen_repair words a b d repair gen = absurd (cc (repair, gen))
+
 -- words that ask for a stream ask for nothing else
 pub no_run_of_gen : (words : List (List ℕ)) (seed count : ℕ) → AreRun words → AreGen words seed count → ⊥
 no_run_of_gen words seed count run gen = apart_gen_run words run.0 (decimal seed) (decimal count) run.2 gen.2
 
 pub no_check_of_gen : (words : List (List ℕ)) (seed count : ℕ) → AreCheck words → AreGen words seed count → ⊥
 no_check_of_gen words seed count check gen = apart_gen_check words check.0 (decimal seed) (decimal count) check.2 gen.2
+
+pub no_repair_of_gen : (words : List (List ℕ)) (seed count : ℕ) → AreRepair words → AreGen words seed count → ⊥
+no_repair_of_gen words seed count repair gen = apart_gen_repair words repair.0 (decimal seed) (decimal count) repair.2 gen.2
 
 pub no_format_of_gen : (words : List (List ℕ)) (sectors seed count : ℕ) → AreFormat words sectors → AreGen words seed count → ⊥
 no_format_of_gen words sectors seed count format gen = apart_gen_format words format.0 (decimal sectors) (decimal seed) (decimal count) format.3 gen.2
@@ -90,10 +115,12 @@ pub words_of_format : (words : List (List ℕ)) (a b : List ℕ) (work : Work) �
 words_of_format words a b (Format many) are is = (a, is.0, is.1, are ∙ ap (λ (t : List ℕ). codes "format" ∷ a ∷ t ∷ []) is.2)
 words_of_format words a b Run are is = absurd is
 words_of_format words a b Check are is = absurd is
+words_of_format words a b Repair are is = absurd is
 words_of_format words a b (Gen seed count) are is = absurd is
 words_of_format words a b Wrong are is = (
   λ run. apart words run.0 a b run.2 are,
   λ check. apart_check words check.0 a b check.2 are,
+  λ repair. apart_repair_format words repair.0 a b repair.2 are,
   λ many format. is many (subst MayName (sym (the_second_of words _ _ _ format.3) ∙ the_second_of words _ _ _ are) format.1) format.2 (sym (the_third_of words _ _ _ are) ∙ the_third_of words _ _ _ format.3),
   λ seed count gen. apart_gen_format words a b (decimal seed) (decimal count) are gen.2,
 )
@@ -102,20 +129,23 @@ pub words_of_gen : (words : List (List ℕ)) (a b : List ℕ) (work : Work) → 
 words_of_gen words a b (Format many) are is = absurd is
 words_of_gen words a b Run are is = absurd is
 words_of_gen words a b Check are is = absurd is
+words_of_gen words a b Repair are is = absurd is
 words_of_gen words a b (Gen seed count) are is = (is.0, is.1, are ∙ (λ i. codes "gen" ∷ is.2 i ∷ is.3 i ∷ []))
 words_of_gen words a b Wrong are is = (
   λ run. apart_gen_run words run.0 a b run.2 are,
   λ check. apart_gen_check words check.0 a b check.2 are,
+  λ repair. apart_gen_repair words repair.0 a b repair.2 are,
   λ many format. apart_gen_format words format.0 (decimal many) a b format.3 are,
   λ seed count gen. is seed count gen.0 gen.1 (sym (the_second_of words _ _ _ are) ∙ the_second_of words _ _ _ gen.2) (sym (the_third_of words _ _ _ are) ∙ the_third_of words _ _ _ gen.2),
 )
 
 -- words that name a work aren't wrong
 pub not_wrong : (words : List (List ℕ)) (work : Work) → AreWordsOf words work → (work ≡ Wrong → ⊥) → AreWordsOf words Wrong → ⊥
-not_wrong words (Format many) are other wrong = wrong.2 many are
+not_wrong words (Format many) are other wrong = wrong.3 many are
 not_wrong words Run are other wrong = wrong.0 are
 not_wrong words Check are other wrong = wrong.1 are
-not_wrong words (Gen seed count) are other wrong = wrong.3 seed count are
+not_wrong words Repair are other wrong = wrong.2 are
+not_wrong words (Gen seed count) are other wrong = wrong.4 seed count are
 not_wrong words Wrong are other wrong = other refl
 
 -- words that name another work aren't `format`'s
@@ -123,13 +153,15 @@ pub not_format : (words : List (List ℕ)) (work : Work) (n : ℕ) → AreWordsO
 not_format words (Format many) n are other format = other many refl
 not_format words Run n are other format = not_both words n are format
 not_format words Check n are other format = no_format words n are format
+not_format words Repair n are other format = no_format_of_repair words n are format
 not_format words (Gen seed count) n are other format = no_format_of_gen words n seed count format are
-not_format words Wrong n are other format = are.2 n format
+not_format words Wrong n are other format = are.3 n format
 
 -- words that name another work than `format` are in use for each image
 pub in_use : (words : List (List ℕ)) (work : Work) (n : ℕ) → AreWordsOf words work → (work ≡ Wrong → ⊥) → ((many : ℕ) → work ≡ Format many → ⊥) → AreInUse words n
 in_use words (Format many) n are right other = absurd (other many refl)
 in_use words Run n are right other = inl are
 in_use words Check n are right other = inr (inl are)
-in_use words (Gen seed count) n are right other = inr (inr (inr (seed, count, are)))
+in_use words Repair n are right other = inr (inr (inl are))
+in_use words (Gen seed count) n are right other = inr (inr (inr (inr (seed, count, are))))
 in_use words Wrong n are right other = absurd (right refl)

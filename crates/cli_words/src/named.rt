@@ -15,6 +15,8 @@ pub enum Work {
     Check,
     /// `gen SEED COUNT`
     Gen { seed: u64, count: u64 },
+    /// `repair IMAGE`
+    Repair,
     /// Any other words.
     Wrong,
 }
@@ -33,6 +35,9 @@ pub fn named_work(words: &[String]) -> Work
             }
             if verb.as_str() == "check" {
                 return Work::Check;
+            }
+            if verb.as_str() == "repair" {
+                return Work::Repair;
             }
             Work::Wrong
         }

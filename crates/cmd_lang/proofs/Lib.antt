@@ -2,6 +2,6 @@ pub mod Numbers
 pub mod Both
 pub mod Paths
 pub mod Plain
-pub mod PlainWrites
+pub mod SpelledWrites
 pub mod OnePass
 pub mod Rooms

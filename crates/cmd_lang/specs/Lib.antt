@@ -1,2 +1,3 @@
 pub mod Reads
-pub mod PlainWrite
+pub mod Spellings
+pub mod Written

@@ -7,14 +7,16 @@ mod line;
 mod pairs;
 mod path;
 mod pieces;
-mod plain_write;
 mod print;
+mod reading;
 mod refusal;
 mod reply;
 mod spelled;
+mod spellings;
 mod split;
 mod value;
 mod words;
+mod written;
 
 pub use fault::LineFault;
 pub use line::{MOST_BYTES, read_line};

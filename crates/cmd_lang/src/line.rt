@@ -9,9 +9,9 @@ ghost use Rattle.cmd_lang.specs.declared.fault.LineFault.TheVariants.{No};
 
 use crate::LineFault;
 use crate::command::read_command;
-use crate::plain_write::{plain_write, read_plain_write};
 use crate::split::words;
 use crate::words::BAD_COMMAND;
+use crate::written::{read_spelled_write, spelled_write};
 use hfs_language::{Command, Refusal};
 use std::alloc::Global;
 use std::str;
@@ -40,8 +40,8 @@ fn read_bytes(alloc: Global, line: &[u8]) -> Result<Command, LineFault>
     if line.len() > MOST_BYTES {
         return Err(LineFault::No(Refusal::TooLong));
     }
-    if let Some((path, from, value)) = plain_write(line) {
-        return read_plain_write(alloc, path, from, value);
+    if let Some(write) = spelled_write(alloc, line)? {
+        return read_spelled_write(alloc, write);
     }
     match text_of(line) {
         Some(text) => read_text(alloc, text),

@@ -8,8 +8,8 @@ ghost use Rattle.hfs_language.specs.Text as spec_text;
 ghost use Rattle.cmd_lang.specs.Reads.{Reads};
 
 use crate::LineFault;
-use crate::print::{are_plain, value_text};
-use crate::spelled::spelled_bytes;
+use crate::print::value_text;
+use crate::spelled::value_bytes;
 use hfs_language::Refusal;
 use hx_bytes::{Bytes, Units};
 use itoa::Buffer;
@@ -99,58 +99,14 @@ pub(crate) fn read_value(alloc: Global, word: &str) -> Result<Bytes, LineFault>
     value_in(alloc, word.as_bytes())
 }
 
-/// The same of bytes.
+/// The same of bytes: in one pass where it is in its one spelling, and otherwise by its own rule.
 pub(crate) fn value_in(alloc: Global, text: &[u8]) -> Result<Bytes, LineFault>
     ensures { Reads (spec.value_of text.now) result }
 {
-    match plain_bytes(text) {
-        Some(value) => Ok(copied(alloc, value)?),
-        None => read_spelled(alloc, text),
-    }
-}
-
-/// A value in one pass where it is one, and otherwise by its own rule.
-fn read_spelled(alloc: Global, text: &[u8]) -> Result<Bytes, LineFault>
-    ensures { Reads (spec.value_of text.now) result }
-{
-    match one_pass(alloc, text)? {
-        Some(value) => Ok(value),
+    match value_bytes(alloc, text)? {
+        Some(value) => Ok(Bytes::from_vec(value)),
         None => read_escaped(alloc, text),
     }
-}
-
-/// The value that a text is the text of, where it is that of one.
-fn one_pass(alloc: Global, text: &[u8]) -> Result<Option<Bytes>, AllocError>
-    ensures { IfOk result (λ found. IfSome found (λ value. spec.value_of text.now ≡ Ok value)) }
-{
-    match text {
-        [b'=', rest @ ..] => match spelled_bytes(alloc, rest)? {
-            Some(value) => Ok(Some(Bytes::from_vec(value))),
-            None => Ok(None),
-        },
-        _ => Ok(None),
-    }
-}
-
-/// The bytes of a value in which each byte stands for itself.
-pub(crate) fn plain_bytes(text: &[u8]) -> Option<&[u8]>
-    ensures { IfSome result (λ value. (text.now ≡ 61 ∷ value.now) × (list_all spec_text.is_plain value.now ≡ true)) }
-{
-    match text {
-        [first, rest @ ..] => if *first == b'=' && are_plain(rest) {
-            Some(rest)
-        } else {
-            None
-        },
-        [] => None,
-    }
-}
-
-/// The same bytes.
-pub(crate) fn copied(alloc: Global, value: &[u8]) -> Result<Bytes, AllocError>
-    ensures { IfOk result (λ copy. copy ≡ value.now) }
-{
-    Ok(Bytes::from_vec(Vec::from_slice(alloc, value)?))
 }
 
 /// A value, each byte of which may be escaped.

@@ -14,6 +14,8 @@ mod plain;
 #[cfg(test)]
 mod reclaims;
 #[cfg(test)]
+mod repairs;
+#[cfg(test)]
 mod replays;
 #[cfg(test)]
 mod runs;

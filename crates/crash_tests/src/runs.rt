@@ -72,3 +72,17 @@ pub fn is_clean(alloc: Global, image: &MemImage) -> Result<bool, OutOfMemory> {
     let status = run_words(alloc, "check v.img", &mut disk, b"", PIECE)?;
     Ok(status == Status::Done)
 }
+
+/// How a command ended, and what it told.
+#[derive(Drop)]
+pub struct Told {
+    pub status: Status,
+    pub text: Vec<u8>,
+}
+
+/// Runs a command without lines on a disk.
+pub fn told_by_words(alloc: Global, line: &str, disk: &mut Few) -> Result<Told, OutOfMemory> {
+    let status = run_words(alloc, line, disk, b"", PIECE)?;
+    let text = Vec::from_slice(alloc, disk.rig.told())?;
+    Ok(Told { status, text })
+}

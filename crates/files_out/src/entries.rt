@@ -2,59 +2,53 @@
 
 use crate::listing::{facts_lines, list_line};
 use crate::out::Out;
-use crate::shown::{last_name, shown_path};
+use crate::shown::{path_below, shown_path, word_of_name};
 use crate::walk::{Next, Node};
 use crate::wish::Wish;
-use files_talk::{Facts, child_of, name_of, reason_of};
+use cmd_lang::print_reply;
+use files_talk::{Facts, NameLack, child_of, name_of, reason_of};
+use hfs_language::{Command, ListedName, Listing, Path, Reply};
+use hx_bytes::OutOfMemory;
 use std::alloc::AllocError;
 use std::collections::BTreeSet;
 
 impl<'a> Out<'a> {
     /// Tells that an entry of the volume is left out, for the reason that a reply gives.
-    pub(crate) fn lose(&mut self, word: &str, reply: &[u8]) -> Result<(), AllocError> {
-        let why = reason_of(self.notes.rt().alloc(), reply)?;
-        self.lose_for(word, why.as_str())
+    pub(crate) fn lose(&mut self, node: &Node, reply: &Reply) -> Result<(), AllocError> {
+        let alloc = self.notes.rt().alloc();
+        let text = match print_reply(alloc, reply) {
+            Ok(text) => text,
+            Err(OutOfMemory) => return Err(AllocError),
+        };
+        let why = reason_of(alloc, text.as_slice().trim_ascii_end())?;
+        self.lose_for(&node.path, why.as_str())
     }
 
     /// Tells that an entry of the volume is left out, for a reason.
-    pub(crate) fn lose_for(&mut self, word: &str, why: &str) -> Result<(), AllocError> {
-        let path = shown_path(self.notes.rt().alloc(), word)?;
+    pub(crate) fn lose_for(&mut self, path: &Path, why: &str) -> Result<(), AllocError> {
+        let path = shown_path(self.notes.rt().alloc(), path)?;
         self.notes.leave_out(path.as_str(), why);
         Ok(())
     }
 
-    /// Takes an entry whose facts are known, and answers whether more may be asked with what it asks. What is written at once, as a line or
-    /// a header, waits until all that was asked is heard.
+    /// Takes an entry whose facts are known, and answers what is asked for it, if anything is.
     pub(crate) fn take_entry(
         &mut self,
-        lines: &mut Vec<u8>,
         node: Node,
         facts: Facts,
-    ) -> Result<bool, AllocError> {
-        let mut node = node;
-        let at_once = facts.folder || facts.links > 1 || !self.wish.reads();
-        if self.walk.awaited() > 0 && (at_once || !node.attributes.is_empty()) {
-            self.walk.push(Next::Entry { node, facts })?;
-            return Ok(false);
-        }
+    ) -> Result<Option<Command>, AllocError> {
         if self.wish == Wish::Tar && !node.attributes.is_empty() {
-            self.ask_values(lines, &mut node)?;
-            self.walk.push(Next::Entry { node, facts })?;
-            return Ok(false);
+            return self.ask_value(node, facts);
         }
         if facts.folder {
-            return self.take_folder(lines, node, facts);
+            return self.take_folder(node, facts);
         }
-        self.take_file(lines, node, facts)
+        self.take_file(node, facts)?;
+        Ok(None)
     }
 
     // Takes a folder.
-    fn take_folder(
-        &mut self,
-        lines: &mut Vec<u8>,
-        node: Node,
-        facts: Facts,
-    ) -> Result<bool, AllocError> {
+    fn take_folder(&mut self, node: Node, facts: Facts) -> Result<Option<Command>, AllocError> {
         let mut node = node;
         let goes_in = match self.wish {
             Wish::Get { .. } => {
@@ -63,7 +57,7 @@ impl<'a> Out<'a> {
             }
             Wish::Tar => self.put_folder(&node, facts)?,
             Wish::Cat => {
-                self.lose_for(node.word.as_str(), "it is a folder")?;
+                self.lose_for(&node.path, "it is a folder")?;
                 false
             }
             Wish::List { long, deep } => {
@@ -78,46 +72,30 @@ impl<'a> Out<'a> {
             }
         };
         if !goes_in {
-            return Ok(true);
+            return Ok(None);
         }
-        self.ask_entries(lines, node)?;
-        // (in an archive and in a list what is in a folder stands right behind it)
-        Ok(matches!(self.wish, Wish::Get { .. }))
+        Ok(self.ask_entries(node))
     }
 
     // Takes a file.
-    fn take_file(
-        &mut self,
-        lines: &mut Vec<u8>,
-        node: Node,
-        facts: Facts,
-    ) -> Result<bool, AllocError> {
+    fn take_file(&mut self, node: Node, facts: Facts) -> Result<(), AllocError> {
         match self.wish {
-            Wish::Cat => {
-                self.ask_file(lines, node, facts)?;
-                return Ok(true);
-            }
-            Wish::Get { .. } | Wish::Tar => return self.take_out(lines, node, facts),
-            Wish::List { long, .. } => self.list(&node, &facts, long)?,
-            Wish::Stat => self.tell_facts(&node, &facts)?,
+            Wish::Cat => self.start_file(node, facts),
+            Wish::Get { .. } | Wish::Tar => self.take_out(node, facts),
+            Wish::List { long, .. } => self.list(&node, &facts, long),
+            Wish::Stat => self.tell_facts(&node, &facts),
         }
-        Ok(true)
     }
 
     // Takes a file out: its bytes are asked, or it becomes another name of one that was made.
-    fn take_out(
-        &mut self,
-        lines: &mut Vec<u8>,
-        node: Node,
-        facts: Facts,
-    ) -> Result<bool, AllocError> {
+    fn take_out(&mut self, node: Node, facts: Facts) -> Result<(), AllocError> {
         let mut node = node;
         if node.top && !self.name_file(&mut node)? {
-            return Ok(true);
+            return Ok(());
         }
         if facts.links > 1 {
             if self.link(&node, facts)? {
-                return Ok(true);
+                return Ok(());
             }
             let place = String::from_str(self.notes.rt().alloc(), node.place.as_str())?;
             self.made.insert(facts.id, place)?;
@@ -127,11 +105,10 @@ impl<'a> Out<'a> {
                 .below
                 .has_same(self.notes.rt(), node.place.as_str(), facts)
         {
-            return Ok(true);
+            return Ok(());
         }
         self.lose_attributes(&mut node)?;
-        self.ask_file(lines, node, facts)?;
-        Ok(true)
+        self.start_file(node, facts)
     }
 
     // Tells the attributes that the system's files don't get.
@@ -141,11 +118,12 @@ impl<'a> Out<'a> {
             let Some(name) = node.attributes.pop() else {
                 break;
             };
+            let word = word_of_name(alloc, &name)?;
             let why = format!(in alloc;
                 "its attribute {}, which a tar archive would have",
-                name.as_str()
+                word.as_str()
             )?;
-            self.lose_for(node.word.as_str(), why.as_str())?;
+            self.lose_for(&node.path, why.as_str())?;
         }
         Ok(())
     }
@@ -153,7 +131,11 @@ impl<'a> Out<'a> {
     // Gives a file that the user named its place in the folder, and answers whether it has one.
     fn name_file(&mut self, node: &mut Node) -> Result<bool, AllocError> {
         let alloc = self.notes.rt().alloc();
-        match name_of(alloc, last_name(node.word.as_str()))? {
+        let named = match node.path.as_slice().last() {
+            Some(name) => name_of(alloc, name.as_slice())?,
+            None => Err(NameLack::NoFile),
+        };
+        match named {
             Ok(name) => {
                 if matches!(self.wish, Wish::Get { .. }) && !self.make_top(node.place.as_str())? {
                     return Ok(false);
@@ -163,7 +145,7 @@ impl<'a> Out<'a> {
             }
             Err(lack) => {
                 let why = format!(in alloc; "{lack}")?;
-                self.lose_for(node.word.as_str(), why.as_str())?;
+                self.lose_for(&node.path, why.as_str())?;
                 Ok(false)
             }
         }
@@ -172,7 +154,7 @@ impl<'a> Out<'a> {
     // Lists an entry.
     fn list(&mut self, node: &Node, facts: &Facts, long: bool) -> Result<(), AllocError> {
         let alloc = self.notes.rt().alloc();
-        let path = shown_path(alloc, node.word.as_str())?;
+        let path = shown_path(alloc, &node.path)?;
         let line = list_line(alloc, path.as_str(), facts, long)?;
         self.output.put(line.as_bytes())
     }
@@ -180,29 +162,25 @@ impl<'a> Out<'a> {
     // Tells what is known of an entry.
     fn tell_facts(&mut self, node: &Node, facts: &Facts) -> Result<(), AllocError> {
         let alloc = self.notes.rt().alloc();
-        let path = shown_path(alloc, node.word.as_str())?;
-        let text = facts_lines(alloc, path.as_str(), facts, node.attributes.as_slice())?;
+        let path = shown_path(alloc, &node.path)?;
+        let mut attributes = Vec::new(alloc);
+        for name in node.attributes.as_slice() {
+            attributes.push(word_of_name(alloc, name)?)?;
+        }
+        let text = facts_lines(alloc, path.as_str(), facts, attributes.as_slice())?;
         self.output.put(text.as_bytes())
     }
 
-    /// Hears the entries of a folder.
-    pub(crate) fn hear_entries(&mut self, node: Node, reply: &[u8]) -> Result<(), AllocError> {
+    /// Finds the entries of a folder.
+    pub(crate) fn find_entries(&mut self, node: &Node, listing: Listing) -> Result<(), AllocError> {
         let alloc = self.notes.rt().alloc();
-        let text = String::from_utf8_lossy(alloc, reply)?;
-        let Some(listed) = text.as_str().strip_prefix("ok ") else {
-            return self.lose(node.word.as_str(), reply);
-        };
         let mut composed = BTreeSet::new(alloc);
-        for entry in listed.split(' ').skip(1) {
-            let component = match entry.strip_suffix('/') {
-                Some(component) => component,
-                None => entry,
-            };
-            let word = child_of(alloc, node.word.as_str(), component)?;
-            if !self.wish.takes_out() {
-                self.walk.find(Next::Facts(Node::new(alloc, word, String::new(alloc), false)))?;
+        for listed in listing.into_vec() {
+            if self.wish.takes_out() {
+                self.find_entry(&mut composed, node, listed)?;
             } else {
-                self.find_entry(&mut composed, node.place.as_str(), component, word)?;
+                let path = path_below(alloc, &node.path, listed.name)?;
+                self.find(Node::new(alloc, path, String::new(alloc), false))?;
             }
         }
         Ok(())
@@ -212,27 +190,33 @@ impl<'a> Out<'a> {
     fn find_entry(
         &mut self,
         composed: &mut BTreeSet<String>,
-        folder: &str,
-        component: &str,
-        word: String,
+        folder: &Node,
+        listed: ListedName,
     ) -> Result<(), AllocError> {
         let alloc = self.notes.rt().alloc();
-        let name = match name_of(alloc, component)? {
+        let named = name_of(alloc, listed.name.as_slice())?;
+        let path = path_below(alloc, &folder.path, listed.name)?;
+        let name = match named {
             Ok(name) => name,
             Err(lack) => {
                 let why = format!(in alloc; "{lack}")?;
-                return self.lose_for(word.as_str(), why.as_str());
+                return self.lose_for(&path, why.as_str());
             }
         };
-        let place = place_of(self, folder, name.as_str())?;
+        let place = place_of(self, folder.place.as_str(), name.as_str())?;
         if !is_new(composed, name)? {
-            return self.lose_for(
-                word.as_str(),
-                "its name in composed form is that of another entry",
-            );
+            return self.lose_for(&path, "its name in composed form is that of another entry");
         }
-        self.walk
-            .find(Next::Facts(Node::new(alloc, word, place, false)))
+        self.find(Node::new(alloc, path, place, false))
+    }
+
+    /// Finds a node, of which it is asked first what the wish needs.
+    pub(crate) fn find(&mut self, node: Node) -> Result<(), AllocError> {
+        if self.wish.wants_attributes() {
+            self.walk.find(Next::Names(node))
+        } else {
+            self.walk.find(Next::Facts(node))
+        }
     }
 }
 

@@ -1,9 +1,12 @@
 //! Files and folders are taken out: made below a folder, put into an archive, or told.
 
-use crate::out::{Current, Out};
-use crate::walk::Node;
+use crate::out::Out;
+use crate::shown::word_of_name;
+use crate::walk::{Current, Next, Node};
 use crate::wish::Wish;
-use files_talk::{Facts, content_of, name_of};
+use files_talk::{Facts, name_of};
+use hfs_language::{Command, Reply};
+use hx_bytes::Units;
 use std::alloc::AllocError;
 use std::fs::DirBuilder;
 use std::io::ErrorKind;
@@ -49,7 +52,7 @@ impl<'a> Out<'a> {
     pub(crate) fn put_folder(&mut self, node: &Node, facts: Facts) -> Result<bool, AllocError> {
         let alloc = self.notes.rt().alloc();
         let mut attributes = Vec::new(alloc);
-        mem::swap(&mut attributes, &mut self.values);
+        mem::swap(&mut attributes, &mut self.walk.values);
         if node.top {
             return Ok(true);
         }
@@ -72,7 +75,7 @@ impl<'a> Out<'a> {
         if self.wish == Wish::Tar {
             self.tape
                 .link(alloc, &mut self.output, first.as_str(), place, facts)?;
-            self.values.clear();
+            self.walk.values.clear();
         } else if !self.below.link(&mut self.notes, first.as_str(), place)? {
             return Ok(true);
         }
@@ -81,20 +84,35 @@ impl<'a> Out<'a> {
         Ok(true)
     }
 
-    /// Hears an attribute's value.
-    pub(crate) fn hear_value(&mut self, word: &str, reply: &[u8]) -> Result<(), AllocError> {
+    /// Hears the value of an attribute of a node.
+    pub(crate) fn hear_value(
+        &mut self,
+        node: Node,
+        facts: Facts,
+        command: Command,
+        reply: Reply,
+    ) -> Result<(), AllocError> {
+        let mut node = node;
+        if let Command::GetAttr { path, name } = command {
+            node.path = path;
+            match reply {
+                Reply::Content(value) => self.keep_value(&name, value.into_vec())?,
+                other => self.lose(&node, &other)?,
+            }
+        }
+        self.walk.push(Next::Entry { node, facts })
+    }
+
+    // Keeps an attribute for the archive.
+    fn keep_value(&mut self, name: &Units, value: Vec<u8>) -> Result<(), AllocError> {
         let alloc = self.notes.rt().alloc();
-        let Some(content) = content_of(alloc, reply)? else {
-            return self.lose(word, reply);
-        };
-        let name = match name_of(alloc, word)? {
-            Ok(name) => name,
-            Err(_) => String::from_str(alloc, word)?,
+        let text = match name_of(alloc, name.as_slice())? {
+            Ok(text) => text,
+            Err(_) => word_of_name(alloc, name)?,
         };
         let mut spelled = Vec::from_slice(alloc, USER)?;
-        spelled.extend_from_slice(name.as_bytes())?;
-        let value = Vec::from_slice(alloc, content.as_slice())?;
-        self.values.push(Attribute {
+        spelled.extend_from_slice(text.as_bytes())?;
+        self.walk.values.push(Attribute {
             name: spelled,
             value,
         })?;
@@ -102,59 +120,34 @@ impl<'a> Out<'a> {
     }
 
     /// Begins a file.
-    pub(crate) fn start_file(
-        &mut self,
-        node: Node,
-        facts: Facts,
-        attributes: Vec<Attribute>,
-    ) -> Result<(), AllocError> {
-        if self.wish == Wish::Tar {
-            let alloc = self.notes.rt().alloc();
-            self.tape.start(
-                alloc,
-                &mut self.output,
-                node.place.as_str(),
-                facts,
-                attributes,
-            )?;
-            self.current = Some(Current {
-                node,
-                facts,
-                whole: true,
-            });
-            return Ok(());
-        }
+    pub(crate) fn start_file(&mut self, node: Node, facts: Facts) -> Result<(), AllocError> {
+        let place = node.place.as_str();
         let whole = match self.wish {
-            Wish::Get { .. } => self.below.start(&mut self.notes, node.place.as_str())?,
+            Wish::Get { .. } => self.below.start(&mut self.notes, place)?,
+            Wish::Tar => {
+                let alloc = self.notes.rt().alloc();
+                let mut attributes = Vec::new(alloc);
+                mem::swap(&mut attributes, &mut self.walk.values);
+                self.tape
+                    .start(alloc, &mut self.output, place, facts, attributes)?;
+                true
+            }
             _ => true,
         };
-        self.current = Some(Current { node, facts, whole });
-        Ok(())
+        self.walk.push(Next::Piece(Current {
+            node,
+            facts,
+            whole,
+            from: 0,
+        }))
     }
 
-    /// Hears a piece of the file that was begun.
-    pub(crate) fn hear_piece(&mut self, reply: &[u8], last: bool) -> Result<(), AllocError> {
-        let Some(mut current) = self.current.take() else {
-            return Ok(());
-        };
-        if current.whole && !self.take_piece(&current, reply)? {
-            current.whole = false;
-        }
-        if last {
-            return self.end_file(current);
-        }
-        self.current = Some(current);
-        Ok(())
-    }
-
-    // Writes a piece, and answers whether it was written.
-    fn take_piece(&mut self, current: &Current, reply: &[u8]) -> Result<bool, AllocError> {
-        let Some(content) = content_of(self.notes.rt().alloc(), reply)? else {
-            self.lose(current.node.word.as_str(), reply)?;
-            return Ok(false);
-        };
-        let bytes = content.as_slice();
-        let length = bytes.len() as u64;
+    /// Writes a piece of a file, and answers whether it was written.
+    pub(crate) fn put_piece(
+        &mut self,
+        current: &Current,
+        bytes: &[u8],
+    ) -> Result<bool, AllocError> {
         let written = match self.wish {
             Wish::Get { .. } => self
                 .below
@@ -169,15 +162,20 @@ impl<'a> Out<'a> {
             }
         };
         if written {
-            self.notes.counts.bytes = self.notes.counts.bytes.saturating_add(length);
+            self.notes.counts.bytes = self.notes.counts.bytes.saturating_add(bytes.len() as u64);
             self.notes.progress();
         }
         Ok(written)
     }
 
-    // Ends a file. One that isn't whole isn't kept, so that its other names don't lead to it; a header of an archive keeps its word.
-    fn end_file(&mut self, current: Current) -> Result<(), AllocError> {
-        let Current { node, facts, whole } = current;
+    /// Ends a file. One that isn't whole isn't kept, so that its other names don't lead to it; a header of an archive keeps its word.
+    pub(crate) fn end_file(&mut self, current: Current) -> Result<(), AllocError> {
+        let Current {
+            node,
+            facts,
+            whole,
+            ..
+        } = current;
         let place = node.place.as_str();
         if self.wish == Wish::Tar {
             self.tape.end(&mut self.output)?;

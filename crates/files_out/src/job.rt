@@ -1,227 +1,188 @@
 //! What the job asks, and how it hears the replies.
 
 use crate::out::Out;
-use crate::walk::{Asked, Next, Node, Rest};
-use crate::wish::Wish;
-use files_talk::{Facts, Job, PIECE, facts_of, push_number, push_path, reason_of};
-use std::alloc::AllocError;
+use crate::walk::{Asked, Current, Next, Node};
+use files_talk::Facts;
+use hfs_language::{Command, Facts as Told, Listing, Path, Reply};
+use std::alloc::{AllocError, Global};
 use std::mem;
+use volume_look::Asker;
 
-/// The most replies that are awaited at once, and the most bytes of files in them.
-const MOST_REPLIES: usize = 32;
+/// The most bytes that one command reads.
+const PIECE: u64 = 65_536;
 
-const MOST_BYTES: u64 = 720_896;
-
-impl<'a> Job for Out<'a> {
-    fn ask(&mut self, lines: &mut Vec<u8>) -> Result<(), AllocError> {
-        self.expected = 0;
-        if let Some(rest) = self.walk.take_rest() {
-            self.ask_pieces(lines, rest)?;
-        }
-        self.walk.settle()?;
+impl<'a> Asker for Out<'a> {
+    fn ask(&mut self) -> Result<Option<Command>, AllocError> {
         for _ in 0..u64::MAX {
-            if self.output.has_failed()
-                || self.walk.awaited() >= MOST_REPLIES
-                || self.expected >= MOST_BYTES
-            {
+            if self.output.has_failed() {
                 break;
             }
-            match self.walk.pop() {
-                Some(next) => {
-                    if !self.ask_next(lines, next)? {
-                        break;
-                    }
-                }
-                None => {
-                    if self.walk.awaited() > 0 || !self.walk.has_found() {
-                        break;
-                    }
-                    self.walk.settle()?;
-                }
+            let Some(next) = self.walk.pop() else {
+                break;
+            };
+            if let Some(command) = self.begin(next)? {
+                return Ok(Some(command));
             }
         }
-        Ok(())
+        Ok(None)
     }
 
-    fn hear(&mut self, reply: &[u8]) -> Result<(), AllocError> {
+    fn hear(&mut self, command: Command, reply: Reply) -> Result<(), AllocError> {
         match self.walk.answered() {
-            Some(Asked::Names) => self.hear_names(reply),
-            Some(Asked::Facts(node)) => self.hear_facts(node, reply),
-            Some(Asked::Value(word)) => self.hear_value(word.as_str(), reply),
-            Some(Asked::Entries(node)) => self.hear_entries(node, reply),
-            Some(
-                Asked::First {
-                    node,
-                    facts,
-                    attributes,
-                    last,
-                },
-            ) => {
-                self.start_file(node, facts, attributes)?;
-                self.hear_piece(reply, last)
+            Some(Asked::Names(node)) => self.hear_names(with_path(node, command), reply),
+            Some(Asked::Facts(node)) => self.hear_facts(with_path(node, command), reply),
+            Some(Asked::Value { node, facts }) => self.hear_value(node, facts, command, reply),
+            Some(Asked::Entries(node)) => self.hear_entries(with_path(node, command), reply),
+            Some(Asked::Piece(current)) => {
+                let mut current = current;
+                current.node = with_path(current.node, command);
+                self.hear_piece(current, reply)
             }
-            Some(Asked::Piece { last }) => self.hear_piece(reply, last),
-            None => self.hear_refusal(reply),
+            None => Ok(()),
         }
     }
+}
+
+// A node whose path was lent to a command.
+fn with_path(node: Node, command: Command) -> Node {
+    let mut node = node;
+    match command {
+        Command::Ls(path) | Command::Stat(path) | Command::LsAttr(path) => node.path = path,
+        Command::Read { path, .. } => node.path = path,
+        Command::GetAttr { path, .. } => node.path = path,
+        _ => {}
+    }
+    node
 }
 
 impl<'a> Out<'a> {
-    // Asks one thing, and answers whether more may be asked with it.
-    fn ask_next(&mut self, lines: &mut Vec<u8>, next: Next) -> Result<bool, AllocError> {
-        match next {
-            Next::Facts(node) => {
-                self.ask_facts(lines, node)?;
-                Ok(true)
-            }
-            Next::Entry { node, facts } => self.take_entry(lines, node, facts),
-        }
+    // Lends the path of a node to a command.
+    fn lend(&self, node: &mut Node) -> Path {
+        mem::replace(&mut node.path, Path::new(self.notes.rt().alloc()))
     }
 
-    // Asks what is known of a node.
-    fn ask_facts(&mut self, lines: &mut Vec<u8>, node: Node) -> Result<(), AllocError> {
-        if self.wish.wants_attributes() {
-            push_line(lines, "lsattr", node.word.as_str())?;
-            self.walk.note(Asked::Names)?;
+    // Begins what is next, and answers what is asked for it, if anything is.
+    fn begin(&mut self, next: Next) -> Result<Option<Command>, AllocError> {
+        match next {
+            Next::Names(node) => {
+                let mut node = node;
+                let path = self.lend(&mut node);
+                self.walk.note(Asked::Names(node));
+                Ok(Some(Command::LsAttr(path)))
+            }
+            Next::Facts(node) => {
+                let mut node = node;
+                let path = self.lend(&mut node);
+                self.walk.note(Asked::Facts(node));
+                Ok(Some(Command::Stat(path)))
+            }
+            Next::Entry { node, facts } => self.take_entry(node, facts),
+            Next::Piece(current) => self.take_piece(current),
         }
-        push_line(lines, "stat", node.word.as_str())?;
-        self.walk.note(Asked::Facts(node))
     }
 
     // Asks the entries of a folder.
-    pub(crate) fn ask_entries(
-        &mut self,
-        lines: &mut Vec<u8>,
-        node: Node,
-    ) -> Result<(), AllocError> {
-        push_line(lines, "ls", node.word.as_str())?;
-        self.walk.note(Asked::Entries(node))
+    pub(crate) fn ask_entries(&mut self, node: Node) -> Option<Command> {
+        let mut node = node;
+        let path = self.lend(&mut node);
+        self.walk.note(Asked::Entries(node));
+        Some(Command::Ls(path))
     }
 
-    // Asks the values of the attributes of a node.
-    pub(crate) fn ask_values(
+    // Asks the value of the last of the attributes of a node.
+    pub(crate) fn ask_value(
         &mut self,
-        lines: &mut Vec<u8>,
-        node: &mut Node,
-    ) -> Result<(), AllocError> {
-        for _ in 0..u64::MAX {
-            let Some(word) = node.attributes.pop() else {
-                break;
-            };
-            lines.extend_from_slice(b"getattr")?;
-            push_path(lines, node.word.as_str())?;
-            lines.extend_from_slice(b" ")?;
-            lines.extend_from_slice(word.as_bytes())?;
-            lines.extend_from_slice(b"\n")?;
-            self.walk.note(Asked::Value(word))?;
-        }
-        Ok(())
-    }
-
-    // Asks the first piece of a file, and then the others.
-    pub(crate) fn ask_file(
-        &mut self,
-        lines: &mut Vec<u8>,
         node: Node,
         facts: Facts,
-    ) -> Result<(), AllocError> {
-        let alloc = self.notes.rt().alloc();
-        let word = String::from_str(alloc, node.word.as_str())?;
-        let mut attributes = Vec::new(alloc);
-        mem::swap(&mut attributes, &mut self.values);
-        let last = facts.size <= PIECE as u64;
-        self.push_read(lines, word.as_str(), 0, facts.size)?;
-        self.walk.note(Asked::First {
-            node,
-            facts,
-            attributes,
-            last,
-        })?;
-        if last {
-            return Ok(());
-        }
-        let rest = Rest {
-            word,
-            from: PIECE as u64,
-            size: facts.size,
-        };
-        self.ask_pieces(lines, rest)
-    }
-
-    // Asks pieces of a file, as many as may be asked at once, and keeps the others for the next time.
-    fn ask_pieces(&mut self, lines: &mut Vec<u8>, rest: Rest) -> Result<(), AllocError> {
-        let mut rest = rest;
-        for _ in 0..MOST_REPLIES {
-            if rest.from >= rest.size || self.expected >= MOST_BYTES {
-                break;
-            }
-            self.push_read(lines, rest.word.as_str(), rest.from, rest.size)?;
-            rest.from = rest.from.saturating_add(PIECE as u64);
-            self.walk.note(Asked::Piece {
-                last: rest.from >= rest.size,
-            })?;
-        }
-        if rest.from >= rest.size {
-            return Ok(());
-        }
-        self.walk.keep_rest(rest);
-        Ok(())
-    }
-
-    // Asks a piece of a file.
-    fn push_read(
-        &mut self,
-        lines: &mut Vec<u8>,
-        word: &str,
-        from: u64,
-        size: u64,
-    ) -> Result<(), AllocError> {
-        self.expected = self
-            .expected
-            .saturating_add(size.saturating_sub(from).min(PIECE as u64));
-        lines.extend_from_slice(b"read")?;
-        push_path(lines, word)?;
-        push_number(lines, from)?;
-        push_number(lines, PIECE as u64)?;
-        lines.extend_from_slice(b"\n")
-    }
-
-    // Hears the names of the attributes of the node whose facts come next.
-    fn hear_names(&mut self, reply: &[u8]) -> Result<(), AllocError> {
-        self.names.clear();
-        let alloc = self.notes.rt().alloc();
-        let text = String::from_utf8_lossy(alloc, reply)?;
-        let Some(listed) = text.as_str().strip_prefix("ok ") else {
-            return Ok(());
-        };
-        for name in listed.split(' ').skip(1) {
-            self.names.push(String::from_str(alloc, name)?)?;
-        }
-        Ok(())
-    }
-
-    // Hears the facts of a node. They are looked at when all before it was asked.
-    fn hear_facts(&mut self, node: Node, reply: &[u8]) -> Result<(), AllocError> {
+    ) -> Result<Option<Command>, AllocError> {
         let mut node = node;
-        let Some(facts) = facts_of(reply) else {
-            return self.lose(node.word.as_str(), reply);
+        let Some(name) = node.attributes.pop() else {
+            self.walk.push(Next::Entry { node, facts })?;
+            return Ok(None);
         };
-        mem::swap(&mut node.attributes, &mut self.names);
-        self.names.clear();
-        self.walk.find(Next::Entry { node, facts })
+        let path = self.lend(&mut node);
+        self.walk.note(Asked::Value { node, facts });
+        Ok(Some(Command::GetAttr { path, name }))
     }
 
-    // Hears a line that is no reply to what was asked: the volume isn't served.
-    fn hear_refusal(&mut self, reply: &[u8]) -> Result<(), AllocError> {
-        let why = reason_of(self.notes.rt().alloc(), reply)?;
-        self.notes.fail("the image isn't served", why.as_str());
-        Ok(())
+    // Asks the next piece of a file, or ends it.
+    fn take_piece(&mut self, current: Current) -> Result<Option<Command>, AllocError> {
+        if current.from >= current.facts.size || !current.whole {
+            self.end_file(current)?;
+            return Ok(None);
+        }
+        let mut current = current;
+        let path = self.lend(&mut current.node);
+        let from = current.from;
+        self.walk.note(Asked::Piece(current));
+        Ok(Some(Command::Read {
+            path,
+            from,
+            length: PIECE,
+        }))
+    }
+
+    // Hears a piece of a file.
+    fn hear_piece(&mut self, current: Current, reply: Reply) -> Result<(), AllocError> {
+        let mut current = current;
+        match reply {
+            Reply::Content(bytes) => {
+                if !self.put_piece(&current, bytes.as_slice())? {
+                    current.whole = false;
+                }
+            }
+            other => {
+                self.lose(&current.node, &other)?;
+                current.whole = false;
+            }
+        }
+        current.from = current.from.saturating_add(PIECE);
+        self.walk.push(Next::Piece(current))
+    }
+
+    // Hears the names of the attributes of a node.
+    fn hear_names(&mut self, node: Node, reply: Reply) -> Result<(), AllocError> {
+        let mut node = node;
+        if let Reply::Listing(listing) = reply {
+            for listed in listing.into_vec() {
+                node.attributes.push(listed.name)?;
+            }
+        }
+        self.walk.push(Next::Facts(node))
+    }
+
+    // Hears the facts of a node.
+    fn hear_facts(&mut self, node: Node, reply: Reply) -> Result<(), AllocError> {
+        match reply {
+            Reply::Facts(told) => {
+                let facts = facts_of(&told);
+                self.walk.push(Next::Entry { node, facts })
+            }
+            other => self.lose(&node, &other),
+        }
+    }
+
+    // Hears the entries of a folder.
+    fn hear_entries(&mut self, node: Node, reply: Reply) -> Result<(), AllocError> {
+        match reply {
+            Reply::Listing(listing) => {
+                self.find_entries(&node, listing)?;
+                self.walk.settle()
+            }
+            other => self.lose(&node, &other),
+        }
     }
 }
 
-// Puts a line of a verb and a path.
-fn push_line(lines: &mut Vec<u8>, verb: &str, word: &str) -> Result<(), AllocError> {
-    lines.extend_from_slice(verb.as_bytes())?;
-    push_path(lines, word)?;
-    lines.extend_from_slice(b"\n")
+// The facts that a reply tells.
+fn facts_of(told: &Told) -> Facts {
+    Facts {
+        folder: told.folder,
+        id: u64::from(told.id),
+        size: told.size,
+        links: u64::from(told.links),
+        mode: u32::from(told.mode),
+        created: told.created,
+        changed: told.changed,
+    }
 }

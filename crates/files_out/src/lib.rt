@@ -1,5 +1,5 @@
-//! Files of a volume are listed, told, made below a folder of the system, or written as a tar archive, by a job that asks lines of
-//! `ls`, `stat` and `read` and hears their replies.
+//! Files of a volume are listed, told, made below a folder of the system, or written as a tar archive, by a job that asks `ls`, `stat` and
+//! `read` of a look at the volume and hears the replies.
 #![tactic(auto)]
 
 mod below;
@@ -16,7 +16,7 @@ mod walk;
 mod wish;
 
 pub use out::Out;
-pub use shown::path_word;
+pub use shown::{path_of, path_word};
 pub use wish::Wish;
 
 #[cfg(test)]

@@ -3,26 +3,17 @@
 use crate::below::Below;
 use crate::output::Output;
 use crate::tape::Tape;
-use crate::walk::{Next, Node, Walk};
+use crate::walk::{Node, Walk};
 use crate::wish::Wish;
-use files_talk::{Counts, Facts, Notes};
+use files_talk::{Counts, Notes};
+use hfs_language::Path;
 use std::alloc::AllocError;
 use std::collections::BTreeMap;
-use tar_text::Attribute;
 
 /// The status where all was served and something was left out, and where standard output failed.
 const LEFT_OUT: u8 = 9;
 
 const NO_OUTPUT: u8 = 5;
-
-/// A file whose bytes are heard.
-#[derive(Drop)]
-pub(crate) struct Current {
-    pub(crate) node: Node,
-    pub(crate) facts: Facts,
-    /// Whether its bytes are written; else they are passed over.
-    pub(crate) whole: bool,
-}
 
 /// A job that takes files out of a volume.
 #[derive(Drop)]
@@ -33,53 +24,35 @@ pub struct Out<'a> {
     pub(crate) below: Below,
     pub(crate) tape: Tape,
     pub(crate) output: Output<'a>,
-    /// The words of the attributes of the node whose facts come next.
-    pub(crate) names: Vec<String>,
-    /// The attributes of the node that is next.
-    pub(crate) values: Vec<Attribute>,
     /// Where the first name of each file with several names was made, by the number of the file.
     pub(crate) made: BTreeMap<u64, String>,
-    pub(crate) current: Option<Current>,
-    /// The bytes that the replies to what was asked may have.
-    pub(crate) expected: u64,
 }
 
 impl<'a> Out<'a> {
-    /// A job for the entries at these paths, which are spelled as in a line. For `Get` and `Tar` it is one, whose entries come into the
-    /// folder, or one file, which comes into it under its name.
+    /// A job for the entries at these paths. For `Get` and `Tar` it is one, whose entries come into the folder, or one file, which comes into it
+    /// under its name.
     pub fn new(
         notes: Notes<'a>,
         wish: Wish,
-        words: Vec<String>,
+        paths: Vec<Path>,
         folder: &str,
     ) -> Result<Out<'a>, AllocError> {
         let rt = notes.rt();
-        let mut words = words;
-        let mut walk = Walk::new(rt.alloc());
-        for _ in 0..u64::MAX {
-            let Some(word) = words.pop() else {
-                break;
-            };
-            let mut word = word;
-            if word.as_str() == "/" {
-                word.clear();
-            }
-            let place = String::from_str(rt.alloc(), folder)?;
-            walk.push(Next::Facts(Node::new(rt.alloc(), word, place, true)))?;
-        }
-        Ok(Out {
+        let mut out = Out {
             notes,
             wish,
-            walk,
+            walk: Walk::new(rt.alloc()),
             below: Below::new(rt, matches!(wish, Wish::Get { over: true })),
             tape: Tape::new(),
             output: Output::new(rt),
-            names: Vec::new(rt.alloc()),
-            values: Vec::new(rt.alloc()),
             made: BTreeMap::new(rt.alloc()),
-            current: None,
-            expected: 0,
-        })
+        };
+        for path in paths {
+            let place = String::from_str(rt.alloc(), folder)?;
+            out.find(Node::new(rt.alloc(), path, place, true))?;
+        }
+        out.walk.settle()?;
+        Ok(out)
     }
 
     /// Ends the work: folders get their modes and dates, and standard output what is left for it. Where the volume was served to the end, an

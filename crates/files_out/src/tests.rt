@@ -1,17 +1,23 @@
 //! Paths, dates and modes, as the system's `date` and `stat` tell them.
 use crate::listing::list_line;
 use crate::moment::moment;
-use crate::path_word;
-use crate::shown::shown_path;
+use crate::path_of;
+use crate::shown::{shown_path, word_of_name};
 use files_talk::Facts;
 use std::alloc::{AllocError, Global};
 use std::process::Abort;
 use std::test::Fail;
 
-// The path of a line that a path of the user stands for.
-fn is_read(rt: &impl Abort, alloc: Global, path: &str, wanted: &str) -> Result<(), AllocError> {
-    match path_word(alloc, path)? {
-        Ok(word) => assert_eq!(rt; word.as_str(), wanted),
+// How the names of a path of the user are spelled in a line.
+fn is_read(rt: &impl Abort, alloc: Global, path: &str, wanted: &[&str]) -> Result<(), AllocError> {
+    match path_of(alloc, path)? {
+        Ok(path) => {
+            assert_eq!(rt; path.len(), wanted.len());
+            for (name, word) in path.as_slice().iter().zip(wanted.iter()) {
+                let spelled = word_of_name(alloc, name)?;
+                assert_eq!(rt; spelled.as_str(), *word);
+            }
+        }
         Err(_lack) => assert!(rt; false),
     }
     Ok(())
@@ -19,21 +25,26 @@ fn is_read(rt: &impl Abort, alloc: Global, path: &str, wanted: &str) -> Result<(
 
 #[test]
 fn a_path_of_the_user_is_that_of_a_line(rt: HostRuntime) -> Result<(), Fail> {
-    is_read(&rt, rt.alloc(), "/a b/c/", "/a%u0020b/c")?;
-    is_read(&rt, rt.alloc(), "/", "")?;
+    is_read(&rt, rt.alloc(), "/a b/c/", &["a%u0020b", "c"])?;
+    is_read(&rt, rt.alloc(), "/", &[])?;
     Ok(())
 }
 
 // A path as it is shown.
 fn is_shown(rt: &impl Abort, alloc: Global, path: &str, wanted: &str) -> Result<(), AllocError> {
-    let shown = shown_path(alloc, path)?;
-    assert_eq!(rt; shown.as_str(), wanted);
+    match path_of(alloc, path)? {
+        Ok(path) => {
+            let shown = shown_path(alloc, &path)?;
+            assert_eq!(rt; shown.as_str(), wanted);
+        }
+        Err(_lack) => assert!(rt; false),
+    }
     Ok(())
 }
 
 #[test]
 fn paths_are_shown_as_they_may_be_given_back(rt: HostRuntime) -> Result<(), Fail> {
-    is_shown(&rt, rt.alloc(), "", "/")?;
+    is_shown(&rt, rt.alloc(), "/", "/")?;
     is_shown(&rt, rt.alloc(), "/a%u0020b/50%%", "/a b/50%%")?;
     is_shown(&rt, rt.alloc(), "/e\u{301}", "/\u{e9}")?;
     is_shown(&rt, rt.alloc(), "/%u00E9", "/%u00E9")?;

@@ -1,27 +1,29 @@
 //! What of a volume is still to be asked, and what was asked and has no reply yet.
 
 use files_talk::Facts;
+use hfs_language::Path;
+use hx_bytes::Units;
 use std::alloc::{AllocError, Global};
 use tar_text::Attribute;
 
 /// A file or a folder.
 #[derive(Drop)]
 pub(crate) struct Node {
-    /// Its path as a line spells it; the root's is empty.
-    pub(crate) word: String,
+    /// Its path in the volume.
+    pub(crate) path: Path,
     /// Where it goes: a path of the system, or a path in an archive.
     pub(crate) place: String,
     /// Whether the user named it.
     pub(crate) top: bool,
-    /// The words of its attributes that weren't asked for yet.
-    pub(crate) attributes: Vec<String>,
+    /// Its attributes whose values weren't asked for yet.
+    pub(crate) attributes: Vec<Units>,
 }
 
 impl Node {
     /// A node that the user named, or one below it.
-    pub(crate) fn new(alloc: Global, word: String, place: String, top: bool) -> Node {
+    pub(crate) fn new(alloc: Global, path: Path, place: String, top: bool) -> Node {
         Node {
-            word,
+            path,
             place,
             top,
             attributes: Vec::new(alloc),
@@ -29,63 +31,66 @@ impl Node {
     }
 }
 
+/// A file whose bytes are heard.
+#[derive(Drop)]
+pub(crate) struct Current {
+    pub(crate) node: Node,
+    pub(crate) facts: Facts,
+    /// Whether its bytes are written; else they are passed over.
+    pub(crate) whole: bool,
+    /// Where the next piece of it begins.
+    pub(crate) from: u64,
+}
+
 /// What is still to be asked or made.
 #[derive(Drop)]
 pub(crate) enum Next {
-    /// What is known of a node.
+    /// The names of the attributes of a node.
+    Names(Node),
+    /// What is known of it.
     Facts(Node),
     /// A node of which the facts are known.
     Entry { node: Node, facts: Facts },
+    /// A file that was begun, of which the next piece is wanted.
+    Piece(Current),
 }
 
-/// The pieces of a file that weren't asked yet.
-#[derive(Drop)]
-pub(crate) struct Rest {
-    pub(crate) word: String,
-    pub(crate) from: u64,
-    pub(crate) size: u64,
-}
-
-/// What a reply is to.
+/// What the next reply is to.
 #[derive(Drop)]
 pub(crate) enum Asked {
-    /// The attributes of the node whose facts come next.
-    Names,
+    Names(Node),
     Facts(Node),
-    /// The value of the attribute with this word.
-    Value(String),
+    /// The value of an attribute, for a node of which the facts are known.
+    Value { node: Node, facts: Facts },
     Entries(Node),
-    /// The first piece of a file, which may be its last.
-    First {
-        node: Node,
-        facts: Facts,
-        attributes: Vec<Attribute>,
-        last: bool,
-    },
-    /// A piece behind it.
-    Piece {
-        last: bool,
-    },
+    Piece(Current),
 }
 
-/// A stack of what is next, what was found for it, and the queue of what was asked. The rest of a file comes before all that is next.
+/// A stack of what is next, what was found for it, and what was asked.
 #[derive(Drop)]
 pub(crate) struct Walk {
-    rest: Option<Rest>,
     next: Vec<Next>,
     found: Vec<Next>,
-    asked: Vec<Asked>,
+    asked: Option<Asked>,
+    /// The attributes of the node that is next.
+    pub(crate) values: Vec<Attribute>,
 }
 
 impl Walk {
     /// Nothing is to be done.
     pub(crate) fn new(alloc: Global) -> Walk {
         Walk {
-            rest: None,
             next: Vec::new(alloc),
             found: Vec::new(alloc),
-            asked: Vec::new(alloc),
+            asked: None,
+            values: Vec::new(alloc),
         }
+    }
+
+    /// Puts something before all that is next.
+    pub(crate) fn push(&mut self, next: Next) -> Result<(), AllocError> {
+        self.next.push(next)?;
+        Ok(())
     }
 
     /// Finds what is to be done behind what was found before, and before all that is next.
@@ -105,48 +110,18 @@ impl Walk {
         Ok(())
     }
 
-    /// Keeps the rest of a file.
-    pub(crate) fn keep_rest(&mut self, rest: Rest) {
-        self.rest = Some(rest);
-    }
-
-    /// Takes the rest of a file.
-    pub(crate) fn take_rest(&mut self) -> Option<Rest> {
-        self.rest.take()
-    }
-
     /// Takes what is next.
     pub(crate) fn pop(&mut self) -> Option<Next> {
         self.next.pop()
     }
 
-    /// Puts what was taken back.
-    pub(crate) fn push(&mut self, next: Next) -> Result<(), AllocError> {
-        self.next.push(next)?;
-        Ok(())
-    }
-
     /// Notes what was asked.
-    pub(crate) fn note(&mut self, asked: Asked) -> Result<(), AllocError> {
-        self.asked.push(asked)?;
-        Ok(())
+    pub(crate) fn note(&mut self, asked: Asked) {
+        self.asked = Some(asked);
     }
 
-    /// What the next reply is to.
+    /// What the reply is to.
     pub(crate) fn answered(&mut self) -> Option<Asked> {
-        if self.asked.is_empty() {
-            return None;
-        }
-        Some(self.asked.remove(0))
-    }
-
-    /// Whether something was found that isn't next yet.
-    pub(crate) fn has_found(&self) -> bool {
-        !self.found.is_empty()
-    }
-
-    /// How many replies are awaited.
-    pub(crate) fn awaited(&self) -> usize {
-        self.asked.len()
+        self.asked.take()
     }
 }

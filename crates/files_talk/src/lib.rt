@@ -10,7 +10,7 @@ mod talk;
 mod words;
 
 pub use dates::{Date, FIRST_SECOND, LAST_SECOND, date_of, seconds_of};
-pub use names::{NameLack, child_of, name_of, word_of};
+pub use names::{NameLack, child_of, component_word, name_of, word_of};
 pub use notes::{Counts, Notes};
 pub use reasons::reason_of;
 pub use talk::{Job, Lines, Replies, Talk};

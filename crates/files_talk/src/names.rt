@@ -1,4 +1,9 @@
 //! Names of the system's files as words of a line, and back, by the proved readers and printers.
+ghost use Rattle.std.specs.Prelude.{◌≡◌, Ok, Err, ℕ, List, chars, string_bytes, encode_utf8_all, IfOk, IfErr};
+ghost use Rattle.name_text.specs.Printing.{component_text};
+ghost use Rattle.name_text.specs.Reading.{component};
+ghost use Rattle.files_talk.specs.Names.{SpellsNone};
+
 use name_text::{NameFault, print_component, read_component};
 use std::alloc::{AllocError, Global};
 use std::fmt;
@@ -43,7 +48,17 @@ pub fn word_of(alloc: Global, name: &str) -> Result<Result<String, NameLack>, Al
         }
         text.push(c)?;
     }
-    match read_component(alloc, text.as_str()) {
+    component_word(alloc, text.as_str())
+}
+
+/// The word that a line has for a name which is spelled as in a line, though perhaps otherwise than the server spells it: with spaces, say, or
+/// composed. A text that spells no name has none.
+pub fn component_word(alloc: Global, name: &str) -> Result<Result<String, NameLack>, AllocError>
+    ensures named { IfOk result (λ found. IfOk found (λ word. IfErr (component (chars name.now)) (λ fault. ⊥))) }
+    ensures word { IfOk result (λ found. IfOk found (λ word. IfOk (component (chars name.now)) (λ units. string_bytes word ≡ encode_utf8_all (component_text units)))) }
+    ensures none { IfOk result (λ found. IfErr found (λ lack. SpellsNone (chars name.now) lack)) }
+{
+    match read_component(alloc, name) {
         Ok(units) => match print_component(alloc, &units) {
             Ok(word) => Ok(Ok(word)),
             Err(_) => Err(AllocError),
@@ -54,14 +69,9 @@ pub fn word_of(alloc: Global, name: &str) -> Result<Result<String, NameLack>, Al
     }
 }
 
-/// The name of the file that a word spells, in NFC. It never leads out of the folder in which it stands.
-pub fn name_of(alloc: Global, word: &str) -> Result<Result<String, NameLack>, AllocError> {
-    let units = match read_component(alloc, word) {
-        Ok(units) => units,
-        Err(NameFault::Memory) => return Err(AllocError),
-        Err(_) => return Ok(Err(NameLack::Unspelled)),
-    };
-    let text = match String::from_utf16(alloc, units.as_slice())? {
+/// The name of the file that a name of the volume stands for, in NFC. It never leads out of the folder in which it stands.
+pub fn name_of(alloc: Global, units: &[u16]) -> Result<Result<String, NameLack>, AllocError> {
+    let text = match String::from_utf16(alloc, units)? {
         Ok(text) => text,
         Err(_) => return Ok(Err(NameLack::NoText)),
     };
@@ -82,6 +92,9 @@ fn leads_elsewhere(name: &str) -> bool {
 
 // The same text in NFC.
 fn composed(alloc: Global, text: &str) -> Result<String, AllocError> {
+    if text.is_ascii() {
+        return String::from_str(alloc, text);
+    }
     let characters: Vec<char> = text.chars().collect(alloc)?;
     let mut composed = Vec::new(alloc);
     extend_nfc(&mut composed, characters.as_slice())?;

@@ -1,7 +1,6 @@
 //! The one job of a run, so that the server is compiled once, and what the server tells before it takes a line.
 use file_rig::Waiting;
 use files_in::{ArchiveIn, FolderIn};
-use files_out::Out;
 use files_talk::Job;
 use std::alloc::{AllocError, Global};
 use std::rt::Stdin;
@@ -12,11 +11,10 @@ const MOST_UNASKED: usize = 4_096;
 /// What is done.
 #[derive(Drop)]
 pub(crate) enum Task<'a> {
-    /// Nothing: a volume is made.
+    /// Nothing: a volume is made, or looked at.
     Make,
     Folder(FolderIn<'a>),
     Archive(ArchiveIn<'a, Waiting<'a, HostRuntime, Stdin>>),
-    Out(Out<'a>),
 }
 
 /// A task, and what the server told before it took a line.
@@ -45,7 +43,6 @@ impl<'a> Job for Errand<'a> {
             Task::Make => Ok(()),
             Task::Folder(job) => job.ask(lines),
             Task::Archive(job) => job.ask(lines),
-            Task::Out(job) => job.ask(lines),
         }
     }
 
@@ -61,7 +58,6 @@ impl<'a> Job for Errand<'a> {
             Task::Make => Ok(()),
             Task::Folder(job) => job.hear(reply),
             Task::Archive(job) => job.hear(reply),
-            Task::Out(job) => job.hear(reply),
         }
     }
 }

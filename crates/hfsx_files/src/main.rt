@@ -1,7 +1,7 @@
 //! The program `hfsx-files`: files of the system are put into a volume, and a volume's files are taken out, listed and told.
 //!
-//! It stands on the top call of the volume's server: what it asks are lines, and what it hears are replies. So whatever it does, a volume
-//! keeps what the server promises.
+//! It stands on the calls of the volume's server: what changes a volume goes through its top call, as lines, so a volume keeps what the server
+//! promises; and what is taken out is asked of its look, which writes nothing.
 #![tactic(auto)]
 
 mod call;
@@ -11,7 +11,6 @@ mod options;
 mod out;
 mod put;
 mod serving;
-mod site;
 mod status;
 mod texts;
 mod words;
@@ -63,7 +62,7 @@ fn refuse(rt: &HostRuntime, why: &str) -> u8 {
 // Does what a call asks for.
 fn work(rt: &HostRuntime, call: Call) -> Result<u8, AllocError> {
     match call.verb {
-        Verb::Help => Ok(tell(rt, texts::HELP)),
+        Verb::Help => Ok(help(rt)),
         Verb::Version => Ok(tell(rt, texts::VERSION)),
         Verb::Put => match read_options(rt, &call)? {
             Ok(options) => put::put(rt, &call, &options),
@@ -73,6 +72,15 @@ fn work(rt: &HostRuntime, call: Call) -> Result<u8, AllocError> {
         Verb::Explain => explain(rt, call.image(), call.json),
         Verb::Get | Verb::List | Verb::Cat | Verb::Stat => out::take_out(rt, &call),
     }
+}
+
+// Tells how the program is called, and what it does.
+fn help(rt: &HostRuntime) -> u8 {
+    let status = tell(rt, texts::USAGE);
+    if status != 0 {
+        return status;
+    }
+    tell(rt, texts::HELP)
 }
 
 // Tells a text on standard output.

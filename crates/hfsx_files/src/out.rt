@@ -1,43 +1,34 @@
 //! A volume's files are taken out, listed and told. No byte of the image changes.
 use crate::call::{Call, Verb};
-use crate::errand::{Errand, Task};
 use crate::serving::look;
 use crate::status::WRONG_WORDS;
-use files_out::{Out, Wish, path_word};
-use files_talk::{Notes, Talk};
+use files_out::{Out, Wish, path_of};
+use files_talk::Notes;
+use hfs_language::Path;
 use std::alloc::AllocError;
 
 /// Does what a call asks for, and gives the exit status.
 pub(crate) fn take_out(rt: &HostRuntime, call: &Call) -> Result<u8, AllocError> {
     let alloc = rt.alloc();
     let (wish, folder) = wish_of(call);
-    let mut words = Vec::new(alloc);
+    let mut paths = Vec::new(alloc);
     for path in paths_of(call) {
-        match path_word(alloc, path.as_str())? {
-            Ok(word) => words.push(word)?,
+        match path_of(alloc, path.as_str())? {
+            Ok(found) => paths.push(found)?,
             Err(lack) => {
                 let _ = eprintln!(rt; "hfsx-files: {path}: {lack}");
                 return Ok(WRONG_WORDS);
             }
         }
     }
-    if words.is_empty() {
-        words.push(String::new(alloc))?;
+    if paths.is_empty() {
+        paths.push(Path::new(alloc))?;
     }
     let notes = Notes::new(rt, "got", call.verbose);
-    let task = Task::Out(Out::new(notes, wish, words, folder)?);
-    let talk = Talk::new(Errand::new(alloc, task), Vec::new(alloc), Vec::new(alloc));
-    let status = look(rt, call.image(), &talk)?;
-    let Ok(mut talk) = talk.try_borrow_mut() else {
-        return Ok(status);
-    };
-    match &mut talk.job().task {
-        Task::Out(job) => {
-            job.finish(status == 0)?;
-            Ok(if status == 0 { job.status() } else { status })
-        }
-        _ => Ok(status),
-    }
+    let mut job = Out::new(notes, wish, paths, folder)?;
+    let status = look(rt, call.image(), &mut job)?;
+    job.finish(status == 0)?;
+    Ok(if status == 0 { job.status() } else { status })
 }
 
 // What is to be done, and the folder in which it is done.

@@ -73,7 +73,7 @@ fn put_all(rt: &HostRuntime, image: &str, task: Task<'_>) -> Result<u8, AllocErr
                 ended
             })
         }
-        _ => Ok(status),
+        Task::Make => Ok(status),
     }
 }
 

@@ -1,8 +1,8 @@
 //! A volume is served by the top call, and what fails is told.
-use crate::errand::Errand;
-use crate::site::Site;
+use crate::errand::{Errand, Task};
 use crate::status::{NO_IMAGE, NO_MEMORY};
-use file_rig::{Failure, FileRig, Image, Look, Sparse, StdinSource, Store, tell};
+use file_rig::{Failure, FileRig, Image, Sparse, StdinSource, Store, tell};
+use files_out::Out;
 use files_talk::{Lines, Replies, Talk};
 use hfsx_server::{Status, hfsx};
 use std::alloc::AllocError;
@@ -15,26 +15,30 @@ pub(crate) fn serve(
     image: &str,
     talk: &RefCell<Talk<Errand<'_>>>,
 ) -> Result<u8, AllocError> {
-    let opened = match Image::open(rt, image) {
-        Ok((place, sectors)) => Ok((Site::Image(place), sectors)),
-        Err(failure) => Err(failure),
-    };
+    let opened = Image::open(rt, image);
     let words = vec![in rt.alloc(); copy(rt, "run")?, copy(rt, image)?]?;
     run(rt, words.as_slice(), image, opened, talk)
 }
 
-/// Serves the volume of an image, of which no byte is changed, and gives the exit status.
-pub(crate) fn look(
-    rt: &HostRuntime,
-    image: &str,
-    talk: &RefCell<Talk<Errand<'_>>>,
-) -> Result<u8, AllocError> {
-    let opened = match Image::to_check(rt, image) {
-        Ok((place, sectors)) => Ok((Site::Look(Look::new(rt.alloc(), place)), sectors)),
-        Err(failure) => Err(failure),
+/// Lets a job look at what the volume of an image holds, of which no byte is changed, and gives the exit status.
+pub(crate) fn look(rt: &HostRuntime, image: &str, job: &mut Out<'_>) -> Result<u8, AllocError> {
+    let (place, sectors) = match Image::to_check(rt, image) {
+        Ok(found) => found,
+        Err(failure) => {
+            tell(rt, &failure, image);
+            return Ok(NO_IMAGE);
+        }
     };
-    let words = vec![in rt.alloc(); copy(rt, "run")?, copy(rt, image)?]?;
-    run(rt, words.as_slice(), image, opened, talk)
+    let alloc = rt.alloc();
+    let talk = Talk::new(
+        Errand::new(alloc, Task::Make),
+        Vec::new(alloc),
+        Vec::new(alloc),
+    );
+    let store = Store::new(alloc, Sparse::new(place), sectors)?;
+    let mut rig = FileRig::new(store, Replies(&talk));
+    let status = hfsx_server::look(alloc, &mut rig, job);
+    tell_end(rt, image, status, rig.failure(), &talk)
 }
 
 /// Makes a volume of so many sectors in an image, or where the number isn't the user's as large as a device is, and gives the exit status.
@@ -46,7 +50,7 @@ pub(crate) fn make<'a>(
     talk: &RefCell<Talk<Errand<'_>>>,
 ) -> Result<u8, AllocError> {
     let (opened, found) = match Image::to_format(rt, image, sectors) {
-        Ok((place, found)) => (Ok((Site::Image(place), found)), found),
+        Ok((place, found)) => (Ok((place, found)), found),
         Err(failure) => (Err(failure), sectors),
     };
     let size = if is_auto { found } else { sectors };
@@ -64,24 +68,35 @@ fn run(
     rt: &HostRuntime,
     words: &[String],
     image: &str,
-    opened: Result<(Site<'_>, u64), Failure>,
+    opened: Result<(Image<'_>, u64), Failure>,
     talk: &RefCell<Talk<Errand<'_>>>,
 ) -> Result<u8, AllocError> {
-    let (site, sectors) = match opened {
+    let (place, sectors) = match opened {
         Ok(found) => found,
         Err(failure) => {
             tell(rt, &failure, image);
             return Ok(NO_IMAGE);
         }
     };
-    let store = Store::new(rt.alloc(), Sparse::new(site), sectors)?;
+    let store = Store::new(rt.alloc(), Sparse::new(place), sectors)?;
     let mut rig = FileRig::new(store, Replies(talk));
     let mut source = StdinSource::new(Lines(talk));
     // Nobody watches.
     let mut watchers: Vec<Box<dyn Watcher>> = Vec::new(rt.alloc());
     let status = hfsx(rt.alloc(), words, &mut rig, &mut source, &mut watchers);
+    tell_end(rt, image, status, rig.failure(), talk)
+}
+
+// Tells what failed, and gives the exit status.
+fn tell_end(
+    rt: &HostRuntime,
+    image: &str,
+    status: Status,
+    failure: Option<Failure>,
+    talk: &RefCell<Talk<Errand<'_>>>,
+) -> Result<u8, AllocError> {
     match status {
-        Status::Disk => Ok(tell_disk(rt, image, rig.failure(), status)),
+        Status::Disk => Ok(tell_disk(rt, image, failure, status)),
         Status::Refused => {
             tell_refusal(rt, image, talk)?;
             Ok(status.code())

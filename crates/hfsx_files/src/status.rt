@@ -1,6 +1,6 @@
 //! The exit statuses, besides those of the server.
 
-/// The image or a standard stream could not be served: the words are wrong.
+/// The words are wrong.
 pub(crate) const WRONG_WORDS: u8 = 2;
 
 /// Standard input, or the archive that came by it, could not be read to its end.

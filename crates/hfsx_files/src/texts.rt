@@ -11,17 +11,8 @@ pub(crate) const USAGE: &str =
        hfsx-files explain IMAGE [--json]
        hfsx-files --help | --version";
 
-/// What `--help` tells.
-pub(crate) const HELP: &str =
-    "usage: hfsx-files put IMAGE FOLDER|- [--to /P] [--size auto|SECTORS] [--date keep|SECONDS] [--over] [--verbose]
-       hfsx-files get IMAGE [/P] FOLDER|- [--over] [--verbose]
-       hfsx-files ls [-lR] IMAGE [/P ..]
-       hfsx-files cat IMAGE /P
-       hfsx-files stat IMAGE /P ..
-       hfsx-files salvage IMAGE FOLDER [--json]
-       hfsx-files explain IMAGE [--json]
-       hfsx-files --help | --version
-
+/// What `--help` tells behind the ways to call it.
+pub(crate) const HELP: &str = "\n
 Puts files into a journaled HFSX volume in an image or on a block device, and takes them out.
 
   put      puts what FOLDER holds, or the tar archive of standard input, into the volume

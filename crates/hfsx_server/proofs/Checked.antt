@@ -32,7 +32,7 @@ refused_unsound c (opening.JournalTooSmall need has) is sound = is
 
 -- ---- verdicts
 
-not_clean : (b : Bool) → b ≡ false → IsTrue b → ⊥
+pub not_clean : (b : Bool) → b ≡ false → IsTrue b → ⊥
 not_clean b none is = absurd (cc (none, is))
 
 pub broken_unsound : (c : Content) (found : Verdict) → JudgesImage c found → is_clean found ≡ false → ¬ IsSoundImage c
@@ -50,7 +50,7 @@ told_sound old mid new summary judged same told = record {
   told = told ∙ ap (λ (l : List ℕ). l ++ clean_text summary) same;
 }
 
-none_clean : (list : List Finding) → IsTrue (is_clean (verdict.Findings list)) ⊎ (0 < length list) → 0 < length list
+pub none_clean : (list : List Finding) → IsTrue (is_clean (verdict.Findings list)) ⊎ (0 < length list) → 0 < length list
 none_clean list some = ⊎_elim (λ (clean : IsTrue (is_clean (verdict.Findings list))). absurd (not_clean false refl clean)) (λ found. found) some
 
 pub told_broken : (old mid new : State) (list : List Finding) → JudgesImage (content old) (verdict.Findings list) → mid.told ≡ old.told → mid.sink_faults ≡ old.sink_faults → ToldUnlessFailed mid new (findings_text list) → ToldBroken old new

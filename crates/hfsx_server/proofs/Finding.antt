@@ -22,7 +22,7 @@ shown_is peek sectors c recovered same is = ap (λ (b : Bool). cond b (peeked pe
 pub same_recovered : (c one other : Content) → recovery c ≡ Ok one → recovery c ≡ Ok other → one ≡ other
 same_recovered c one other a b = cc (a, b)
 
-same_journal : (c : Content) (one other : Journal) → HasJournal c one → HasJournal c other → one ≡ other
+pub same_journal : (c : Content) (one other : Journal) → HasJournal c one → HasJournal c other → one ≡ other
 same_journal c one other a b = cc (a, b)
 
 -- a transaction of one journal holds one number of sectors at most

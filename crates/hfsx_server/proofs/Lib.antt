@@ -3,8 +3,11 @@ pub mod Causes
 pub mod Checked
 pub mod Finding
 pub mod Formatted
+pub mod Judging
 pub mod MadeSizes
 pub mod Places
+pub mod Refused
+pub mod Repaired
 pub mod Results
 pub mod Statuses
 pub mod Streams

@@ -4,6 +4,7 @@ pub mod Faults
 pub mod Generating
 pub mod Made
 pub mod Playing
+pub mod Repairing
 pub mod Status
 pub mod Telling
 pub mod Watching

@@ -21,7 +21,7 @@ use Rattle.hfs_serving.specs.declared.opening.OpenRefusal.TheVariants as opening
 
 -- how the program is called
 abbrev pub usage_text : List ℕ
-usage_text = codes "usage: hfsx format IMAGE SECTORS | run IMAGE | check IMAGE | gen SEED COUNT\n"
+usage_text = codes "usage: hfsx format IMAGE SECTORS | run IMAGE | check IMAGE | gen SEED COUNT | repair IMAGE\n"
 
 -- the line of a refusal: its name and its numbers
 abbrev pub refused_text : List ℕ → List ℕ → List ℕ

@@ -21,8 +21,8 @@ pub enum SizeRefusal {
     TooLarge(u64),
 }
 
-const USAGE: &[u8; 76] =
-    b"usage: hfsx format IMAGE SECTORS | run IMAGE | check IMAGE | gen SEED COUNT\n";
+const USAGE: &[u8; 91] =
+    b"usage: hfsx format IMAGE SECTORS | run IMAGE | check IMAGE | gen SEED COUNT | repair IMAGE\n";
 
 /// Tells how the program is called. A sink that fails is left at that.
 pub fn tell_usage<R: Rig>(rig: &mut R)
@@ -67,7 +67,7 @@ pub fn tell_open<R: Rig>(rig: &mut R, refusal: OpenRefusal)
 }
 
 // Tells that the volume folds the case of letters.
-fn tell_case<R: Rig>(rig: &mut R)
+pub(crate) fn tell_case<R: Rig>(rig: &mut R)
     ensures { Tells (R.state rig.old) (R.state rig.new) case_text }
 {
     let _ = tell_refused(rig, b"CaseFolding", &[]);
@@ -106,7 +106,7 @@ fn tell_journal<R: Rig>(rig: &mut R, why: JnlRefusal) -> Result<(), Failed>
 }
 
 // The line of a refusal: its name and its numbers.
-fn tell_refused<R: Rig>(rig: &mut R, name: &[u8], numbers: &[u64]) -> Result<(), Failed>
+pub(crate) fn tell_refused<R: Rig>(rig: &mut R, name: &[u8], numbers: &[u64]) -> Result<(), Failed>
     ensures { Telling (R.state rig.old) (R.state rig.new) (refused_text name.now numbers.now) result }
 {
     tell_piece(rig, b"refused ")?;

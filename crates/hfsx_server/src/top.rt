@@ -13,13 +13,15 @@ ghost use Rattle.volume_make.specs.Layout.{free_of};
 ghost use Rattle.hfsx_server.specs.Checking.{IsSoundImage, ToldBroken, ToldCheckRefusal, ToldSound};
 ghost use Rattle.hfsx_server.specs.Generating.{ToldPlayed};
 ghost use Rattle.hfsx_server.specs.Made.{IsMade, IsNoSize, made_layout};
+ghost use Rattle.hfs_volume.specs.Sound.{IsSound};
+ghost use Rattle.hfsx_server.specs.Repairing.{CanBeRepaired, IsMendableImage, KeepsImage, ToldRepairRefusal, ToldRepaired, repaired_text};
 ghost use Rattle.hfsx_server.specs.Telling.{Tells, ToldRefusal, ToldUnlessFailed, refusal_text, size_refusal, usage_text, formatted_text};
 ghost use Rattle.hfsx_server.specs.Watching.{IsHeard};
-ghost use Rattle.cli_words.specs.Words.{texts, AreRun, AreCheck, AreFormat, AreGen, AreInUse};
+ghost use Rattle.cli_words.specs.Words.{texts, AreRun, AreCheck, AreRepair, AreFormat, AreGen, AreInUse};
 ghost use Rattle.watchers.specs.Told.{AreTold};
 
 use crate::formatting::refused_size;
-use crate::{Status, check, format, generate, run, tell_refusal, tell_usage};
+use crate::{Status, check, format, generate, repair, run, tell_refusal, tell_usage};
 use cli_words::{Work, named_work, read_words};
 use hx_bytes::OutOfMemory;
 use sector_disk::{Rig, Source};
@@ -29,7 +31,7 @@ use watchers::Watcher;
 /// Does what the words after the program's name ask for, on an image and with the lines of a source.
 ///
 /// `format IMAGE SECTORS` makes an empty volume, `run IMAGE` answers line after line, and `check IMAGE` says whether the volume is
-/// sound. The name of the image is the caller's, who opened it. `gen SEED COUNT` plays generated lines on a volume in memory, and leaves
+/// sound. `repair IMAGE` counts anew what can be counted of the volume, in one transaction. The name of the image is the caller's, who opened it. `gen SEED COUNT` plays generated lines on a volume in memory, and leaves
 /// the image alone. Other words tell how the program is called. Watchers are told what the lines of a `run` changed, once it is durable and before the
 /// replies; one that leaves is gone from the list.
 pub fn hfsx<R: Rig, S: Source, W: Watcher>(
@@ -98,6 +100,22 @@ pub fn hfsx<R: Rig, S: Source, W: Watcher>(
     ensures gen_sound { (seed count : ℕ) → AreGen (texts words.now) seed count → result ≢ Status.Refused }
     ensures gen_unwritten { (seed count : ℕ) → AreGen (texts words.now) seed count → ((R.state rig.new).candidates ≡ (R.state rig.old).candidates) × ((R.state rig.new).barriers ≡ (R.state rig.old).barriers) }
 
+    // `repair`: status 1 stands exactly where the image can't be repaired, unless it couldn't be read, and then the first refusal that stands is
+    // told, or what was found of the repair.
+    ensures repair_refused { AreRepair (texts words.now) → IsTrue (R.state rig.old).tells → result ≡ Status.Refused → ToldRepairRefusal (R.state rig.old) (R.state rig.new) × ¬ CanBeRepaired (content (R.state rig.old)) }
+    ensures repair_refuses { AreRepair (texts words.now) → IsTrue (R.state rig.old).tells → ¬ CanBeRepaired (content (R.state rig.old))
+        → (result ≡ Status.Refused) ⊎ ((result ≡ Status.Disk) ⊎ (result ≡ Status.Memory)) }
+    // From an image with nothing pending that can be repaired, whatever ends it and whenever power fails: each image that a crash may leave is found to
+    // be what the image stood for or its sound repair, and the repair once its line was told, but in the journal, in its info block and in the last
+    // mounted version.
+    ensures repair_keeps { AreRepair (texts words.now) → IsTrue (R.state rig.old).tells → HasNothingPending (R.state rig.old) → (capacity : ℕ) (start : Content) → IsMendableImage (content (R.state rig.old)) capacity start
+        → KeepsImage capacity start (R.state rig.old) (R.state rig.new) }
+    // Status 0 means that its line was told, and that the repair stands on the image, with nothing pending and an empty journal. A sound volume gets 0.
+    ensures repair_done { AreRepair (texts words.now) → IsTrue (R.state rig.old).tells → HasNothingPending (R.state rig.old) → (capacity : ℕ) (start : Content) → IsMendableImage (content (R.state rig.old)) capacity start → result ≡ Status.Done
+        → ToldRepaired capacity start (R.state rig.old) (R.state rig.new) }
+    ensures repair_sound { AreRepair (texts words.now) → IsTrue (R.state rig.old).tells → HasNothingPending (R.state rig.old) → (capacity : ℕ) (start : Content) → IsMendableImage (content (R.state rig.old)) capacity start → IsSound start → result ≡ Status.Done
+        → (R.state rig.new).told ≡ (R.state rig.old).told ++ repaired_text 0 }
+
     // What is refused, and wrong words, leave the image as it was.
     ensures unwritten { (result ≡ Status.Refused) ⊎ (result ≡ Status.Usage) → (R.state rig.new).candidates ≡ (R.state rig.old).candidates }
 
@@ -109,6 +127,7 @@ pub fn hfsx<R: Rig, S: Source, W: Watcher>(
     match read_words(alloc, words) {
         Ok(Work::Run) => run(alloc, rig, source, watchers),
         Ok(Work::Check) => check(alloc, rig),
+        Ok(Work::Repair) => repair(alloc, rig),
         Ok(Work::Gen { seed, count }) => generate(alloc, rig, seed, count),
         Ok(Work::Format { sectors }) => {
             if sectors == rig.sectors() {

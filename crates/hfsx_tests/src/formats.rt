@@ -6,7 +6,8 @@ use std::alloc::Global;
 use std::test::Fail;
 use test_kit::{put, run_on, sector_of};
 
-const USAGE: &str = "usage: hfsx format IMAGE SECTORS | run IMAGE | check IMAGE | gen SEED COUNT\n";
+const USAGE: &str =
+    "usage: hfsx format IMAGE SECTORS | run IMAGE | check IMAGE | gen SEED COUNT | repair IMAGE\n";
 
 #[test]
 fn a_size_is_refused_or_formatted(rt: HostRuntime) -> Result<(), Fail> {

@@ -16,4 +16,6 @@ mod growths;
 #[cfg(test)]
 mod lines;
 #[cfg(test)]
+mod repairs;
+#[cfg(test)]
 mod watching;

@@ -5,6 +5,7 @@ pub mod Filling
 pub mod Fresh
 pub mod HomeWritten
 pub mod Homed
+pub mod ListLaws
 pub mod Listing
 pub mod MergeLaws
 pub mod OneSector

@@ -9,7 +9,7 @@ use Rattle.jnl_replay.specs.declared.index.Peek.{Peek}
 
 -- the place of a sector's bytes, where the journal has any
 abbrev pub place_in : Peek → ℕ → Option ℕ
-place_in peek at = place_in_runs peek.index.items at
+place_in peek at = place_in_runs peek.index at
 
 -- the bytes of a text, or else those of a content
 abbrev pub seen : List ℕ → Content → ℕ → Option ℕ → List ℕ

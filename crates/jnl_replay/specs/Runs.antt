@@ -1,5 +1,5 @@
 -- Runs of sectors whose bytes stand one behind another in a journal's text.
-use Rattle.std.specs.Prelude.{◌≡◌, ◌<◌, ◌≤◌, ◌+◌, ◌-◌, ◌*◌, ◌^◌, ◌&&◌, nat_le, nat_lt, ℕ, List, [], ◌∷◌, length, slice_index_or, Option, None, Some, if◌then◌else◌}
+use Rattle.std.specs.Prelude.{◌≡◌, ◌<◌, ◌≤◌, ◌+◌, ◌-◌, ◌*◌, ◌^◌, ◌&&◌, nat_le, nat_lt, ℕ, List, [], ◌∷◌, ◌++◌, length, slice_index_or, Option, None, Some, if◌then◌else◌}
 use Rattle.jnl_replay.specs.declared.runs.Run.{Run}
 
 -- the place of a sector's bytes, where it is one of a run's
@@ -15,6 +15,11 @@ or_else (Some place) other = Some place
 abbrev pub place_in_runs : List Run → ℕ → Option ℕ
 place_in_runs [] at = None
 place_in_runs (run ∷ runs) at = or_else (place_in_runs runs at) (place_in_run run at)
+
+-- lists of runs one behind another
+unfoldable pub all_runs : List (List Run) → List Run
+all_runs [] = []
+all_runs (runs ∷ lists) = runs ++ all_runs lists
 
 -- A run has a sector, its end is a number of 32 bits, and that of its bytes one of 64 bits.
 pub record IsRun (run : Run) : Type 0 where

@@ -10,9 +10,8 @@ ghost use Rattle.hx_bytes.specs.declared.faults.Trouble.TheVariants.{Disk};
 
 use crate::homes::Homes;
 use crate::index::Peek;
-use crate::merging::sort_runs;
 use crate::plan::Plan;
-use crate::runs::add_home;
+use crate::run_index::RunIndex;
 use crate::text::text_of;
 use hx_bytes::Trouble;
 use sector_disk::SectorDisk;
@@ -31,11 +30,12 @@ impl Peek {
         let sectors = disk.sectors();
         let text = text_of(plan, sectors);
         let mut homes = Homes::new(&text, sectors);
+        let mut index = RunIndex::new(alloc);
         let mut runs = Vec::new(alloc);
         while let Some(home) = homes.next(disk)? {
-            add_home(&mut runs, &home)?;
+            index.add(alloc, &mut runs, &home)?;
         }
-        let index = sort_runs(alloc, runs)?;
+        index.put_runs(alloc, runs)?;
         Ok(Peek {
             text,
             sectors,

@@ -8,7 +8,6 @@ ghost use Rattle.sector_disk.specs.Disk.{OnlyReads};
 ghost use Rattle.jnl_replay.specs.Viewing.{shown};
 
 use crate::index::Peek;
-use crate::runs::find_place;
 use crate::text::read_text;
 use hx_bytes::{Failed, Sector};
 use sector_disk::{SectorDisk, SectorView};
@@ -30,7 +29,7 @@ impl Peek {
         if sectors != self.sectors {
             return None;
         }
-        find_place(&self.index, at)
+        self.index.find(at)
     }
 
     /// Reads a sector of what a disk stands for, of which the peek was made. It writes nothing.

@@ -24,7 +24,7 @@ const DATA: u8 = 0;
 const FOLDING: u8 = 0xCF;
 
 /// Whether the header of a volume is accepted, and the catalog that begins in its extents folds letter case.
-pub(crate) fn folds_case<V: SectorView>(alloc: Global, view: &mut V) -> Result<bool, Trouble>
+pub fn folds_case<V: SectorView>(alloc: Global, view: &mut V) -> Result<bool, Trouble>
     requires size { is_volume_size (V.space view.old).sectors ≡ true }
     ensures folds { IsTrue (V.space view.old).tells → IfOk result (λ folds. IsTrue folds ↔ FoldsFirst (V.space view.old).content) }
     ensures reads { ReadsSpace (V.space view.old) (V.space view.new) }

@@ -5,8 +5,7 @@ use crate::answering::answer_line;
 use crate::renewing::with_shrunk;
 use crate::served::ServedVolume;
 use crate::tidied::next_of;
-use crate::told::{say, tell};
-use hfs_language::{Changes, Refusal, Reply};
+use crate::told::{say_short, tell};
 use hfs_serving::{Ground, Next, Recalled, Step, ToTell, Volume};
 use hfs_volume::aside_is_free;
 use hx_bytes::Trouble;
@@ -88,12 +87,7 @@ impl Volume for ServedVolume {
     }
 
     fn tell_short(&self, told: &mut ToTell) -> Result<(), Trouble> {
-        say(
-            self.alloc,
-            &Reply::No(Refusal::OutOfMemory),
-            Changes::new(self.alloc),
-            told,
-        )?;
+        say_short(self.alloc, told)?;
         Ok(())
     }
 

@@ -1,6 +1,6 @@
 -- What a repair may write has no other use: no block of the allocation file, of the catalog file or kept back is in another fork.
-use Rattle.std.proofs.Common.{◌≡◌, ◌≢◌, ◌<◌, ◌≤◌, ℕ, ◌+◌, ◌-◌, ◌*◌, ◌/◌, nat_le, Bool, true, false, not, List, ◌++◌, refl, ◌∙◌, ap, arith}
-use Rattle.std.specs.Prelude.{Contains, All, Option, Some, None, if◌then◌else◌}
+use Rattle.std.proofs.Common.{◌≡◌, ◌≢◌, ◌<◌, ◌≤◌, ℕ, ◌+◌, ◌-◌, ◌*◌, ◌/◌, nat_le, List, ◌++◌, refl, ◌∙◌, ap, arith}
+use Rattle.std.specs.Prelude.{Contains, All, None}
 use Rattle.std.specs.List.{flat_map, range_with_len}
 use Rattle.std.proofs.lemmas.Bool.{and_parts, leb-true}
 use Rattle.std.proofs.lemmas.List.Elements.{Contains-append_left, Contains-append_right}
@@ -9,7 +9,6 @@ use Rattle.alloc_bitmap.specs.Apart.{times}
 use Rattle.alloc_bitmap.proofs.ApartLaws.{times-append}
 use Rattle.volume_header.specs.Refusal.{header_refusal, is_volume_size}
 use Rattle.volume_header.specs.declared.header.VolumeHeader.{VolumeHeader}
-use Rattle.volume_header.specs.declared.refusal.HeaderRefusal.{HeaderRefusal}
 use Rattle.volume_header.specs.declared.refusal.HeaderRefusal.TheVariants.{LimitSectors}
 use Rattle.hfs_volume.specs.Forks.{Owned, per_block_of, parts_for, data_kind, blocks_owned, fork_blocks, special_forks, reserved_blocks, bad_extents, catalog_id, allocation_id}
 use Rattle.hfs_volume.specs.Content.{VolumeState, overflow_in_volume}
@@ -21,14 +20,12 @@ use Rattle.hfs_volume.proofs.Apart.{used_is, stands_once, stands_twice}
 use Rattle.hfs_volume.proofs.Reaching.{flat_stands}
 use Rattle.hfs_volume.proofs.Untouched.{HasWholeBlocks, whole_blocks, special_stands}
 use Rattle.volume_repair.specs.Repair.{blocks_written}
+use Rattle.volume_repair.proofs.Distinct.{piece_times}
+use Rattle.volume_repair.proofs.Inside.{passed}
 
 -- an accepted header stands on a volume of some sectors
-passed : (b : Bool) (why : HeaderRefusal) (rest : Option HeaderRefusal) → (if not b then Some why else rest) ≡ None → b ≡ true
-passed true why rest is = refl
-passed false why rest is = absurd (cc)
-
 pub many_sectors : (head : VolumeHeader) (sectors : ℕ) → header_refusal head sectors ≡ None → 2048 ≤ sectors
-many_sectors head sectors accepted = leb-true 2048 sectors (and_parts (nat_le 2048 sectors) (nat_le sectors 2147483648) (passed (is_volume_size sectors) (LimitSectors sectors) _ accepted)).0
+many_sectors head sectors accepted = leb-true 2048 sectors (and_parts (nat_le 2048 sectors) (nat_le sectors 2147483648) (passed (is_volume_size sectors) (LimitSectors sectors) _ accepted).0).0
 
 module _ (volume : VolumeState) (once : All (λ block. times block (used_in volume) ≤ 1) (blocks_written volume)) where
   abbrev reserved : List ℕ
@@ -80,15 +77,26 @@ module _ (volume : VolumeState) (once : All (λ block. times block (used_in volu
   differs : (one other : Owned) → one.id ≢ other.id → one ≢ other
   differs one other differ same = differ (ap (λ (o : Owned). o.id) same)
 
-  -- a block of the allocation file is in no other special file
-  pub map_apart : (owned : Owned) (block : ℕ) → Contains (special_forks volume.head) owned → owned.id ≢ allocation_id → Contains (blocks_owned (overflow_in_volume volume) owned) block → Contains maps block → ⊥
+  -- each block of the two files stands once
+  fork_once : (owned : Owned) (block : ℕ) → Contains (special_forks volume.head) owned → Contains (blocks_written volume) block → times block (blocks_owned (overflow_in_volume volume) owned) ≤ 1
+  fork_once owned block stands written =
+      omega (arith, lone block written, counted block, piece_times (blocks_owned (overflow_in_volume volume)) (forks_of volume) owned block (special_stands volume owned stands))
+
+  pub map_once : (block : ℕ) → Contains maps block → times block maps ≤ 1
+  map_once block stands = fork_once map_fork block (2, omega arith, refl) (map_written block stands)
+
+  pub catalog_once : (block : ℕ) → Contains leaves block → times block leaves ≤ 1
+  catalog_once block stands = fork_once catalog_fork block (1, omega arith, refl) (catalog_written block stands)
+
+  -- a block of the allocation file is in no other file
+  pub map_apart : (owned : Owned) (block : ℕ) → Contains (forks_of volume) owned → owned.id ≢ allocation_id → Contains (blocks_owned (overflow_in_volume volume) owned) block → Contains maps block → ⊥
   map_apart owned block stands differ has in_map =
-      forks_apart owned map_fork block (special_stands volume owned stands) (special_stands volume map_fork (2, omega arith, refl)) (differs owned map_fork differ) has in_map (map_written block in_map)
+      forks_apart owned map_fork block stands (special_stands volume map_fork (2, omega arith, refl)) (differs owned map_fork differ) has in_map (map_written block in_map)
 
   -- nor is a block of the catalog
-  pub catalog_apart : (owned : Owned) (block : ℕ) → Contains (special_forks volume.head) owned → owned.id ≢ catalog_id → Contains (blocks_owned (overflow_in_volume volume) owned) block → Contains leaves block → ⊥
+  pub catalog_apart : (owned : Owned) (block : ℕ) → Contains (forks_of volume) owned → owned.id ≢ catalog_id → Contains (blocks_owned (overflow_in_volume volume) owned) block → Contains leaves block → ⊥
   catalog_apart owned block stands differ has in_catalog =
-      forks_apart owned catalog_fork block (special_stands volume owned stands) (special_stands volume catalog_fork (1, omega arith, refl)) (differs owned catalog_fork differ) has in_catalog (catalog_written block in_catalog)
+      forks_apart owned catalog_fork block stands (special_stands volume catalog_fork (1, omega arith, refl)) (differs owned catalog_fork differ) has in_catalog (catalog_written block in_catalog)
 
 -- ---- sectors
 

@@ -1,14 +1,14 @@
 -- The leaves of a tree: each is a node of records, of its tree's size, and its records are pairs of the tree.
-use Rattle.std.proofs.Common.{◌≡◌, ◌≢◌, ◌<◌, ℕ, suc, ◌+◌, ◌-◌, ◌==◌, true, false, List, [], length, ◌∙◌, ap, subst, arith, ⊎_elim, if◌then◌else◌}
+use Rattle.std.proofs.Common.{◌≡◌, ◌≢◌, ◌<◌, ℕ, suc, ◌+◌, ◌-◌, ◌==◌, true, false, List, [], length, refl, sym, ◌∙◌, ap, subst, arith, ⊎_elim, if◌then◌else◌}
 use Rattle.std.specs.Prelude.{Contains, slice_range}
 use Rattle.std.specs.declared.cmp.Ordering.{Ordering}
-use Rattle.std.proofs.lemmas.Bool.{eqb-true}
+use Rattle.std.proofs.lemmas.Bool.{eqb-true, ne_eqb, true≢false}
 use Rattle.std.proofs.lemmas.Bool.Decides.{eqb_tells}
 use Rattle.std.proofs.lemmas.List.{get_or_default}
 use Rattle.btree_node.specs.Levels.{entries, leaves, pair_of}
 use Rattle.btree_node.specs.Node.{IsNode, items, offset, record_count, height_of}
 use Rattle.btree_node.specs.Tree.{pairs_of, IsTreeNode}
-use Rattle.btree_node.specs.TreeFile.{TreeFile, TreeForm, IsTreeFile, store_of}
+use Rattle.btree_node.specs.TreeFile.{TreeFile, TreeForm, IsTreeFile, store_of, is_reserved_in}
 use Rattle.btree_node.proofs.Items.{item-is, length-items}
 use Rattle.hfs_volume.specs.Blocks.{is_among}
 use Rattle.hfs_volume.specs.Broken.{levels_in, level_in, leaves_in}
@@ -38,6 +38,19 @@ module _ {form : TreeForm} {is_key is_value : List ℕ → Type 0} {cmp : List �
 
       height : height_of (tree.nodes tree.head.root) ≡ tree.head.depth
       height = let top : height_of (tree.nodes tree.head.root) ≡ tree.head.depth - 0 = (is.rules.levels.nodes 0 0 more (omega arith)).kind.has_height in top ∙ omega arith
+
+  root_some : 0 < tree.head.depth → tree.head.root ≢ 0
+  root_some deep zero_is =
+      let reserved = is.rules.mapped.of_tree tree.head.root (record { below = 0; place = 0; of_tree = deep; inside = omega arith; is = refl }) in
+      true≢false (ap (λ n. is_reserved_in tree.chain n) (sym zero_is) ∙ reserved)
+
+  -- the last level is that of the leaves
+  pub leaf_level : (j : ℕ) → j + 1 ≡ tree.head.depth → leaves_in tree ≡ level_in tree j
+  leaf_level j last =
+      let some = root_some (omega (arith, last)) in
+      let levels = levels_are some in
+      ap (λ b. if b then [] else level_in tree (levels_in tree - 1)) (ne_eqb tree.head.root 0 some)
+      ∙ ap (level_in tree) (let same : levels_in tree - 1 ≡ j = omega (arith, levels.1, last) in same)
 
   pub is_leaf : (n : ℕ) → Contains (leaves_in tree) n → IsLeaf n
   is_leaf n stands = ⊎_elim

@@ -14,3 +14,12 @@ pub mod Sounding
 pub mod Slices
 pub mod LeafNodes
 pub mod OwnRepair
+pub mod LeafMending
+pub mod Recounting
+pub mod Distinct
+pub mod Inside
+pub mod CatalogMending
+pub mod CatalogPairs
+pub mod BitsMending
+pub mod NodeBytes
+pub mod Keeping

@@ -7,9 +7,7 @@ use Rattle.std.proofs.lemmas.Bool.{cases_eq}
 use Rattle.std.proofs.lemmas.Bool.Decides.{leb_tells}
 use Rattle.std.proofs.lemmas.List.FromFn.{length-map-range_with_len, get_or-map-range_with_len}
 use Rattle.std.proofs.lemmas.Slice.Eq.{bytes_eq-Decides}
-use Rattle.std.proofs.Math.Nat.{div-add-mod, mod-lt, mul_comm, mul-le-mul_right}
 use Rattle.jnl_format.specs.Recovery.{Content, sector, header_of_volume}
-use Rattle.fork_map.specs.Blocks.{sectors_of}
 use Rattle.flag_rows.specs.Bits.{bit_of}
 use Rattle.volume_header.specs.declared.header.VolumeHeader.{VolumeHeader}
 use Rattle.btree_node.specs.Levels.{pair_of, value_of}
@@ -18,24 +16,22 @@ use Rattle.btree_node.specs.TreeFile.{TreeFile}
 use Rattle.btree_node.specs.MemLaws.{count_none}
 use Rattle.hfs_volume.specs.Records.{placed_of}
 use Rattle.hfs_volume.specs.Findings.{HasBytes}
-use Rattle.hfs_volume.specs.Forks.{Owned, per_block_of, data_kind, blocks_owned, special_forks, catalog_id, allocation_id}
-use Rattle.hfs_volume.specs.Content.{VolumeState, volume_of, records_of, is_set, overflow_in_volume, overflow_of_content, block_limit, tree_of_fork, catalog_file, bitmap_sectors, bit_in, bit_of_sector}
+use Rattle.hfs_volume.specs.Forks.{per_block_of}
+use Rattle.hfs_volume.specs.Content.{VolumeState, volume_of, records_of, is_set, block_limit, tree_of_fork, catalog_file, bitmap_sectors, bit_in, bit_of_sector}
 use Rattle.hfs_volume.specs.Blocks.{is_among}
 use Rattle.hfs_volume.specs.Broken.{bit, leaves_in}
 use Rattle.hfs_volume.specs.Sound.{IsSound}
 use Rattle.hfs_volume.proofs.Files.{tree_bytes}
-use Rattle.hfs_volume.proofs.Sectors.{in_block}
-use Rattle.hfs_volume.proofs.Untouched.{blocks_inside, special_stands}
 use Rattle.volume_repair.specs.Differing.{differing}
 use Rattle.volume_repair.specs.Recount.{value_recounted, is_bit_wanted}
 use Rattle.volume_repair.specs.Repair.{IsMendable, IsRepair, mended, sector_mended, file_sector_mended, byte_of_bits, bitmap_mended, catalog_mended, leaf_mended, place_from, catalog_sectors, needs_copy}
 use Rattle.volume_repair.specs.RepairLaws.{HasWholeSectors, SoundIsOwnRepair}
 use Rattle.volume_repair.proofs.Bytes.{byte_back}
 use Rattle.volume_repair.proofs.Counting.{agreement, bit_stays, value_is}
+use Rattle.volume_repair.proofs.Inside.{map_below, catalog_below}
 use Rattle.volume_repair.proofs.LeafNodes.{IsLeaf, among_stands, is_leaf, leaf_is_node, item_stands, pair_stands}
 use Rattle.volume_repair.proofs.Leaves.{leaf_law}
-use Rattle.volume_repair.proofs.Mending.{size_mended, sector_of_mended, mended_file, mended_header, some as some_per}
-use Rattle.volume_repair.proofs.Rereads.{sectors_by}
+use Rattle.volume_repair.proofs.Mending.{size_mended, sector_of_mended, mended_file, mended_header}
 use Rattle.volume_repair.proofs.Repairing.{mendable, keeps_header}
 use Rattle.volume_repair.proofs.Slices.{place_found, stands_there, whole_sector, slice_of_node}
 
@@ -62,34 +58,6 @@ module _ (content : Content) (bytes : HasBytes content) (whole : HasWholeSectors
   may : IsMendable content
   may = mendable content sound
 
-  overflow_is : overflow_in_volume was ≡ overflow_of_content content
-  unfolding volume_of overflow_of_content
-  overflow_is = refl
-
-  some : 0 < per
-  some = some_per content may
-
-  -- a special file's sectors lie in the volume
-  special_below : (owned : Owned) → Contains (special_forks was.head) owned → (at : ℕ) → Contains (sectors_of per (blocks_owned (overflow_in_volume was) owned)) at → at < limit
-  unfolding volume_of
-  special_below owned stands at has =
-      let inside : at / per < head.total_blocks = blocks_inside was owned (at / per) sound.volume.blocks.forks (special_stands was owned stands) (in_block per (blocks_owned (overflow_in_volume was) owned) at some has) in
-      below_block at inside
-    where
-      below_block : (at : ℕ) → at / per < head.total_blocks → at < limit
-      below_block at inside =
-          let next : suc (at / per) * per ≤ limit = mul-le-mul_right {m = suc (at / per)} {n = head.total_blocks} per (omega (arith, inside)) in
-          let here : suc (at / per) * per ≡ at / per * per + per = omega arith in
-          omega (arith, next, here, div-add-mod at per, mul_comm (at / per) per, mod-lt at some)
-
-  map_below : (at : ℕ) → Contains (bitmap_sectors content) at → at < limit
-  unfolding volume_of
-  map_below at has = special_below (record { id = allocation_id; kind = data_kind; fork = head.allocation_fork }) (2, omega arith, refl) at (subst (λ o. Contains (sectors_by head o allocation_id head.allocation_fork) at) (sym overflow_is) has)
-
-  catalog_below : (at : ℕ) → Contains (catalog_sectors content) at → at < limit
-  unfolding volume_of
-  catalog_below at has = special_below (record { id = catalog_id; kind = data_kind; fork = head.catalog_fork }) (1, omega arith, refl) at (subst (λ o. Contains (sectors_by head o catalog_id head.catalog_fork) at) (sym overflow_is) has)
-
   -- ---- the bitmap
 
   module _ (at k : ℕ) (inside : at < length content) (there : slice_get (bitmap_sectors content) k ≡ Some at) where
@@ -107,7 +75,7 @@ module _ (content : Content) (bytes : HasBytes content) (whole : HasWholeSectors
         ∙ set_is (8 * (512 * k + i) + j) (omega (arith, within, lower))
         ∙ (λ m. bit_of_sector content (rest m) (slice_get (bitmap_sectors content) (place m)))
         ∙ ap (bit_of_sector content (8 * i + j)) there
-        ∙ ap (λ l. bit_of l (8 * i + j)) (whole_sector content limit at (map_below at (stands_there (bitmap_sectors content) k at there)) (whole at inside))
+        ∙ ap (λ l. bit_of l (8 * i + j)) (whole_sector content limit at (map_below content sound at (stands_there (bitmap_sectors content) k at there)) (whole at inside))
       where
         place : (8 * (512 * k + i) + j) / 4096 ≡ k
         place = omega (arith, low, lower)
@@ -178,7 +146,7 @@ module _ (content : Content) (bytes : HasBytes content) (whole : HasWholeSectors
     unfolding catalog_file tree_of_fork
     node_slice =
         slice_of_node content limit (catalog_sectors content) tree.head.node_size k at (sizes_some tree.head.node_size sound.trees.catalog.has_form.size) there
-        ∙ whole_sector content limit at (catalog_below at (stands_there (catalog_sectors content) k at there)) (whole at inside)
+        ∙ whole_sector content limit at (catalog_below content sound at (stands_there (catalog_sectors content) k at there)) (whole at inside)
 
     catalog_stays : catalog_mended content at k ≡ sector content at
     catalog_stays = by (is_among (leaves_in tree) n) refl

@@ -3,7 +3,7 @@ use Rattle.std.proofs.Common.{◌≡◌, ◌≢◌, ◌<◌, ◌≤◌, ℕ, ◌
 use Rattle.std.specs.Prelude.{Contains, IsTrue, Option, Some, None, slice_index}
 use Rattle.std.specs.List.{count_by, range_with_len}
 use Rattle.std.specs.Str.{bytes_eq}
-use Rattle.std.proofs.lemmas.Bool.{cases_eq, cases_lt, true≢false, eq-eqb, ne_eqb}
+use Rattle.std.proofs.lemmas.Bool.{cases_eq, cases_lt, true≢false}
 use Rattle.std.proofs.lemmas.List.{get_or_past}
 use Rattle.std.proofs.lemmas.Slice.Eq.{bytes_eq-Decides}
 use Rattle.jnl_format.specs.Recovery.{Content, sector, header_of_volume, info_sector_of}
@@ -24,10 +24,10 @@ use Rattle.hfs_volume.specs.Sound.{IsSound, IsSoundVolume}
 use Rattle.volume_repair.specs.Differing.{differing}
 use Rattle.volume_repair.specs.Recount.{header_recounted, is_bit_wanted, agrees}
 use Rattle.volume_repair.specs.Remount.{IsRemounted, IsSameButCounts, RepairStaysRemounted, StaysRemounted}
-use Rattle.volume_repair.specs.Repair.{IsMendable, IsRepair, mended, sector_mended, header_mended, file_sector_mended, byte_of_bits, leaf_mended, place_from, catalog_sectors, needs_copy}
+use Rattle.volume_repair.specs.Repair.{IsMendable, IsRepair, mended, header_mended, file_sector_mended, byte_of_bits, leaf_mended, place_from, catalog_sectors, needs_copy}
 use Rattle.volume_repair.proofs.Counting.{agreement}
 use Rattle.volume_repair.proofs.Journals.{map_free, catalog_free, header_free, alternate_free, journal_stays, journal_there, journal_same}
-use Rattle.volume_repair.proofs.Mending.{size_mended, sector_of_mended, mended_file, mended_else, mended_header, no_alternate, some_sectors, head_mended, extents_mended}
+use Rattle.volume_repair.proofs.Mending.{size_mended, sector_of_mended, mended_file, mended_else, mended_header, no_alternate, alternate_copied, some_sectors, head_mended, extents_mended}
 use Rattle.volume_repair.proofs.Remounted.{IsPlain, plain_extents, plain_catalog, plain_map, plain_attributes, plain_stays, alternate_stays, head_is, extents_is, catalog_is, volume_now, may_again}
 use Rattle.volume_repair.proofs.Repairing.{mendable}
 use Rattle.volume_repair.proofs.Rereads.{relabelled, sectors_by, AgreesBelow, extents_stay, overflow_stays, catalog_stays, attributes_stay, bits_stay, bitmap_sectors_stay, catalog_sectors_stay}
@@ -223,16 +223,9 @@ module _ (content now : Content) (may : IsMendable content) (long : length (sect
 
   -- a copy
   copied : needs_copy content ≡ true → (sector other last ≡ header_mended now) × (sector new last ≡ header_mended content)
-  unfolding sector_mended
   copied copy = (
-    sector_of_mended now last (omega (arith, last_inside, re.size))
-        ∙ ap (λ b. if b then header_mended now else if (last == length now - 2) && needs_copy now then header_mended now else file_sector_mended now last (place_from 0 (bitmap_sectors now) last) (place_from 0 (catalog_sectors now) last)) (ne_eqb last 2 last_else)
-        ∙ ap (λ b. if b && needs_copy now then header_mended now else file_sector_mended now last (place_from 0 (bitmap_sectors now) last) (place_from 0 (catalog_sectors now) last)) (eq-eqb last (length now - 2) (ap (λ n. n - 2) (sym re.size)))
-        ∙ ap (λ b. if b then header_mended now else file_sector_mended now last (place_from 0 (bitmap_sectors now) last) (place_from 0 (catalog_sectors now) last)) (copy_is ∙ copy),
-    sector_of_mended content last last_inside
-        ∙ ap (λ b. if b then header_mended content else if (last == last) && needs_copy content then header_mended content else file_sector_mended content last (place_from 0 (bitmap_sectors content) last) (place_from 0 (catalog_sectors content) last)) (ne_eqb last 2 last_else)
-        ∙ ap (λ b. if b && needs_copy content then header_mended content else file_sector_mended content last (place_from 0 (bitmap_sectors content) last) (place_from 0 (catalog_sectors content) last)) (eq-eqb last last refl)
-        ∙ ap (λ b. if b then header_mended content else file_sector_mended content last (place_from 0 (bitmap_sectors content) last) (place_from 0 (catalog_sectors content) last)) copy,
+    ap (λ n. sector other (n - 2)) (sym re.size) ∙ alternate_copied now again (copy_is ∙ copy),
+    alternate_copied content may copy,
   )
 
   header_there : header_of (header_mended now) ≡ header_of_volume other

@@ -2,7 +2,7 @@
 use Rattle.std.proofs.Common.{◌≡◌, ◌≢◌, ◌<◌, ◌≤◌, ℕ, zero, suc, ◌+◌, ◌-◌, ◌*◌, ◌/◌, ◌%◌, ◌==◌, nat_lt, Bool, true, false, List, [], ◌∷◌, ◌++◌, length, take, drop, replicate, refl, sym, ◌∙◌, ap, subst, arith, ⊎_elim, if◌then◌else◌}
 use Rattle.std.specs.Prelude.{Option, Some, None, slice_get, Contains}
 use Rattle.std.proofs.lemmas.Bool.Decides.{eqb_tells, leb_tells}
-use Rattle.std.proofs.lemmas.List.{append_assoc, append-nil, length-append, length-take, length-replicate, take_all}
+use Rattle.std.proofs.lemmas.List.{append_assoc, append-nil, drop-drop, length-append, length-drop, length-take, length-replicate, take-append-drop, take_all}
 use Rattle.std.proofs.lemmas.Option.{slice_get_within, get_or_from_slice_get}
 use Rattle.std.proofs.Math.Nat.{div-add-mod, mod-lt, mul_comm}
 use Rattle.std.proofs.Math.Seq.{take-append_seam, drop-append-add}
@@ -104,3 +104,33 @@ slice_of_node content limit sectors size k at some found =
     piece content limit part (replicate (size - length (block_bytes content limit part)) 0) (k % per) at
     (taken_get per (k % per) (drop (k / per * per) sectors) (mod-lt k some) ∙ dropped_get (k / per * per) (k % per) sectors
     ∙ ap (slice_get sectors) (let whole : k / per * per + k % per ≡ k = omega (arith, div-add-mod k per, mul_comm (k / per) per) in whole) ∙ found)
+
+pub length_bytes : (content : Content) (limit : ℕ) (sectors : List ℕ) → length (block_bytes content limit sectors) ≡ 512 * length sectors
+unfolding block_bytes
+length_bytes content limit [] = refl
+length_bytes content limit (at ∷ rest) = omega (arith, length-append (block_sector content limit at) (block_bytes content limit rest), long_sector content limit at, length_bytes content limit rest)
+
+-- a node has its size
+pub length_node : (content : Content) (limit : ℕ) (sectors : List ℕ) (size n : ℕ) → size ≡ 512 * (size / 512) → length (node_of_fork content limit sectors size n) ≡ size
+unfolding node_of_fork
+length_node content limit sectors size n whole =
+    let part : List ℕ = take (size / 512) (drop (n * (size / 512)) sectors) in
+    omega (arith, whole, length-append (block_bytes content limit part) (replicate (size - length (block_bytes content limit part)) 0), length-replicate {A = ℕ} (size - length (block_bytes content limit part)) 0, length_bytes content limit part, length-take (size / 512) (drop (n * (size / 512)) sectors))
+
+-- bytes whose slices are sectors are those sectors, one after the other
+pub joined : (content : Content) (limit : ℕ) (sectors bytes : List ℕ) → length bytes ≡ 512 * length sectors
+    → ((r at : ℕ) → slice_get sectors r ≡ Some at → block_sector content limit at ≡ take 512 (drop (512 * r) bytes)) → block_bytes content limit sectors ≡ bytes
+unfolding block_bytes
+joined content limit [] bytes long same = sym (none_left bytes long)
+  where
+    none_left : (l : List ℕ) → length l ≡ 512 * 0 → l ≡ []
+    none_left [] is = refl
+    none_left (x ∷ l) is = absurd (omega (arith, is))
+joined content limit (at ∷ rest) bytes long same =
+    (λ i. same 0 at refl i ++ joined content limit rest (drop 512 bytes) (omega (arith, long, length-drop 512 bytes)) later i) ∙ take-append-drop 512 bytes
+  where
+    later : (r s : ℕ) → slice_get rest r ≡ Some s → block_sector content limit s ≡ take 512 (drop (512 * r) (drop 512 bytes))
+    later r s found =
+        same (suc r) s found
+        ∙ ap (λ n. take 512 (drop n bytes)) (let next : 512 * suc r ≡ 512 + 512 * r = omega arith in next)
+        ∙ ap (take 512) (sym (drop-drop (512 * r) 512 bytes))

@@ -4,3 +4,4 @@ pub mod Recount
 pub mod Repair
 pub mod RepairLaws
 pub mod Remount
+pub mod Whole

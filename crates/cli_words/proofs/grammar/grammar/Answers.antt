@@ -16,4 +16,5 @@ returns c =
     let first = c.in_ok-subcommand.ensures.shape c.in_ok-with_two.ensures.local ∙ ap₂ under start c.in_ok-with_two.ensures.app in
     let second = c.in_ok-subcommand-2.ensures.shape c.in_ok-with_one.ensures.local ∙ ap₂ under first c.in_ok-with_one.ensures.app in
     let third = c.in_ok-subcommand-3.ensures.shape c.in_ok-with_one-2.ensures.local ∙ ap₂ under second c.in_ok-with_one-2.ensures.app in
-    IfOk-weaker c.subcommand-4.result _ _ (λ r h. h.shape c.in_ok-with_two-2.ensures.local ∙ ap₂ under third c.in_ok-with_two-2.ensures.app) c.subcommand-4.ensures
+    let fourth = c.in_ok-subcommand-4.ensures.shape c.in_ok-with_two-2.ensures.local ∙ ap₂ under third c.in_ok-with_two-2.ensures.app in
+    IfOk-weaker c.subcommand-5.result _ _ (λ r h. h.shape c.in_ok-with_one-3.ensures.local ∙ ap₂ under fourth c.in_ok-with_one-3.ensures.app) c.subcommand-5.ensures

@@ -1,10 +1,15 @@
 use Rattle.std.proofs.Common.{Result, sym, subst}
+use Rattle.std.specs.Prelude.{IfSome}
 use Rattle.hfs_language.specs.declared.command.Command.{Command}
 use Rattle.hfs_language.specs.declared.refusal.Refusal.{Refusal}
 use Rattle.cmd_lang.specs.Reads.{Reads}
-use Rattle.cmd_lang.proofs.PlainWrites.{write_spelled}
+use Rattle.cmd_lang.specs.Written.{IsSpelledWrite}
+use Rattle.cmd_lang.proofs.SpelledWrites.{write_read}
 use Rattle.cmd_lang.proofs.line.read_bytes.Goals as goal
 
 pub returns-in-Some : goal.returns-in-Some
 returns-in-Some c =
-    subst (λ (wanted : Result Command Refusal). Reads wanted c.read_plain_write.result) (sym (write_spelled c.args.line.now c.in-Some.path.now c.in-Some.from.now c.in-Some.value.now c.in-Some.ensures c.if-line-gt-MOST_BYTES.false)) c.read_plain_write.ensures
+    let line = c.args.line.now in
+    let write = c.in-Some.write in
+    let is : IsSpelledWrite line write.path.now write.from.now write.value = subst (λ found. IfSome found (λ it. IsSpelledWrite line it.path.now it.from.now it.value)) c.in-Some.is c.in_ok-write.ensures in
+    subst (λ (wanted : Result Command Refusal). Reads wanted c.read_spelled_write.result) (sym (write_read line write.path.now write.from.now write.value is c.if-line-gt-MOST_BYTES.false)) c.read_spelled_write.ensures

@@ -1,4 +1,4 @@
-use Rattle.cmd_lang.proofs.OnePass.{IsReadTo}
+use Rattle.cmd_lang.specs.Written.{IsReadTo}
 use Rattle.cmd_lang.proofs.spelled.spelled_bytes.Given as goal
 
 abbrev pub invariant-loop : goal.invariant-loop

@@ -1,6 +1,9 @@
-use Rattle.std.proofs.Common.{Ok, sym, ap, ◌∙◌}
-use Rattle.cmd_lang.proofs.Plain.{plain_value}
+use Rattle.std.proofs.Common.{Ok, ap, sym, ◌∙◌, subst}
+use Rattle.std.specs.Prelude.{IfSome}
+use Rattle.cmd_lang.specs.Written.{SpellsValue}
+use Rattle.cmd_lang.proofs.SpelledWrites.{value_known}
 use Rattle.cmd_lang.proofs.words.value_in.Goals as goal
 
-pub returns-in_ok-copied-in-Some : goal.returns-in_ok-copied-in-Some
-returns-in_ok-copied-in-Some c = plain_value c.args.text.now c.in-Some.value.now (c.in-Some.ensures.0) c.in-Some.ensures.1 ∙ ap Ok (sym c.in_ok-copied-in-Some.ensures)
+pub returns-in-Some : goal.returns-in-Some
+returns-in-Some c =
+    value_known c.args.text.now c.in-Some.value.items (subst (λ found. IfSome found (λ value. SpellsValue c.args.text.now value.items)) c.in-Some.is c.in_ok-value.ensures) ∙ ap Ok (sym c.from_vec.ensures)

@@ -9,7 +9,8 @@ use Rattle.cli_words.specs.declared.named.Work.TheVariants.{Wrong}
 use Rattle.hfs_serving.proofs.Served.{reads_heard, reads_keep}
 use Rattle.sector_disk.proofs.Writing.{reads_none}
 use Rattle.watchers.proofs.Tellings.{told_nothing}
-use Rattle.cli_words.proofs.Usage.{in_use, no_check, no_check_of_gen, no_format, no_format_of_gen, no_run_of_gen, not_both, not_format, same_count, same_sectors, same_seed}
+use Rattle.cli_words.proofs.Usage.{in_use, no_check, no_check_of_gen, no_check_of_repair, no_format, no_format_of_gen, no_format_of_repair, no_repair_of_gen, no_run_of_gen, no_run_of_repair, not_both, not_format, same_count, same_sectors, same_seed}
+use Rattle.hfsx_server.proofs.Repaired.{keeps_unread}
 use Rattle.hfsx_server.proofs.top.hfsx.Goals as goal
 
 named : (words : List (List ℕ)) (read work : Work) → read ≡ work → AreWordsOf words read → AreWordsOf words work
@@ -20,8 +21,9 @@ returns-else-sectors-clause-usage g c =
     let words = texts c.args.words.now in (
       λ _ right. ⊎_elim (λ run. not_both words c.in-Ok-Format.sectors run (named (texts c.args.words.now) _ _ c.in-Ok-Format.field-0-is c.in-Ok-Format.ensures.work))
           (λ rest. ⊎_elim (λ check. no_format words c.in-Ok-Format.sectors check (named (texts c.args.words.now) _ _ c.in-Ok-Format.field-0-is c.in-Ok-Format.ensures.work))
+          (λ further. ⊎_elim (λ repair. no_format_of_repair words c.in-Ok-Format.sectors repair (named (texts c.args.words.now) _ _ c.in-Ok-Format.field-0-is c.in-Ok-Format.ensures.work))
           (λ others. ⊎_elim (λ format. c.if-sectors.false (same_sectors words _ _ (named (texts c.args.words.now) _ _ c.in-Ok-Format.field-0-is c.in-Ok-Format.ensures.work) format ∙ sym c.sectors.ensures))
-          (λ gen. no_format_of_gen words _ gen.0 gen.1 (named (texts c.args.words.now) _ _ c.in-Ok-Format.field-0-is c.in-Ok-Format.ensures.work) gen.2) others) rest) right,
+          (λ gen. no_format_of_gen words _ gen.0 gen.1 (named (texts c.args.words.now) _ _ c.in-Ok-Format.field-0-is c.in-Ok-Format.ensures.work) gen.2) others) further) rest) right,
       λ _. refl,
     )
 
@@ -30,10 +32,10 @@ returns-else-sectors-clause-format_refused g c format =
     absurd (c.if-sectors.false (same_sectors (texts c.args.words.now) _ _ (named (texts c.args.words.now) _ _ c.in-Ok-Format.field-0-is c.in-Ok-Format.ensures.work) format ∙ sym c.sectors.ensures))
 
 pub returns-in-Ok-Wrong-clause-usage : goal.returns-in-Ok-Wrong-clause-usage
-returns-in-Ok-Wrong-clause-usage g c = (λ _ right. ⊎_elim (λ run. (named (texts c.args.words.now) _ _ c.in-Ok-Wrong.field-0-is c.in-Ok-Wrong.ensures.work).0 run) (λ rest. ⊎_elim (λ check. (named (texts c.args.words.now) _ _ c.in-Ok-Wrong.field-0-is c.in-Ok-Wrong.ensures.work).1 check) (λ others. ⊎_elim (λ format. (named (texts c.args.words.now) _ _ c.in-Ok-Wrong.field-0-is c.in-Ok-Wrong.ensures.work).2 _ format) (λ gen. (named (texts c.args.words.now) _ _ c.in-Ok-Wrong.field-0-is c.in-Ok-Wrong.ensures.work).3 gen.0 gen.1 gen.2) others) rest) right, λ _. refl)
+returns-in-Ok-Wrong-clause-usage g c = (λ _ right. ⊎_elim (λ run. (named (texts c.args.words.now) _ _ c.in-Ok-Wrong.field-0-is c.in-Ok-Wrong.ensures.work).0 run) (λ rest. ⊎_elim (λ check. (named (texts c.args.words.now) _ _ c.in-Ok-Wrong.field-0-is c.in-Ok-Wrong.ensures.work).1 check) (λ further. ⊎_elim (λ repair. (named (texts c.args.words.now) _ _ c.in-Ok-Wrong.field-0-is c.in-Ok-Wrong.ensures.work).2 repair) (λ others. ⊎_elim (λ format. (named (texts c.args.words.now) _ _ c.in-Ok-Wrong.field-0-is c.in-Ok-Wrong.ensures.work).3 _ format) (λ gen. (named (texts c.args.words.now) _ _ c.in-Ok-Wrong.field-0-is c.in-Ok-Wrong.ensures.work).4 gen.0 gen.1 gen.2) others) further) rest) right, λ _. refl)
 
 pub returns-in-Ok-Wrong-clause-format_refused : goal.returns-in-Ok-Wrong-clause-format_refused
-returns-in-Ok-Wrong-clause-format_refused g c format = absurd ((named (texts c.args.words.now) _ _ c.in-Ok-Wrong.field-0-is c.in-Ok-Wrong.ensures.work).2 _ format)
+returns-in-Ok-Wrong-clause-format_refused g c format = absurd ((named (texts c.args.words.now) _ _ c.in-Ok-Wrong.field-0-is c.in-Ok-Wrong.ensures.work).3 _ format)
 
 pub returns-then-sectors-clause-unwritten : goal.returns-then-sectors-clause-unwritten
 returns-then-sectors-clause-unwritten g c either = ⊎_elim (λ refused. (c.format.ensures.refusal refused).candidates) (λ usage. absurd (c.format.ensures.no_usage usage)) either
@@ -259,13 +261,13 @@ pub returns-else-sectors-clause-gen_sound : goal.returns-else-sectors-clause-gen
 returns-else-sectors-clause-gen_sound g c seed count gen = absurd (no_format_of_gen (texts c.args.words.now) _ seed count (named (texts c.args.words.now) _ _ c.in-Ok-Format.field-0-is c.in-Ok-Format.ensures.work) gen)
 
 pub returns-in-Ok-Wrong-clause-gen_told : goal.returns-in-Ok-Wrong-clause-gen_told
-returns-in-Ok-Wrong-clause-gen_told g c seed count gen tells done = absurd ((named (texts c.args.words.now) _ _ c.in-Ok-Wrong.field-0-is c.in-Ok-Wrong.ensures.work).3 seed count gen)
+returns-in-Ok-Wrong-clause-gen_told g c seed count gen tells done = absurd ((named (texts c.args.words.now) _ _ c.in-Ok-Wrong.field-0-is c.in-Ok-Wrong.ensures.work).4 seed count gen)
 
 pub returns-in-Ok-Wrong-clause-gen_unwritten : goal.returns-in-Ok-Wrong-clause-gen_unwritten
-returns-in-Ok-Wrong-clause-gen_unwritten g c seed count gen = absurd ((named (texts c.args.words.now) _ _ c.in-Ok-Wrong.field-0-is c.in-Ok-Wrong.ensures.work).3 seed count gen)
+returns-in-Ok-Wrong-clause-gen_unwritten g c seed count gen = absurd ((named (texts c.args.words.now) _ _ c.in-Ok-Wrong.field-0-is c.in-Ok-Wrong.ensures.work).4 seed count gen)
 
 pub returns-in-Ok-Wrong-clause-gen_sound : goal.returns-in-Ok-Wrong-clause-gen_sound
-returns-in-Ok-Wrong-clause-gen_sound g c seed count gen = absurd ((named (texts c.args.words.now) _ _ c.in-Ok-Wrong.field-0-is c.in-Ok-Wrong.ensures.work).3 seed count gen)
+returns-in-Ok-Wrong-clause-gen_sound g c seed count gen = absurd ((named (texts c.args.words.now) _ _ c.in-Ok-Wrong.field-0-is c.in-Ok-Wrong.ensures.work).4 seed count gen)
 
 pub returns-in-Ok-Gen-clause-gen_told : goal.returns-in-Ok-Gen-clause-gen_told
 returns-in-Ok-Gen-clause-gen_told g c seed count gen tells done = subst (λ (n : ℕ). ToldPlayed n count (g.R.SectorDisk.state c.args.rig.now) (g.R.SectorDisk.state c.generate.new.rig)) (same_seed (texts c.args.words.now) c.in-Ok-Gen.seed seed c.in-Ok-Gen.count count (named (texts c.args.words.now) _ _ c.in-Ok-Gen.field-0-is c.in-Ok-Gen.ensures.work) gen) (subst (λ (n : ℕ). ToldPlayed c.in-Ok-Gen.seed n (g.R.SectorDisk.state c.args.rig.now) (g.R.SectorDisk.state c.generate.new.rig)) (same_count (texts c.args.words.now) c.in-Ok-Gen.seed seed c.in-Ok-Gen.count count (named (texts c.args.words.now) _ _ c.in-Ok-Gen.field-0-is c.in-Ok-Gen.ensures.work) gen) (c.generate.ensures.told tells done))
@@ -304,9 +306,10 @@ returns-in-Format-clause-usage g c =
     let words = texts c.args.words.now in (
       λ is right. c.refuse_format.ensures.usage.0 is (⊎_elim (λ run. absurd (not_both words c.in-Format.sectors run c.in-Format.ensures))
           (λ rest. ⊎_elim (λ check. absurd (no_format words c.in-Format.sectors check c.in-Format.ensures))
+          (λ further. ⊎_elim (λ repair. absurd (no_format_of_repair words c.in-Format.sectors repair c.in-Format.ensures))
           (λ others. ⊎_elim (λ format. same_sectors words _ _ c.in-Format.ensures format)
-          (λ gen. absurd (no_format_of_gen words _ gen.0 gen.1 c.in-Format.ensures gen.2)) others) rest) right),
-      λ other. c.refuse_format.ensures.usage.1 (λ same. other (inr (inr (inl (subst (AreFormat words) same c.in-Format.ensures))))),
+          (λ gen. absurd (no_format_of_gen words _ gen.0 gen.1 c.in-Format.ensures gen.2)) others) further) rest) right),
+      λ other. c.refuse_format.ensures.usage.1 (λ same. other (inr (inr (inr (inl (subst (AreFormat words) same c.in-Format.ensures)))))),
     )
 
 pub returns-in-Format-clause-format_refused : goal.returns-in-Format-clause-format_refused
@@ -343,3 +346,193 @@ returns-in_default-clause-watched g c run =
         last = λ is. absurd (cc is);
       },
     )
+
+-- ---- a repair
+
+pub returns-then-sectors-clause-repair_refused : goal.returns-then-sectors-clause-repair_refused
+returns-then-sectors-clause-repair_refused g c repair tells is = absurd (no_format_of_repair (texts c.args.words.now) c.in-Ok-Format.sectors repair (named (texts c.args.words.now) _ _ c.in-Ok-Format.field-0-is c.in-Ok-Format.ensures.work))
+
+pub returns-then-sectors-clause-repair_refuses : goal.returns-then-sectors-clause-repair_refuses
+returns-then-sectors-clause-repair_refuses g c repair tells none = absurd (no_format_of_repair (texts c.args.words.now) c.in-Ok-Format.sectors repair (named (texts c.args.words.now) _ _ c.in-Ok-Format.field-0-is c.in-Ok-Format.ensures.work))
+
+pub returns-then-sectors-clause-repair_keeps : goal.returns-then-sectors-clause-repair_keeps
+returns-then-sectors-clause-repair_keeps g c repair tells settled capacity start mendable = absurd (no_format_of_repair (texts c.args.words.now) c.in-Ok-Format.sectors repair (named (texts c.args.words.now) _ _ c.in-Ok-Format.field-0-is c.in-Ok-Format.ensures.work))
+
+pub returns-then-sectors-clause-repair_done : goal.returns-then-sectors-clause-repair_done
+returns-then-sectors-clause-repair_done g c repair tells settled capacity start mendable is = absurd (no_format_of_repair (texts c.args.words.now) c.in-Ok-Format.sectors repair (named (texts c.args.words.now) _ _ c.in-Ok-Format.field-0-is c.in-Ok-Format.ensures.work))
+
+pub returns-then-sectors-clause-repair_sound : goal.returns-then-sectors-clause-repair_sound
+returns-then-sectors-clause-repair_sound g c repair tells settled capacity start mendable sound is = absurd (no_format_of_repair (texts c.args.words.now) c.in-Ok-Format.sectors repair (named (texts c.args.words.now) _ _ c.in-Ok-Format.field-0-is c.in-Ok-Format.ensures.work))
+
+pub returns-else-sectors-clause-repair_refused : goal.returns-else-sectors-clause-repair_refused
+returns-else-sectors-clause-repair_refused g c repair tells is = absurd (no_format_of_repair (texts c.args.words.now) c.in-Ok-Format.sectors repair (named (texts c.args.words.now) _ _ c.in-Ok-Format.field-0-is c.in-Ok-Format.ensures.work))
+
+pub returns-else-sectors-clause-repair_refuses : goal.returns-else-sectors-clause-repair_refuses
+returns-else-sectors-clause-repair_refuses g c repair tells none = absurd (no_format_of_repair (texts c.args.words.now) c.in-Ok-Format.sectors repair (named (texts c.args.words.now) _ _ c.in-Ok-Format.field-0-is c.in-Ok-Format.ensures.work))
+
+pub returns-else-sectors-clause-repair_keeps : goal.returns-else-sectors-clause-repair_keeps
+returns-else-sectors-clause-repair_keeps g c repair tells settled capacity start mendable = absurd (no_format_of_repair (texts c.args.words.now) c.in-Ok-Format.sectors repair (named (texts c.args.words.now) _ _ c.in-Ok-Format.field-0-is c.in-Ok-Format.ensures.work))
+
+pub returns-else-sectors-clause-repair_done : goal.returns-else-sectors-clause-repair_done
+returns-else-sectors-clause-repair_done g c repair tells settled capacity start mendable is = absurd (no_format_of_repair (texts c.args.words.now) c.in-Ok-Format.sectors repair (named (texts c.args.words.now) _ _ c.in-Ok-Format.field-0-is c.in-Ok-Format.ensures.work))
+
+pub returns-else-sectors-clause-repair_sound : goal.returns-else-sectors-clause-repair_sound
+returns-else-sectors-clause-repair_sound g c repair tells settled capacity start mendable sound is = absurd (no_format_of_repair (texts c.args.words.now) c.in-Ok-Format.sectors repair (named (texts c.args.words.now) _ _ c.in-Ok-Format.field-0-is c.in-Ok-Format.ensures.work))
+
+pub returns-in-Ok-Run-clause-repair_refused : goal.returns-in-Ok-Run-clause-repair_refused
+returns-in-Ok-Run-clause-repair_refused g c repair tells is = absurd (no_run_of_repair (texts c.args.words.now) repair (named (texts c.args.words.now) _ _ c.in-Ok-Run.field-0-is c.in-Ok-Run.ensures.work))
+
+pub returns-in-Ok-Run-clause-repair_refuses : goal.returns-in-Ok-Run-clause-repair_refuses
+returns-in-Ok-Run-clause-repair_refuses g c repair tells none = absurd (no_run_of_repair (texts c.args.words.now) repair (named (texts c.args.words.now) _ _ c.in-Ok-Run.field-0-is c.in-Ok-Run.ensures.work))
+
+pub returns-in-Ok-Run-clause-repair_keeps : goal.returns-in-Ok-Run-clause-repair_keeps
+returns-in-Ok-Run-clause-repair_keeps g c repair tells settled capacity start mendable = absurd (no_run_of_repair (texts c.args.words.now) repair (named (texts c.args.words.now) _ _ c.in-Ok-Run.field-0-is c.in-Ok-Run.ensures.work))
+
+pub returns-in-Ok-Run-clause-repair_done : goal.returns-in-Ok-Run-clause-repair_done
+returns-in-Ok-Run-clause-repair_done g c repair tells settled capacity start mendable is = absurd (no_run_of_repair (texts c.args.words.now) repair (named (texts c.args.words.now) _ _ c.in-Ok-Run.field-0-is c.in-Ok-Run.ensures.work))
+
+pub returns-in-Ok-Run-clause-repair_sound : goal.returns-in-Ok-Run-clause-repair_sound
+returns-in-Ok-Run-clause-repair_sound g c repair tells settled capacity start mendable sound is = absurd (no_run_of_repair (texts c.args.words.now) repair (named (texts c.args.words.now) _ _ c.in-Ok-Run.field-0-is c.in-Ok-Run.ensures.work))
+
+pub returns-in-Ok-Check-clause-repair_refused : goal.returns-in-Ok-Check-clause-repair_refused
+returns-in-Ok-Check-clause-repair_refused g c repair tells is = absurd (no_check_of_repair (texts c.args.words.now) repair (named (texts c.args.words.now) _ _ c.in-Ok-Check.field-0-is c.in-Ok-Check.ensures.work))
+
+pub returns-in-Ok-Check-clause-repair_refuses : goal.returns-in-Ok-Check-clause-repair_refuses
+returns-in-Ok-Check-clause-repair_refuses g c repair tells none = absurd (no_check_of_repair (texts c.args.words.now) repair (named (texts c.args.words.now) _ _ c.in-Ok-Check.field-0-is c.in-Ok-Check.ensures.work))
+
+pub returns-in-Ok-Check-clause-repair_keeps : goal.returns-in-Ok-Check-clause-repair_keeps
+returns-in-Ok-Check-clause-repair_keeps g c repair tells settled capacity start mendable = absurd (no_check_of_repair (texts c.args.words.now) repair (named (texts c.args.words.now) _ _ c.in-Ok-Check.field-0-is c.in-Ok-Check.ensures.work))
+
+pub returns-in-Ok-Check-clause-repair_done : goal.returns-in-Ok-Check-clause-repair_done
+returns-in-Ok-Check-clause-repair_done g c repair tells settled capacity start mendable is = absurd (no_check_of_repair (texts c.args.words.now) repair (named (texts c.args.words.now) _ _ c.in-Ok-Check.field-0-is c.in-Ok-Check.ensures.work))
+
+pub returns-in-Ok-Check-clause-repair_sound : goal.returns-in-Ok-Check-clause-repair_sound
+returns-in-Ok-Check-clause-repair_sound g c repair tells settled capacity start mendable sound is = absurd (no_check_of_repair (texts c.args.words.now) repair (named (texts c.args.words.now) _ _ c.in-Ok-Check.field-0-is c.in-Ok-Check.ensures.work))
+
+pub returns-in-Ok-Gen-clause-repair_refused : goal.returns-in-Ok-Gen-clause-repair_refused
+returns-in-Ok-Gen-clause-repair_refused g c repair tells is = absurd (no_repair_of_gen (texts c.args.words.now) _ _ repair (named (texts c.args.words.now) _ _ c.in-Ok-Gen.field-0-is c.in-Ok-Gen.ensures.work))
+
+pub returns-in-Ok-Gen-clause-repair_refuses : goal.returns-in-Ok-Gen-clause-repair_refuses
+returns-in-Ok-Gen-clause-repair_refuses g c repair tells none = absurd (no_repair_of_gen (texts c.args.words.now) _ _ repair (named (texts c.args.words.now) _ _ c.in-Ok-Gen.field-0-is c.in-Ok-Gen.ensures.work))
+
+pub returns-in-Ok-Gen-clause-repair_keeps : goal.returns-in-Ok-Gen-clause-repair_keeps
+returns-in-Ok-Gen-clause-repair_keeps g c repair tells settled capacity start mendable = absurd (no_repair_of_gen (texts c.args.words.now) _ _ repair (named (texts c.args.words.now) _ _ c.in-Ok-Gen.field-0-is c.in-Ok-Gen.ensures.work))
+
+pub returns-in-Ok-Gen-clause-repair_done : goal.returns-in-Ok-Gen-clause-repair_done
+returns-in-Ok-Gen-clause-repair_done g c repair tells settled capacity start mendable is = absurd (no_repair_of_gen (texts c.args.words.now) _ _ repair (named (texts c.args.words.now) _ _ c.in-Ok-Gen.field-0-is c.in-Ok-Gen.ensures.work))
+
+pub returns-in-Ok-Gen-clause-repair_sound : goal.returns-in-Ok-Gen-clause-repair_sound
+returns-in-Ok-Gen-clause-repair_sound g c repair tells settled capacity start mendable sound is = absurd (no_repair_of_gen (texts c.args.words.now) _ _ repair (named (texts c.args.words.now) _ _ c.in-Ok-Gen.field-0-is c.in-Ok-Gen.ensures.work))
+
+pub returns-in-Ok-Wrong-clause-repair_refused : goal.returns-in-Ok-Wrong-clause-repair_refused
+returns-in-Ok-Wrong-clause-repair_refused g c repair tells is = absurd ((named (texts c.args.words.now) _ _ c.in-Ok-Wrong.field-0-is c.in-Ok-Wrong.ensures.work).2 repair)
+
+pub returns-in-Ok-Wrong-clause-repair_refuses : goal.returns-in-Ok-Wrong-clause-repair_refuses
+returns-in-Ok-Wrong-clause-repair_refuses g c repair tells none = absurd ((named (texts c.args.words.now) _ _ c.in-Ok-Wrong.field-0-is c.in-Ok-Wrong.ensures.work).2 repair)
+
+pub returns-in-Ok-Wrong-clause-repair_keeps : goal.returns-in-Ok-Wrong-clause-repair_keeps
+returns-in-Ok-Wrong-clause-repair_keeps g c repair tells settled capacity start mendable = absurd ((named (texts c.args.words.now) _ _ c.in-Ok-Wrong.field-0-is c.in-Ok-Wrong.ensures.work).2 repair)
+
+pub returns-in-Ok-Wrong-clause-repair_done : goal.returns-in-Ok-Wrong-clause-repair_done
+returns-in-Ok-Wrong-clause-repair_done g c repair tells settled capacity start mendable is = absurd ((named (texts c.args.words.now) _ _ c.in-Ok-Wrong.field-0-is c.in-Ok-Wrong.ensures.work).2 repair)
+
+pub returns-in-Ok-Wrong-clause-repair_sound : goal.returns-in-Ok-Wrong-clause-repair_sound
+returns-in-Ok-Wrong-clause-repair_sound g c repair tells settled capacity start mendable sound is = absurd ((named (texts c.args.words.now) _ _ c.in-Ok-Wrong.field-0-is c.in-Ok-Wrong.ensures.work).2 repair)
+
+pub returns-in-Format-clause-repair_refused : goal.returns-in-Format-clause-repair_refused
+returns-in-Format-clause-repair_refused g c repair tells is = absurd (no_format_of_repair (texts c.args.words.now) c.in-Format.sectors repair c.in-Format.ensures)
+
+pub returns-in-Format-clause-repair_refuses : goal.returns-in-Format-clause-repair_refuses
+returns-in-Format-clause-repair_refuses g c repair tells none = absurd (no_format_of_repair (texts c.args.words.now) c.in-Format.sectors repair c.in-Format.ensures)
+
+pub returns-in-Format-clause-repair_keeps : goal.returns-in-Format-clause-repair_keeps
+returns-in-Format-clause-repair_keeps g c repair tells settled capacity start mendable = absurd (no_format_of_repair (texts c.args.words.now) c.in-Format.sectors repair c.in-Format.ensures)
+
+pub returns-in-Format-clause-repair_done : goal.returns-in-Format-clause-repair_done
+returns-in-Format-clause-repair_done g c repair tells settled capacity start mendable is = absurd (no_format_of_repair (texts c.args.words.now) c.in-Format.sectors repair c.in-Format.ensures)
+
+pub returns-in-Format-clause-repair_sound : goal.returns-in-Format-clause-repair_sound
+returns-in-Format-clause-repair_sound g c repair tells settled capacity start mendable sound is = absurd (no_format_of_repair (texts c.args.words.now) c.in-Format.sectors repair c.in-Format.ensures)
+
+pub returns-in-Ok-Repair-clause-format_refused : goal.returns-in-Ok-Repair-clause-format_refused
+returns-in-Ok-Repair-clause-format_refused g c format = absurd (no_format_of_repair (texts c.args.words.now) _ (named (texts c.args.words.now) _ _ c.in-Ok-Repair.field-0-is c.in-Ok-Repair.ensures.work) format)
+
+pub returns-in-Ok-Repair-clause-format_refusal : goal.returns-in-Ok-Repair-clause-format_refusal
+returns-in-Ok-Repair-clause-format_refusal g c format tells is = absurd (no_format_of_repair (texts c.args.words.now) _ (named (texts c.args.words.now) _ _ c.in-Ok-Repair.field-0-is c.in-Ok-Repair.ensures.work) format)
+
+pub returns-in-Ok-Repair-clause-format_told : goal.returns-in-Ok-Repair-clause-format_told
+returns-in-Ok-Repair-clause-format_told g c format tells is = absurd (no_format_of_repair (texts c.args.words.now) _ (named (texts c.args.words.now) _ _ c.in-Ok-Repair.field-0-is c.in-Ok-Repair.ensures.work) format)
+
+pub returns-in-Ok-Repair-clause-format_made : goal.returns-in-Ok-Repair-clause-format_made
+returns-in-Ok-Repair-clause-format_made g c format tells is = absurd (no_format_of_repair (texts c.args.words.now) _ (named (texts c.args.words.now) _ _ c.in-Ok-Repair.field-0-is c.in-Ok-Repair.ensures.work) format)
+
+pub returns-in-Ok-Repair-clause-run_refused : goal.returns-in-Ok-Repair-clause-run_refused
+returns-in-Ok-Repair-clause-run_refused g c run tells is = absurd (no_run_of_repair (texts c.args.words.now) (named (texts c.args.words.now) _ _ c.in-Ok-Repair.field-0-is c.in-Ok-Repair.ensures.work) run)
+
+pub returns-in-Ok-Repair-clause-run_refuses : goal.returns-in-Ok-Repair-clause-run_refuses
+returns-in-Ok-Repair-clause-run_refuses g c run tells none = absurd (no_run_of_repair (texts c.args.words.now) (named (texts c.args.words.now) _ _ c.in-Ok-Repair.field-0-is c.in-Ok-Repair.ensures.work) run)
+
+pub returns-in-Ok-Repair-clause-headline : goal.returns-in-Ok-Repair-clause-headline
+returns-in-Ok-Repair-clause-headline g c run tells settled capacity start mounts = absurd (no_run_of_repair (texts c.args.words.now) (named (texts c.args.words.now) _ _ c.in-Ok-Repair.field-0-is c.in-Ok-Repair.ensures.work) run)
+
+pub returns-in-Ok-Repair-clause-finished : goal.returns-in-Ok-Repair-clause-finished
+returns-in-Ok-Repair-clause-finished g c run tells settled capacity start mounts is = absurd (no_run_of_repair (texts c.args.words.now) (named (texts c.args.words.now) _ _ c.in-Ok-Repair.field-0-is c.in-Ok-Repair.ensures.work) run)
+
+pub returns-in-Ok-Repair-clause-source_stopped : goal.returns-in-Ok-Repair-clause-source_stopped
+returns-in-Ok-Repair-clause-source_stopped g c run tells settled capacity start mounts is = absurd (no_run_of_repair (texts c.args.words.now) (named (texts c.args.words.now) _ _ c.in-Ok-Repair.field-0-is c.in-Ok-Repair.ensures.work) run)
+
+pub returns-in-Ok-Repair-clause-many_stopped : goal.returns-in-Ok-Repair-clause-many_stopped
+returns-in-Ok-Repair-clause-many_stopped g c run tells settled capacity start mounts is = absurd (no_run_of_repair (texts c.args.words.now) (named (texts c.args.words.now) _ _ c.in-Ok-Repair.field-0-is c.in-Ok-Repair.ensures.work) run)
+
+pub returns-in-Ok-Repair-clause-end : goal.returns-in-Ok-Repair-clause-end
+returns-in-Ok-Repair-clause-end g c run told is = absurd (no_run_of_repair (texts c.args.words.now) (named (texts c.args.words.now) _ _ c.in-Ok-Repair.field-0-is c.in-Ok-Repair.ensures.work) run)
+
+pub returns-in-Ok-Repair-clause-few : goal.returns-in-Ok-Repair-clause-few
+returns-in-Ok-Repair-clause-few g c run told is = absurd (no_run_of_repair (texts c.args.words.now) (named (texts c.args.words.now) _ _ c.in-Ok-Repair.field-0-is c.in-Ok-Repair.ensures.work) run)
+
+pub returns-in-Ok-Repair-clause-watched : goal.returns-in-Ok-Repair-clause-watched
+returns-in-Ok-Repair-clause-watched g c run = absurd (no_run_of_repair (texts c.args.words.now) (named (texts c.args.words.now) _ _ c.in-Ok-Repair.field-0-is c.in-Ok-Repair.ensures.work) run)
+
+pub returns-in-Ok-Repair-clause-check_sound : goal.returns-in-Ok-Repair-clause-check_sound
+returns-in-Ok-Repair-clause-check_sound g c check tells is = absurd (no_check_of_repair (texts c.args.words.now) (named (texts c.args.words.now) _ _ c.in-Ok-Repair.field-0-is c.in-Ok-Repair.ensures.work) check)
+
+pub returns-in-Ok-Repair-clause-check_found : goal.returns-in-Ok-Repair-clause-check_found
+returns-in-Ok-Repair-clause-check_found g c check tells is = absurd (no_check_of_repair (texts c.args.words.now) (named (texts c.args.words.now) _ _ c.in-Ok-Repair.field-0-is c.in-Ok-Repair.ensures.work) check)
+
+pub returns-in-Ok-Repair-clause-check_finds : goal.returns-in-Ok-Repair-clause-check_finds
+returns-in-Ok-Repair-clause-check_finds g c check tells none = absurd (no_check_of_repair (texts c.args.words.now) (named (texts c.args.words.now) _ _ c.in-Ok-Repair.field-0-is c.in-Ok-Repair.ensures.work) check)
+
+pub returns-in-Ok-Repair-clause-check_unwritten : goal.returns-in-Ok-Repair-clause-check_unwritten
+returns-in-Ok-Repair-clause-check_unwritten g c check = absurd (no_check_of_repair (texts c.args.words.now) (named (texts c.args.words.now) _ _ c.in-Ok-Repair.field-0-is c.in-Ok-Repair.ensures.work) check)
+
+pub returns-in-Ok-Repair-clause-gen_told : goal.returns-in-Ok-Repair-clause-gen_told
+returns-in-Ok-Repair-clause-gen_told g c seed count gen tells done = absurd (no_repair_of_gen (texts c.args.words.now) _ _ (named (texts c.args.words.now) _ _ c.in-Ok-Repair.field-0-is c.in-Ok-Repair.ensures.work) gen)
+
+pub returns-in-Ok-Repair-clause-gen_sound : goal.returns-in-Ok-Repair-clause-gen_sound
+returns-in-Ok-Repair-clause-gen_sound g c seed count gen = absurd (no_repair_of_gen (texts c.args.words.now) _ _ (named (texts c.args.words.now) _ _ c.in-Ok-Repair.field-0-is c.in-Ok-Repair.ensures.work) gen)
+
+pub returns-in-Ok-Repair-clause-gen_unwritten : goal.returns-in-Ok-Repair-clause-gen_unwritten
+returns-in-Ok-Repair-clause-gen_unwritten g c seed count gen = absurd (no_repair_of_gen (texts c.args.words.now) _ _ (named (texts c.args.words.now) _ _ c.in-Ok-Repair.field-0-is c.in-Ok-Repair.ensures.work) gen)
+
+pub returns-in-Ok-Repair-clause-unwritten : goal.returns-in-Ok-Repair-clause-unwritten
+returns-in-Ok-Repair-clause-unwritten g c either = ⊎_elim (λ refused. (c.repair.ensures.unwritten refused).0) (λ usage. absurd (c.repair.ensures.no_usage usage)) either
+
+pub returns-in-Ok-Repair-clause-repair_refused : goal.returns-in-Ok-Repair-clause-repair_refused
+returns-in-Ok-Repair-clause-repair_refused g c repair tells is = c.repair.ensures.refused tells is
+
+pub returns-in-Ok-Repair-clause-repair_refuses : goal.returns-in-Ok-Repair-clause-repair_refuses
+returns-in-Ok-Repair-clause-repair_refuses g c repair tells none = c.repair.ensures.refuses tells none
+
+pub returns-in-Ok-Repair-clause-repair_keeps : goal.returns-in-Ok-Repair-clause-repair_keeps
+returns-in-Ok-Repair-clause-repair_keeps g c repair tells settled capacity start mendable = c.repair.ensures.keeps tells settled capacity start mendable
+
+pub returns-in-Ok-Repair-clause-repair_done : goal.returns-in-Ok-Repair-clause-repair_done
+returns-in-Ok-Repair-clause-repair_done g c repair tells settled capacity start mendable is = c.repair.ensures.done tells settled capacity start mendable is
+
+pub returns-in-Ok-Repair-clause-repair_sound : goal.returns-in-Ok-Repair-clause-repair_sound
+returns-in-Ok-Repair-clause-repair_sound g c repair tells settled capacity start mendable sound is = c.repair.ensures.sound tells settled capacity start mendable sound is
+
+pub returns-in_default-clause-repair_keeps : goal.returns-in_default-clause-repair_keeps
+returns-in_default-clause-repair_keeps g c repair tells settled capacity start mendable =
+    let here = g.R.SectorDisk.state c.args.rig.now in
+    keeps_unread capacity start here here settled (g.met.R.SectorDisk.only_now c.args.rig.now) (reads_none here) mendable

@@ -4,7 +4,7 @@ use Rattle.sector_disk.specs.Disk.{content}
 use Rattle.jnl_format.specs.Recovery.{homes_of, volume_of, with_homes}
 use Rattle.jnl_format.specs.declared.blocks.Home.{Home}
 use Rattle.jnl_replay.specs.Plan.{journal_of}
-use Rattle.jnl_replay.specs.Runs.{place_in_runs}
+use Rattle.jnl_replay.specs.Runs.{place_in_runs, place_in_both}
 use Rattle.jnl_replay.specs.Text.{words}
 use Rattle.jnl_replay.specs.declared.runs.Run.{Run}
 use Rattle.jnl_replay.specs.declared.text.Text.{Text}
@@ -35,12 +35,12 @@ loop-runs-init g c =
       placed = λ at p is. absurd (let e = no_place at in cc);
       whole = λ none k inside. absurd (omega (arith, inside, ap (λ (l : List Run). length l) c.new-runs.ensures.items));
       value = λ tells volume homes a.
-          indexed_start s0.sectors t (words t (content s0)) volume homes c.new-homes.result s0 (place_in_runs c.new-runs.result.items) a c.new-homes.ensures.text (c.new-homes.ensures.sectors ∙ c.sectors-sectors.ensures) c.new-homes.ensures.start
+          indexed_start s0.sectors t (words t (content s0)) volume homes c.new-homes.result s0 (place_in_both c.new-index.result c.new-runs.result.items) a c.new-homes.ensures.text (c.new-homes.ensures.sectors ∙ c.sectors-sectors.ensures) c.new-homes.ensures.start
           no_place;
     }
   where
-    no_place : (at : ℕ) → place_in_runs c.new-runs.result.items at ≡ None
-    no_place at = ap (λ (l : List Run). place_in_runs l at) c.new-runs.ensures.items
+    no_place : (at : ℕ) → place_in_both c.new-index.result c.new-runs.result.items at ≡ None
+    no_place at = ap (λ (l : List Run). place_in_both c.new-index.result l at) c.new-runs.ensures.items ∙ ap (λ (l : List Run). place_in_runs l at) c.new-index.ensures
 
 pub loop-runs-preserved : goal.loop-runs-preserved
 loop-runs-preserved g c =
@@ -53,9 +53,9 @@ loop-runs-preserved g c =
     let cur = c.loop-runs.homes in
     let reads = c.next.ensures.reads in
     let home = c.in-Some.home in
-    let old : ℕ → Option ℕ = place_in_runs c.loop-runs.runs.items in
-    let new : ℕ → Option ℕ = place_in_runs c.add_home.new.runs.items in
-    let put = c.in_ok-add_home.ensures.puts in
+    let old : ℕ → Option ℕ = place_in_both c.loop-runs.index c.loop-runs.runs.items in
+    let new : ℕ → Option ℕ = place_in_both c.add.new.self c.add.new.runs.items in
+    let put = c.in_ok-add.ensures.puts in
     let fits : home.place + 512 ≤ cur.text.length = at_some (λ (h : Home). h.place + 512 ≤ cur.text.length) c.in_ok-home.field-0 home c.in-Some.is c.in_ok-home.ensures.placed in
     record {
       reads = reads_both s0 s1 s2 inv.reads reads;
@@ -63,7 +63,7 @@ loop-runs-preserved g c =
       text = c.next.ensures.text ∙ inv.text;
       few = omega (arith, c.next.ensures.sectors, inv.few);
       placed = still_placed t.length old new home inv.placed (omega (arith, fits, ap (λ (x : Text). x.length) inv.text)) put;
-      whole = c.in_ok-add_home.ensures.whole;
+      whole = c.in_ok-add.ensures.whole;
       value = λ tells volume homes a.
           let i = inv.value tells volume homes a in
           let n : words cur.text (content s1) ≡ w = ap (λ (x : Text). words x (content s1)) inv.text ∙ same_words t s0 s1 inv.reads in
@@ -88,20 +88,17 @@ returns-clause-shows g c tells =
     let homes = homes_of j c0 in
     let a = homes_of_plan c0 plan t s0.sectors is same (length-content s0 (g.met.D.SectorDisk.well_formed c.args.disk.now) tells) in
     let i = inv.value tells volume homes a in
-    let place : ℕ → Option ℕ = place_in_runs c.loop-runs.runs.items in
+    let place : ℕ → Option ℕ = place_in_both c.loop-runs.index c.loop-runs.runs.items in
     let n : words cur.text (content s1) ≡ w = ap (λ (x : Text). words x (content s1)) inv.text ∙ same_words t s0 s1 inv.reads in
     let none = given_none volume w (words cur.text (content s1)) cur c.next.new.self i.rest c.in_ok-home.field-0 n c.in_default.is (c.in_ok-home.ensures.gives (tells_then s0 s1 inv.reads tells)) i.pending in
-    shown_is w c0 homes (place_in_runs c.in_ok-index.index.items) (λ at. c.in_ok-index.ensures.same at ∙ indexed_end volume w cur homes place i none at)
+    shown_is w c0 homes (place_in_runs c.put_runs.new.self) (λ at. c.in_ok-put_runs.ensures at ∙ indexed_end volume w cur homes place i none at)
     ∙ ap (λ (b : List ℕ). with_homes b homes c0) (words_of_plan c0 plan t same)
 
-pub add_home-requires-clause-sector : goal.add_home-requires-clause-sector
-add_home-requires-clause-sector g c =
+pub add-requires-clause-sector : goal.add-requires-clause-sector
+add-requires-clause-sector g c =
     let inside = at_some (λ (h : Home). h.sector < c.loop-runs.homes.sectors) c.in_ok-home.field-0 c.in-Some.home c.in-Some.is c.in_ok-home.ensures.on_disk in
     omega (arith, inside, c.loop-runs.invariant.few)
 
-pub invariant_of-result-clause-runs : goal.invariant_of-result-clause-runs
-invariant_of-result-clause-runs g c = c.in_ok-index.ensures.runs
-
 pub invariant_of-result-clause-placed : goal.invariant_of-result-clause-placed
 invariant_of-result-clause-placed g c at place is =
-    c.loop-runs.invariant.placed at place (sym (c.in_ok-index.ensures.same at) ∙ is)
+    c.loop-runs.invariant.placed at place (sym (c.in_ok-put_runs.ensures at) ∙ is)

@@ -1,0 +1,4 @@
+pub mod Found
+pub mod Mended
+pub mod Showing
+pub mod Sizes

@@ -1,0 +1,6 @@
+pub mod Faults
+pub mod Fits
+pub mod Going
+pub mod Opened
+pub mod Talks
+pub mod Whole

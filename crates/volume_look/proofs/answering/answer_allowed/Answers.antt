@@ -1,0 +1,17 @@
+use Rattle.std.proofs.Common.{◌≡◌, ◌∙◌, ap, sym, subst}
+use Rattle.std.specs.Prelude.{IfSome, Option, Ok, Result}
+use Rattle.hfs_language.specs.declared.command.Command.{Command}
+use Rattle.hfs_language.specs.declared.refusal.Refusal.{Refusal}
+use Rattle.hfs_language.specs.declared.reply.Reply.{Reply}
+use Rattle.volume_runs.specs.Run.{reply_to}
+use Rattle.volume_base.specs.Room.{capacity_of}
+use Rattle.volume_look.proofs.Talks.{taken_is}
+use Rattle.volume_look.proofs.answering.answer_allowed.Goals as goal
+
+pub returns-in-Some-clause-reply : goal.returns-in-Some-clause-reply
+returns-in-Some-clause-reply g c tells =
+    let most = capacity_of c.args.volume.now in
+    let content = (g.P.SectorView.space c.args.space.now).content in
+    let asked = c.args.command.now in
+    let said : c.in-Some.reply ≡ reply_to most content (Ok asked) = subst (λ (o : Option Reply). IfSome o (λ (reply : Reply). reply ≡ reply_to most content (Ok asked))) c.in-Some.is (c.in_ok-reply.ensures.reply tells) in
+    said ∙ ap (λ (r : Result Command Refusal). reply_to most content r) (sym (taken_is asked c.requires.allowed))
