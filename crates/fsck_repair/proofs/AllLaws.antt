@@ -1,5 +1,5 @@
 -- All changes of a content whose counts were made anew.
-use Rattle.std.proofs.Common.{◌≡◌, ◌<◌, ◌≤◌, ℕ, ◌+◌, ◌-◌, ◌*◌, ◌/◌, ◌^◌, ◌==◌, nat_le, Bool, true, false, not, List, [], inl, inr, length, refl, sym, ◌∙◌, ap, subst, arith}
+use Rattle.std.proofs.Common.{◌≡◌, ◌<◌, ◌≤◌, ℕ, ◌-◌, ◌*◌, ◌/◌, ◌^◌, ◌==◌, nat_le, Bool, true, false, not, List, [], inl, inr, length, refl, sym, ◌∙◌, ap, subst, arith}
 use Rattle.std.specs.Prelude.{Contains, Result, Ok, Err, OnOk, slice_index, Option, Some, None, slice_get, slice_index_or, if◌then◌else◌}
 use Rattle.std.specs.List.{range_with_len}
 use Rattle.std.proofs.lemmas.List.FromFn.{length-map-range_with_len}
@@ -14,7 +14,6 @@ use Rattle.hfs_volume.specs.Broken.{leaves_in}
 use Rattle.hfs_volume.specs.Forks.{per_block_of}
 use Rattle.hfs_volume.specs.Records.{entries_of, is_file, is_folder}
 use Rattle.std.specs.List.{count_by}
-use Rattle.fsck_core.specs.Flags.{AreUsed}
 use Rattle.fsck_core.proofs.Limits.{block_range}
 use Rattle.fsck_core.proofs.RowLaws.{count_map}
 use Rattle.std.proofs.lemmas.Bool.{leb-true, and_parts}
@@ -22,8 +21,7 @@ use Rattle.volume_header.specs.Refusal.{is_volume_size, is_hfsx, is_block_size, 
 use Rattle.volume_header.specs.declared.header.VolumeHeader.{VolumeHeader}
 use Rattle.volume_header.specs.declared.refusal.HeaderRefusal.{HeaderRefusal}
 use Rattle.volume_header.specs.declared.refusal.HeaderRefusal.TheVariants.{LimitSectors, NotHfsx, BadGeometry}
-use Rattle.volume_repair.specs.Recount.{header_recounted}
-use Rattle.volume_repair.specs.Repair.{IsMendable, catalog_sectors, needs_copy}
+use Rattle.volume_repair.specs.Repair.{catalog_sectors, needs_copy}
 use Rattle.fsck_repair.specs.Bitmap.{MendsBitmap, IsPlainPlace}
 use Rattle.fsck_repair.specs.Changing.{AreRight, IsSettled, Notes}
 use Rattle.fsck_repair.specs.Counted.{IsCounted, HasHeaders, HasNumbers, IsHeaderSector, IsPlain, IsSkipped}
@@ -34,7 +32,6 @@ use Rattle.fsck_repair.specs.declared.mend.Change.{Change}
 use Rattle.fsck_repair.specs.declared.numbers.Numbers.{Numbers}
 use Rattle.fsck_repair.specs.declared.skipped.Skipped.{Skipped}
 use Rattle.fsck_repair.proofs.CallLaws.{none_right}
-use Rattle.fsck_repair.proofs.HeaderLaws.{agreed}
 use Rattle.fsck_repair.proofs.LeavesLaws.{all_settled, are_leaves, first_leaf}
 use Rattle.fsck_repair.proofs.MendedLaws.{mends_bitmap}
 

@@ -1,6 +1,6 @@
 -- The repair of a content, seen through changes.
-use Rattle.std.proofs.Common.{◌≡◌, ◌⊎◌, ◌<◌, ◌≤◌, ℕ, suc, Bool, true, false, not, cond, List, [], ◌∷◌, length, get_or, inl, inr, refl, sym, ◌∙◌, ap, subst, arith, ⊎_elim, map, IsTrue}
-use Rattle.std.specs.Prelude.{Contains, All, slice_index}
+use Rattle.std.proofs.Common.{◌≡◌, ◌<◌, ◌≤◌, ℕ, suc, Bool, true, false, not, cond, List, [], ◌∷◌, length, inl, inr, refl, sym, ◌∙◌, ap, subst, arith, ⊎_elim, IsTrue}
+use Rattle.std.specs.Prelude.{Contains, All}
 use Rattle.std.proofs.lemmas.Bool.{cases_lt}
 use Rattle.std.proofs.lemmas.List.{get_or_past}
 use Rattle.std.proofs.lemmas.List.FromFn.{length-map-range_with_len}
@@ -17,12 +17,11 @@ use Rattle.hfs_volume.specs.Findings.{HasBytes}
 use Rattle.hfs_volume.proofs.Members.{all_of, map_cases}
 use Rattle.volume_repair.specs.Repair.{IsMendable, IsRepair}
 use Rattle.volume_repair.specs.Differing.{Differs, differing}
-use Rattle.fsck_repair.specs.Changing.{IsRightChange, AreRight, IsSettled, IsInOrder}
-use Rattle.fsck_repair.specs.Overlay.{changed, overlaid, places_of, ChangesOnce}
+use Rattle.fsck_repair.specs.Changing.{AreRight, IsSettled, IsInOrder}
+use Rattle.fsck_repair.specs.Overlay.{changed, overlaid, places_of}
 use Rattle.fsck_repair.specs.declared.mend.Change.{Change}
 use Rattle.fsck_repair.proofs.DiffLaws.{changed_cases, mended_is_overlaid, overlaid_none, as_many_differ}
 use Rattle.fsck_repair.proofs.Overlaying.{overlaid_at}
-use Rattle.fsck_repair.proofs.PutLaws.{changed_is}
 
 pub no_repair : (content : Content) (changes : List Change) → changes ≡ [] → ¬ IsMendable content → IsRepair content (overlaid changes content)
 no_repair content changes none cant = inr (cant, ap (λ (l : List Change). overlaid l content) none ∙ overlaid_none content)

@@ -1,6 +1,6 @@
 -- What a content counts, and whether it can be repaired.
-use Rattle.std.proofs.Common.{◌≡◌, ◌≢◌, ◌⊎◌, ◌↔◌, ◌≤◌, ◌<◌, ℕ, ◌+◌, Bool, true, false, not, ◌==◌, List, [], ◌∷◌, ◌++◌, length, inl, inr, refl, sym, ◌∙◌, ap, subst, arith, IsTrue, ⊎_elim}
-use Rattle.std.specs.Prelude.{Contains, All, Option, None, Some, MatchOption, Result, Ok, Err, IfOk}
+use Rattle.std.proofs.Common.{◌≡◌, ◌↔◌, ◌≤◌, ℕ, ◌+◌, Bool, true, false, not, ◌==◌, List, length, inl, inr, refl, sym, ◌∙◌, subst, IsTrue}
+use Rattle.std.specs.Prelude.{Contains, All}
 use Rattle.std.specs.List.{flat_map}
 use Rattle.std.proofs.lemmas.Bool.{true≢false}
 use Rattle.std.proofs.lemmas.List.Elements.{Contains-append_cases}
@@ -23,7 +23,7 @@ use Rattle.hfs_volume.specs.Changes.{AreSorted}
 use Rattle.fsck_core.proofs.ShownLaws.{catalog_keys, catalog_sorted}
 use Rattle.fsck_core.specs.Overflows.{overflows_in}
 use Rattle.volume_repair.specs.Repair.{IsMendable, blocks_written}
-use Rattle.fsck_repair.specs.Counted.{AreTrees, AreSized, HasHeaders, IsCounted, UsesOnce}
+use Rattle.fsck_repair.specs.Counted.{AreTrees, AreSized, HasHeaders, UsesOnce}
 use Rattle.fsck_repair.specs.declared.trees.Trees.{Trees}
 use Rattle.fsck_core.specs.declared.reading.Headers.{Headers}
 use Rattle.fsck_scan.specs.declared.form.Head.{Head}

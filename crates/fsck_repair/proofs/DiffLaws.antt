@@ -1,9 +1,9 @@
 -- A repair that is seen through its changes, of which there are as many as sectors differ.
-use Rattle.std.proofs.Common.{◌≡◌, ◌≢◌, ◌⊎◌, ◌<◌, ◌≤◌, ℕ, zero, suc, ◌+◌, ◌-◌, Bool, true, false, not, cond, ◌==◌, if◌then◌else◌, List, [], ◌∷◌, ◌++◌, length, map, get_or, inl, inr, refl, sym, ◌∙◌, ap, subst, arith, ⊎_elim, ext_get_or}
+use Rattle.std.proofs.Common.{◌≡◌, ◌≢◌, ◌⊎◌, ◌<◌, ◌≤◌, ℕ, zero, suc, ◌+◌, Bool, true, false, not, cond, ◌==◌, if◌then◌else◌, List, [], ◌∷◌, length, map, inl, inr, refl, sym, ◌∙◌, ap, subst, arith, ⊎_elim, ext_get_or}
 use Rattle.std.specs.Prelude.{Contains}
 use Rattle.std.specs.List.{range_with_len, count_by}
 use Rattle.std.specs.Str.{bytes_eq}
-use Rattle.std.proofs.lemmas.Bool.{ne_eqb, eq-eqb, true≢false}
+use Rattle.std.proofs.lemmas.Bool.{ne_eqb, eq-eqb}
 use Rattle.std.proofs.lemmas.Bool.Decides.{eqb_tells}
 use Rattle.std.proofs.lemmas.Slice.Eq.{bytes_eq-Decides}
 use Rattle.std.proofs.lemmas.List.FromFn.{length-map-range_with_len, get_or-map-range_with_len}
@@ -15,10 +15,9 @@ use Rattle.hfs_volume.proofs.BlockWants.{range_bounds}
 use Rattle.hfs_volume.proofs.Members.{at_front, behind, first_or_later, map_stands}
 use Rattle.volume_repair.specs.Repair.{sector_mended, mended}
 use Rattle.volume_repair.specs.Differing.{differing}
-use Rattle.fsck_repair.specs.Changing.{IsRightChange, AreRight, IsSettled}
+use Rattle.fsck_repair.specs.Changing.{AreRight, IsSettled}
 use Rattle.fsck_repair.specs.Overlay.{changed, overlaid, places_of, ChangesOnce}
 use Rattle.fsck_repair.specs.declared.mend.Change.{Change}
-use Rattle.fsck_repair.proofs.PutLaws.{found_or_not, changed_is}
 use Rattle.fsck_repair.proofs.Overlaying.{overlaid_at}
 
 -- a test as a number

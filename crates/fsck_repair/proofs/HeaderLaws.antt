@@ -1,14 +1,13 @@
 -- The volume header's sector with what it counts.
-use Rattle.std.proofs.Common.{◌≡◌, ◌≢◌, ◌⊎◌, ◌<◌, ◌≤◌, ℕ, ◌+◌, ◌-◌, Bool, true, false, not, ◌==◌, ◌&&◌, nat_le, List, length, inl, inr, refl, sym, ◌∙◌, ap, subst, arith, ⊎_elim}
+use Rattle.std.proofs.Common.{◌≡◌, ◌⊎◌, ◌<◌, ◌≤◌, ℕ, ◌-◌, Bool, true, false, not, ◌==◌, ◌&&◌, nat_le, List, length, inl, inr, refl, sym, ◌∙◌, ap, subst}
 use Rattle.std.proofs.lemmas.Bool.{true≢false, eqb-true, leb-true, eq-eqb, and_parts}
-use Rattle.hx_bytes.specs.Field.{AreBytes, big, put_at}
+use Rattle.hx_bytes.specs.Field.{AreBytes, put_at}
 use Rattle.sector_disk.specs.Lists.{Content, sector}
 use Rattle.hfs_volume.specs.Content.{volume_of}
 use Rattle.volume_header.specs.Refusal.{is_volume_size}
-use Rattle.volume_header.specs.declared.header.VolumeHeader.{VolumeHeader}
 use Rattle.volume_repair.specs.Recount.{agrees, with_word}
-use Rattle.volume_repair.specs.Repair.{sector_mended, header_mended, needs_copy}
-use Rattle.fsck_repair.specs.Changing.{Notes, noted, IsSettled}
+use Rattle.volume_repair.specs.Repair.{header_mended, needs_copy}
+use Rattle.fsck_repair.specs.Changing.{Notes, noted}
 use Rattle.fsck_repair.specs.Counted.{IsHeaderSector, HasNumbers, HasHeaders}
 use Rattle.fsck_repair.specs.declared.mend.Change.{Change}
 use Rattle.fsck_repair.specs.declared.numbers.Numbers.{Numbers}

@@ -1,24 +1,21 @@
 -- A leaf of the catalog with its records counted anew, one after the other.
-use Rattle.std.proofs.Common.{◌≡◌, ◌≢◌, ◌⊎◌, ◌↔◌, ◌<◌, ◌≤◌, ℕ, zero, suc, ◌+◌, ◌-◌, ◌*◌, Bool, true, false, ◌==◌, ◌&&◌, ◌^◌, nat_lt, if◌then◌else◌, List, [], ◌∷◌, ◌++◌, length, map, take, drop, fold, get_or, inl, inr, refl, sym, ◌∙◌, ap, subst, arith, IsTrue, append_assoc, length-append, length-drop, ⊎_elim}
-use Rattle.std.specs.Prelude.{slice_range, Option, Some, None, IsSome, MatchOption}
-use Rattle.std.specs.List.{range_with_len, count_by}
+use Rattle.std.proofs.Common.{◌≡◌, ◌≢◌, ◌↔◌, ◌≤◌, ℕ, ◌+◌, ◌-◌, ◌*◌, Bool, true, false, ◌==◌, ◌&&◌, ◌^◌, nat_lt, if◌then◌else◌, List, ◌++◌, length, take, drop, fold, refl, sym, ◌∙◌, ap, subst, arith, IsTrue, length-append}
+use Rattle.std.specs.Prelude.{slice_range, Option, Some, None, IsSome}
+use Rattle.std.specs.List.{range_with_len}
 use Rattle.std.specs.Str.{bytes_eq}
-use Rattle.std.specs.List.Sorted.{IsNonDecreasing, IsNonDecreasingBy}
-use Rattle.std.proofs.lemmas.Bool.{true≢false, ne_eqb, eqb-true, eq-eqb}
-use Rattle.std.proofs.lemmas.List.{length-take, take-append-drop, drop-drop}
+use Rattle.std.proofs.lemmas.Bool.{true≢false}
+use Rattle.std.proofs.lemmas.List.{length-take, drop-drop}
 use Rattle.std.proofs.lemmas.List.Sums.{fold-append}
 use Rattle.fork_map.proofs.Ranges.{range-append}
-use Rattle.std.proofs.Math.Seq.{drop-append_seam, take-append_seam, drop-append-add}
-use Rattle.hx_bytes.specs.Field.{big, big_at, put_at, number_at}
-use Rattle.hx_bytes.proofs.Laws.{length-number_bytes, length-put_at, number_at-drop}
+use Rattle.std.proofs.Math.Seq.{drop-append_seam}
+use Rattle.hx_bytes.specs.Field.{big_at, put_at, number_at}
+use Rattle.hx_bytes.proofs.Laws.{length-put_at, number_at-drop}
 use Rattle.hx_bytes.specs.declared.fields.Order.TheVariants.{Big}
 use Rattle.alloc_bitmap.specs.Apart.{times}
 use Rattle.cat_records.specs.Records.{is_catalog, catalog_of, entry_of}
 use Rattle.cat_records.specs.declared.record.CatRecord.TheVariants.{Folder}
-use Rattle.btree_node.specs.Node.{offset, record_count}
-use Rattle.btree_node.specs.Levels.{key_of, value_of, pair_of}
+use Rattle.btree_node.specs.Node.{offset}
 use Rattle.hfs_volume.specs.Entries.{count_in}
-use Rattle.hfs_model.specs.Sorted.{kept}
 use Rattle.hfs_volume.proofs.LinkWants.{reference_is}
 use Rattle.hfs_volume.specs.Links.{is_in, private_id, node_name, is_shared, is_shared_file, is_link_to, reference_of, links_to}
 use Rattle.fsck_core.specs.Links.{link_count, links_here}
@@ -31,8 +28,8 @@ use Rattle.fsck_core.specs.declared.rows.Row.{Row}
 use Rattle.fsck_core.proofs.RecordBytes as bytes
 use Rattle.fsck_core.proofs.RowLaws.{count_map}
 use Rattle.volume_repair.specs.Recount.{with_word, folder_recounted, file_recounted, value_recounted}
-use Rattle.volume_repair.specs.Repair.{record_mended, leaf_mended}
-use Rattle.fsck_repair.specs.Leaf.{IsGoodItem, IsGoodLeaf, SameFrom}
+use Rattle.volume_repair.specs.Repair.{record_mended}
+use Rattle.fsck_repair.specs.Leaf.{SameFrom}
 
 -- how many entries a folder has, by the rows
 pub entries_under : (records : List Placed) (rows : List Row) (id count : ℕ) → rows ≡ rows_of (entries_of records) → count ≡ rows_under rows id → count ≡ count_in (entries_of records) id

@@ -1,7 +1,7 @@
 -- A record of a leaf as the code cuts it, and the offsets of a leaf while its records are counted anew.
-use Rattle.std.proofs.Common.{◌≡◌, ◌<◌, ◌≤◌, ℕ, ◌+◌, ◌-◌, ◌*◌, List, [], ◌++◌, length, take, drop, refl, sym, ◌∙◌, ap, subst, arith, IsTrue, length-drop}
+use Rattle.std.proofs.Common.{◌≡◌, ◌<◌, ◌≤◌, ℕ, ◌+◌, ◌-◌, List, ◌++◌, length, take, drop, sym, ◌∙◌, ap, subst, arith, IsTrue, length-drop}
 use Rattle.std.specs.Prelude.{slice_range, Result, Ok, Err, OnOk}
-use Rattle.std.proofs.lemmas.List.{length-take, drop_all}
+use Rattle.std.proofs.lemmas.List.{length-take}
 use borrow.Rule.Slice.PartMut.{put_mid}
 use Rattle.hx_bytes.specs.Field.{big_at, put_at}
 use Rattle.hx_bytes.proofs.Parts.{put_whole_part}

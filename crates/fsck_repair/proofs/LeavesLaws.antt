@@ -1,15 +1,14 @@
 -- The leaves of the catalog, each named by the one before it, and what the repair has in them.
-use Rattle.std.proofs.Common.{◌≡◌, ◌≢◌, ◌⊎◌, ◌<◌, ◌≤◌, ℕ, zero, suc, ◌+◌, ◌-◌, ◌*◌, ◌/◌, ◌%◌, Bool, true, false, ◌==◌, ◌||◌, ◌&&◌, nat_lt, if◌then◌else◌, List, [], ◌∷◌, ◌++◌, length, map, take, drop, get_or, inl, inr, refl, sym, ◌∙◌, ap, subst, arith, ⊎_elim, IsTrue}
-use Rattle.std.specs.Prelude.{Contains, All, Option, Some, None, slice_get, slice_index, slice_range, MatchOption}
+use Rattle.std.proofs.Common.{◌≡◌, ◌≢◌, ◌⊎◌, ◌<◌, ◌≤◌, ℕ, zero, suc, ◌+◌, ◌-◌, ◌*◌, ◌/◌, ◌%◌, Bool, true, false, ◌==◌, ◌||◌, ◌&&◌, nat_lt, if◌then◌else◌, List, [], length, map, take, drop, inl, inr, refl, sym, ◌∙◌, ap, subst, arith, ⊎_elim, IsTrue}
+use Rattle.std.specs.Prelude.{Contains, Option, Some, None, slice_get, slice_index, slice_range}
 use Rattle.std.specs.List.{list_any, range_with_len}
 use Rattle.std.proofs.lemmas.Bool.{cases_lt, true≢false, ne_eqb}
-use Rattle.std.proofs.lemmas.Bool.Decides.{eqb_tells}
 use Rattle.std.proofs.Math.Nat.{div-mul-le_self, lt-div-mul-add, mod-eq-sub-div-mul}
 use Rattle.sector_disk.specs.Lists.{Content, sector}
 use Rattle.jnl_format.specs.Recovery.{header_of_volume}
 use Rattle.cat_records.specs.Records.{is_catalog}
 use Rattle.btree_node.specs.Keys.{IsCatalogKey, catalog_cmp, anything}
-use Rattle.btree_node.specs.Levels.{Pair, key_of, value_of, pair_of, entries, level, leaves}
+use Rattle.btree_node.specs.Levels.{Pair, pair_of, entries, leaves}
 use Rattle.btree_node.specs.Node.{IsNodeSize, offset, record_count, items, next_of, height_of}
 use Rattle.btree_node.specs.TreeFile.{TreeFile, IsTreeFile, store_of, catalog_form}
 use Rattle.btree_node.specs.Tree.{pairs_of}
@@ -20,14 +19,14 @@ use Rattle.hfs_volume.specs.Entries.{AreSpelled}
 use Rattle.hfs_volume.specs.Forks.{per_block_of}
 use Rattle.hfs_volume.specs.Blocks.{is_among}
 use Rattle.hfs_volume.proofs.Members.{each_of, map_stands}
-use Rattle.hfs_volume.proofs.TreeWants.{at_place, stands_at, record_stands, stands_flat, stands_among, among_stands}
+use Rattle.hfs_volume.proofs.TreeWants.{at_place, stands_at, record_stands, stands_flat, among_stands}
 use Rattle.fsck_core.proofs.ShownLaws.{catalog_keys}
 use Rattle.volume_repair.specs.Recount.{is_bit_wanted}
-use Rattle.volume_repair.specs.Repair.{IsMendable, byte_of_bits, catalog_sectors, catalog_mended, bitmap_mended, file_sector_mended, needs_copy, place_from, sector_mended, leaf_mended}
+use Rattle.volume_repair.specs.Repair.{IsMendable, byte_of_bits, catalog_sectors, bitmap_mended, file_sector_mended, needs_copy, place_from, sector_mended, leaf_mended}
 use Rattle.fsck_repair.specs.Bitmap.{IsPlainPlace}
 use Rattle.fsck_repair.specs.Changing.{IsSettled}
 use Rattle.fsck_repair.specs.Counted.{IsPlain, IsHeaderSector}
-use Rattle.fsck_repair.specs.Leaf.{IsGoodItem, IsGoodLeaf, AreLeaves, IsPlainAt, IsOfNode, IsOfLeaves, IsCatalogSector}
+use Rattle.fsck_repair.specs.Leaf.{IsGoodLeaf, AreLeaves, IsCatalogSector}
 use Rattle.fsck_repair.specs.declared.mend.Change.{Change}
 use Rattle.fsck_repair.proofs.MendedLaws.{mends_leaf, plain_sector}
 use Rattle.fsck_repair.proofs.PlaceLaws.{place_is}

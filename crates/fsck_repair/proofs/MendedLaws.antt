@@ -1,28 +1,25 @@
 -- What the repair has in sectors of the two files.
-use Rattle.std.proofs.Common.{◌≡◌, ◌≢◌, ◌⊎◌, ◌<◌, ◌≤◌, ℕ, zero, suc, ◌+◌, ◌-◌, ◌*◌, ◌/◌, ◌%◌, ◌^◌, Bool, true, false, ◌==◌, ◌&&◌, nat_lt, not, if◌then◌else◌, List, [], ◌∷◌, ◌++◌, length, map, take, drop, get_or, inl, inr, refl, sym, ◌∙◌, ap, subst, arith, ⊎_elim}
-use Rattle.std.specs.Prelude.{Contains, Option, Some, None, slice_get, slice_index, slice_index_or}
+use Rattle.std.proofs.Common.{◌≡◌, ◌<◌, ◌≤◌, ℕ, ◌+◌, ◌-◌, ◌*◌, ◌/◌, ◌%◌, Bool, true, false, ◌==◌, ◌&&◌, nat_lt, if◌then◌else◌, List, [], ◌∷◌, length, map, take, drop, inl, inr, refl, sym, ◌∙◌, ap, arith, ⊎_elim}
+use Rattle.std.specs.Prelude.{Contains, Some, slice_get, slice_index, slice_index_or}
 use Rattle.std.specs.List.{range_with_len}
-use Rattle.std.proofs.lemmas.Bool.{cases_lt, ne_eqb, eq-eqb, true≢false}
+use Rattle.std.proofs.lemmas.Bool.{cases_lt}
 use Rattle.std.proofs.lemmas.List.{get_or_past}
 use Rattle.std.proofs.lemmas.List.FromFn.{length-map-range_with_len, get_or-map-range_with_len}
-use Rattle.std.proofs.Math.Nat.{div-lt_iff_lt-mul, div-mul-le_self, mod-eq-sub-div-mul, lt-div-mul-add}
+use Rattle.std.proofs.Math.Nat.{div-lt_iff_lt-mul, mod-eq-sub-div-mul}
 use Rattle.sector_disk.specs.Lists.{Content, sector}
 use Rattle.jnl_format.specs.Recovery.{header_of_volume}
 use Rattle.hfs_volume.specs.Blocks.{is_among, used_in}
 use Rattle.hfs_volume.specs.Broken.{bit, leaves_in}
 use Rattle.hfs_volume.specs.Content.{volume_of, records_of, catalog_file, bitmap_sectors}
 use Rattle.hfs_volume.specs.Forks.{per_block_of}
-use Rattle.hfs_volume.proofs.TreeWants.{among_stands, stands_among}
+use Rattle.hfs_volume.proofs.TreeWants.{stands_among}
 use Rattle.fsck_core.specs.Flags.{AreUsed}
 use Rattle.fsck_core.proofs.RowLaws.{true_below, not_below}
 use Rattle.volume_repair.specs.Recount.{is_bit_wanted}
-use Rattle.volume_repair.specs.Repair.{IsMendable, sector_mended, header_mended, file_sector_mended, bitmap_mended, catalog_mended, catalog_sectors, place_from, byte_of_bits, leaf_mended, needs_copy}
-use Rattle.fsck_repair.specs.Bitmap.{bits_written, MendsBitmap, IsPlainPlace}
+use Rattle.volume_repair.specs.Repair.{IsMendable, sector_mended, header_mended, file_sector_mended, catalog_sectors, place_from, byte_of_bits, leaf_mended, needs_copy}
+use Rattle.fsck_repair.specs.Bitmap.{MendsBitmap}
 use Rattle.fsck_repair.specs.Counted.{IsPlain, IsHeaderSector}
-use Rattle.fsck_repair.specs.Leaf.{IsPlainAt, IsOfNode, IsOfLeaves, IsCatalogSector, MendsNode}
-use Rattle.fsck_repair.specs.Changing.{IsSettled, Notes}
-use Rattle.fsck_repair.specs.declared.mend.Change.{Change}
-use Rattle.fsck_repair.proofs.PlaceLaws.{place_is}
+use Rattle.fsck_repair.specs.Leaf.{MendsNode}
 use Rattle.fsck_repair.proofs.WrittenLaws.{bitmap_place, catalog_place}
 
 -- a sector of a header

@@ -1,6 +1,6 @@
 -- Changes that are noted.
-use Rattle.std.proofs.Common.{◌≡◌, ◌≢◌, ◌⊎◌, ◌<◌, ◌≤◌, ℕ, Bool, true, false, if◌then◌else◌, List, [], ◌∷◌, ◌++◌, length, map, inl, inr, refl, sym, ◌∙◌, ap, subst, arith, ⊎_elim}
-use Rattle.std.specs.Prelude.{Contains, Result, Ok, Err, OnOk}
+use Rattle.std.proofs.Common.{◌≡◌, ◌⊎◌, ◌<◌, ℕ, Bool, true, false, if◌then◌else◌, List, [], ◌∷◌, ◌++◌, length, inl, inr, refl, sym, ◌∙◌, ap, subst}
+use Rattle.std.specs.Prelude.{Contains}
 use Rattle.std.specs.Str.{bytes_eq}
 use Rattle.std.proofs.lemmas.Slice.Eq.{bytes_eq-Decides}
 use Rattle.std.proofs.lemmas.Bool.{true≢false}
@@ -9,7 +9,7 @@ use Rattle.hx_bytes.specs.Field.{AreBytes}
 use Rattle.sector_disk.specs.Lists.{Content, sector}
 use Rattle.hfs_volume.proofs.Members.{at_front, in_one, map_cases, map_stands}
 use Rattle.volume_repair.specs.Repair.{sector_mended}
-use Rattle.fsck_repair.specs.Changing.{IsRightChange, AreRight, IsSettled, Notes, noted}
+use Rattle.fsck_repair.specs.Changing.{IsRightChange, IsSettled, Notes, noted}
 use Rattle.fsck_repair.specs.Overlay.{places_of}
 use Rattle.fsck_repair.specs.declared.mend.Change.{Change}
 

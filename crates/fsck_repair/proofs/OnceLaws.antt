@@ -1,5 +1,5 @@
 -- Extents in the order of their starts, looked at one after the other: which blocks are used twice.
-use Rattle.std.proofs.Common.{Bool, true, false, cond, List, [], ◌∷◌, ◌++◌, length, take, get_or, ◌-◌, ◌≢◌, ◌↔◌, zero, suc, IsTrue, ◌≡◌, ◌⊎◌, ◌<◌, ◌≤◌, ℕ, ◌+◌, min, max, inl, inr, refl, sym, ◌∙◌, ap, subst, arith, ⊎_elim, if◌then◌else◌}
+use Rattle.std.proofs.Common.{Bool, true, false, cond, List, [], ◌∷◌, ◌++◌, length, take, get_or, ◌-◌, ◌≢◌, ◌↔◌, IsTrue, ◌≡◌, ◌⊎◌, ◌<◌, ◌≤◌, ℕ, ◌+◌, min, max, inl, inr, refl, sym, ◌∙◌, ap, subst, arith, ⊎_elim, if◌then◌else◌}
 use Rattle.std.specs.List.{range_with_len}
 use Rattle.std.specs.Prelude.{Contains, All}
 use Rattle.std.specs.List.Sorted.{IsNonDecreasingBy, IsPermutation}

@@ -1,8 +1,7 @@
 -- The sizes of the special files, decided one after the other.
-use Rattle.std.proofs.Common.{◌≡◌, ◌↔◌, ◌≤◌, ◌*◌, ◌<◌, ℕ, Bool, true, false, List, [], ◌∷◌, refl, sym, ◌∙◌, ap, subst, arith, IsTrue}
+use Rattle.std.proofs.Common.{◌≡◌, ◌↔◌, ◌≤◌, ◌*◌, ℕ, Bool, true, false, List, [], ◌∷◌, sym, ◌∙◌, subst, IsTrue}
 use Rattle.std.specs.Prelude.{Option, None, Some, MatchOption, Result, Ok, Err, IfOk}
 use Rattle.std.proofs.lemmas.Bool.{true≢false}
-use Rattle.sector_disk.specs.Space.{Space}
 use Rattle.jnl_format.specs.Recovery.{Content, header_of_volume}
 use Rattle.volume_header.specs.declared.header.VolumeHeader.{VolumeHeader}
 use Rattle.btree_node.specs.TreeFile.{TreeFile}
@@ -17,7 +16,7 @@ use Rattle.hfs_volume.specs.Blocks.{HasTreeSize}
 use Rattle.hfs_volume.specs.Content.{TreeFacts, facts_of, volume_of, extents_file, catalog_file, attributes_file, has_attributes}
 use Rattle.fsck_scan.specs.Form.{head_in}
 use Rattle.fsck_scan.specs.declared.form.Head.{Head}
-use Rattle.volume_repair.specs.Repair.{IsMendable, HasFileSizes}
+use Rattle.volume_repair.specs.Repair.{IsMendable}
 use Rattle.fsck_repair.specs.Counted.{Decides, HasAttributesSize, IsSizedCatalog, AreSized}
 
 -- the numbers of a size, and of how keys are compared

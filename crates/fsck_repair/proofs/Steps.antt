@@ -1,12 +1,12 @@
 -- One sector, one node or one leaf more that was noted.
-use Rattle.std.proofs.Common.{◌≡◌, ◌≢◌, ◌⊎◌, ◌<◌, ◌≤◌, ℕ, ◌+◌, ◌-◌, ◌*◌, ◌/◌, List, [], length, inl, inr, refl, sym, ◌∙◌, ap, subst, arith, ⊎_elim}
-use Rattle.std.specs.Prelude.{Contains, Option, Some, None, slice_get, slice_index}
+use Rattle.std.proofs.Common.{◌≡◌, ◌≢◌, ◌⊎◌, ◌<◌, ◌≤◌, ℕ, ◌+◌, List, length, inl, inr, sym, ◌∙◌, ap, subst, arith, ⊎_elim}
+use Rattle.std.specs.Prelude.{Some, None, slice_get, slice_index}
 use Rattle.std.proofs.lemmas.Bool.{cases_lt}
 use Rattle.std.proofs.lemmas.List.{get_or_past}
 use Rattle.hx_bytes.specs.Field.{AreBytes}
 use Rattle.sector_disk.specs.Lists.{Content, sector}
 use Rattle.volume_repair.specs.Repair.{sector_mended}
-use Rattle.fsck_repair.specs.Changing.{Notes, noted, IsSettled}
+use Rattle.fsck_repair.specs.Changing.{Notes, noted}
 use Rattle.fsck_repair.specs.Counted.{IsPlain}
 use Rattle.fsck_repair.specs.Leaf.{IsPlainAt, IsOfNode, IsOfLeaves}
 use Rattle.fsck_repair.specs.declared.mend.Change.{Change}

@@ -1,5 +1,5 @@
 -- A finding of a tree denies that the content can be repaired.
-use Rattle.std.proofs.Common.{◌≡◌, ◌<◌, ◌≤◌, ℕ, ◌+◌, ◌-◌, ◌*◌, ◌/◌, Bool, true, false, List, [], length, get_or, refl, sym, ◌∙◌, ap, subst, arith, IsTrue}
+use Rattle.std.proofs.Common.{◌≡◌, ◌<◌, ◌≤◌, ℕ, ◌+◌, ◌-◌, ◌/◌, true, false, List, [], length, get_or, sym, ◌∙◌, subst, arith, IsTrue}
 use Rattle.std.specs.Prelude.{Contains, Option, None, Some, MatchOption, Result, Ok, Err, IfOk}
 use Rattle.std.proofs.lemmas.Bool.{true≢false}
 use Rattle.std.proofs.lemmas.List.Elements.{All-contains_itself}
@@ -14,8 +14,7 @@ use Rattle.hfs_volume.specs.Broken.{IsBrokenTree}
 use Rattle.hfs_volume.specs.Content.{extents_file, catalog_file, attributes_file, has_attributes}
 use Rattle.hfs_volume.specs.Forks.{extents_id, catalog_id, attributes_id}
 use Rattle.hfs_volume.proofs.TreeUnbroken.{tree_is_unbroken}
-use Rattle.fsck_core.specs.Overflows.{overflows_in, overflows_of, IsOverflowPair}
-use Rattle.fsck_core.specs.Shown.{Shows, HoldsExtents, HoldsCatalog}
+use Rattle.fsck_core.specs.Shown.{Shows, HoldsCatalog}
 use Rattle.fsck_core.specs.Wants.{as_found}
 use Rattle.fsck_core.proofs.ShownLaws.{catalog_held}
 use Rattle.volume_repair.specs.Repair.{IsMendable}

@@ -6,7 +6,6 @@ use Rattle.sector_disk.specs.Lists.{Content}
 use Rattle.jnl_format.specs.Recovery.{header_of_volume}
 use Rattle.alloc_bitmap.specs.Apart.{times}
 use Rattle.btree_node.specs.Keys.{IsAttrKey, attr_cmp, anything}
-use Rattle.btree_node.specs.Levels.{Pair}
 use Rattle.btree_node.specs.TreeFile.{IsTreeFile, attributes_form}
 use Rattle.hfs_volume.specs.Blocks.{IsGoodHeader, HasTreeSize, used_in}
 use Rattle.hfs_volume.specs.Records.{Placed, entries_of}

@@ -1,5 +1,5 @@
 -- How many times blocks are used, and which of them a repair may write, by extents in the order of their starts.
-use Rattle.std.specs.Prelude.{◌≡◌, ◌<◌, ◌≤◌, ℕ, ◌+◌, Bool, List, map, sum_by, if◌then◌else◌}
+use Rattle.std.specs.Prelude.{◌<◌, ◌≤◌, ℕ, ◌+◌, Bool, List, map, sum_by, if◌then◌else◌}
 use Rattle.std.specs.List.{range_with_len}
 use Rattle.hx_bytes.specs.declared.extents.Extent.{Extent}
 use Rattle.alloc_bitmap.specs.Apart.{times}

@@ -1,4 +1,4 @@
-use Rattle.std.proofs.Common.{◌≡◌, ◌<◌, ◌≤◌, ◌*◌, ℕ, List, sym, ◌∙◌, arith}
+use Rattle.std.proofs.Common.{◌<◌, ◌*◌, ℕ, List, sym, ◌∙◌, arith}
 use Rattle.sector_disk.specs.Space.{Space}
 use Rattle.btree_file.specs.FrameLaws.{reads_none, reads_both}
 use Rattle.fork_map.specs.Blocks.{fork_sectors}

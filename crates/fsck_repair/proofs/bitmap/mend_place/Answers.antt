@@ -1,5 +1,3 @@
-use Rattle.std.proofs.Common.{◌≡◌, ℕ}
-use Rattle.fsck_repair.specs.Counted.{IsPlain}
 use Rattle.fsck_repair.proofs.BitSteps.{plain_noted}
 use Rattle.fsck_repair.proofs.bitmap.mend_place.Goals as goal
 

@@ -1,5 +1,4 @@
-use Rattle.std.proofs.Common.{◌≡◌, List, length, ◌∙◌, ap, sym, subst}
-use Rattle.hx_bytes.specs.declared.extents.Extent.{Extent}
+use Rattle.std.proofs.Common.{List, ◌∙◌, ap, subst}
 use Rattle.btree_node.specs.Levels.{Pair}
 use Rattle.volume_header.specs.declared.header.VolumeHeader.{VolumeHeader}
 use Rattle.hfs_volume.specs.Content.{volume_of}

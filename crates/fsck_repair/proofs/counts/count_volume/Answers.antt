@@ -1,4 +1,4 @@
-use Rattle.std.proofs.Common.{◌≡◌, List, ◌∙◌, ap, sym, length, subst}
+use Rattle.std.proofs.Common.{List, ◌∙◌, ap}
 use Rattle.sector_disk.specs.Space.{Space}
 use Rattle.btree_file.specs.FrameLaws.{reads_both}
 use Rattle.fsck_core.specs.declared.overflow.OverflowRow.{OverflowRow}

@@ -1,12 +1,9 @@
-use Rattle.std.proofs.Common.{◌≡◌, List, ◌∙◌, ap, sym}
+use Rattle.std.proofs.Common.{List, ◌∙◌, ap, sym}
 use Rattle.std.proofs.lemmas.Bool.{true≢false}
 use Rattle.volume_header.specs.declared.header.VolumeHeader.{VolumeHeader}
-use Rattle.btree_node.specs.Levels.{Pair}
-use Rattle.hfs_volume.specs.Blocks.{forks_of}
 use Rattle.hfs_volume.specs.Forks.{all_forks}
 use Rattle.hfs_volume.specs.Records.{placed_in}
 use Rattle.fsck_core.specs.Owners.{owned_all}
-use Rattle.fsck_core.specs.Overflows.{overflows_in}
 use Rattle.fsck_core.specs.declared.follow.OwnedFork.{OwnedFork}
 use Rattle.fsck_repair.proofs.CountTelling.{once_told}
 use Rattle.fsck_repair.proofs.counts.mark_once.Goals as goal

@@ -1,8 +1,7 @@
-use Rattle.std.proofs.Common.{◌≡◌, ◌<◌, ◌-◌, not, length, sym, ◌∙◌, ap, arith}
+use Rattle.std.proofs.Common.{◌≡◌, ◌<◌, ◌-◌, not, length, ◌∙◌, ap, arith}
 use Rattle.sector_disk.specs.Space.{Space}
 use Rattle.sector_disk.specs.Lists.{Content, sector}
 use Rattle.btree_file.specs.FrameLaws.{reads_both}
-use Rattle.fsck_core.proofs.ShownLaws.{shows_still}
 use Rattle.fsck_repair.proofs.HeaderLaws.{agreed, numbers_bytes, header_alone, header_and_copy, many_sectors}
 use Rattle.fsck_repair.proofs.header.mend_headers.Goals as goal
 

@@ -1,4 +1,4 @@
-use Rattle.std.proofs.Common.{◌≡◌, ◌+◌, sym, ◌∙◌, ap, arith}
+use Rattle.std.proofs.Common.{◌+◌, ap, arith}
 use Rattle.fsck_repair.proofs.LeafParts.{on_ok, no_short, no_cut, record_is, good_key, good_value}
 use Rattle.fsck_repair.proofs.leaf.mend_record.Goals as goal
 

@@ -1,6 +1,4 @@
-use Rattle.std.proofs.Common.{◌≡◌, Bool, true, false, sym, ◌∙◌, ap, subst, arith}
 use Rattle.fsck_repair.proofs.LeafLaws.{shared_none, shared_not, shared_yes}
-use Rattle.fsck_core.proofs.ListJoins.{at_none, at_some}
 use Rattle.fsck_repair.proofs.leaf.reference_of.Goals as goal
 
 pub returns-in_default : goal.returns-in_default

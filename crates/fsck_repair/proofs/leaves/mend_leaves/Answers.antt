@@ -1,5 +1,4 @@
-use Rattle.std.proofs.Common.{◌≡◌, ◌<◌, ◌≤◌, ◌+◌, ◌*◌, ◌/◌, ℕ, List, length, refl, sym, ◌∙◌, ap, subst, arith}
-use Rattle.std.specs.Prelude.{slice_index}
+use Rattle.std.proofs.Common.{◌/◌, ℕ, List, length, refl, sym, ◌∙◌, subst, arith}
 use Rattle.sector_disk.specs.Space.{Space}
 use Rattle.btree_file.specs.FrameLaws.{reads_none, reads_both}
 use Rattle.btree_node.specs.Node.{next_of}

@@ -3,7 +3,6 @@ use Rattle.sector_disk.specs.Space.{Space}
 use Rattle.jnl_format.specs.Recovery.{Content}
 use Rattle.fork_map.specs.Blocks.{fork_sectors}
 use Rattle.hfs_volume.specs.Content.{node_of_fork}
-use Rattle.btree_node.specs.Node.{next_of}
 use Rattle.fsck_core.proofs.ShownLaws.{shows_still}
 use Rattle.volume_repair.specs.Repair.{leaf_mended}
 use Rattle.fsck_repair.specs.Changing.{Notes}

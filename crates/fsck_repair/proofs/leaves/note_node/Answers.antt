@@ -1,6 +1,6 @@
-use Rattle.std.proofs.Common.{◌≡◌, ◌<◌, ◌+◌, ◌*◌, ◌/◌, ℕ, length, refl, sym, ◌∙◌, ap, subst, arith}
+use Rattle.std.proofs.Common.{◌≡◌, ◌<◌, ◌+◌, ◌*◌, ◌/◌, ℕ, length, refl, sym, ◌∙◌, subst, arith}
 use Rattle.sector_disk.specs.Space.{Space}
-use Rattle.btree_file.specs.FrameLaws.{reads_none, reads_both}
+use Rattle.btree_file.specs.FrameLaws.{reads_both}
 use Rattle.fork_map.specs.Blocks.{fork_sectors}
 use Rattle.fsck_core.proofs.ShownLaws.{shows_still}
 use Rattle.fsck_repair.specs.Changing.{Notes}

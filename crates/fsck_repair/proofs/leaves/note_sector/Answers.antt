@@ -1,4 +1,4 @@
-use Rattle.std.proofs.Common.{◌≡◌, ◌<◌, length, sym, ◌∙◌, ap, arith}
+use Rattle.std.proofs.Common.{◌<◌, length, sym, ◌∙◌, ap, arith}
 use Rattle.sector_disk.specs.Lists.{Content, sector}
 use Rattle.fork_map.specs.Blocks.{fork_sectors}
 use Rattle.fsck_repair.proofs.Steps.{place_noted}

@@ -1,4 +1,4 @@
-use Rattle.std.proofs.Common.{List, rules, sym, subst, ◌≡◌, ap, ◌∙◌, length, ℕ, ◌+◌, arith}
+use Rattle.std.proofs.Common.{List, rules, sym, subst, ℕ, ◌+◌, arith}
 use Rattle.std.specs.List.Sorted.{IsNonDecreasingBy, IsPermutation}
 use Rattle.std.proofs.lemmas.List.Sorted.{IsNonDecreasingBy-from_sort_by_key}
 use Rattle.fsck_repair.specs.declared.mend.Change.{Change}

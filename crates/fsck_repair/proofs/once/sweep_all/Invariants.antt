@@ -1,4 +1,4 @@
-use Rattle.std.proofs.Common.{◌≡◌, ◌<◌, ◌≤◌, ℕ, take, get_or}
+use Rattle.std.proofs.Common.{◌<◌, ◌≤◌, ℕ, take, get_or}
 use Rattle.std.specs.List.Sorted.{IsNonDecreasingBy}
 use Rattle.fsck_repair.specs.Once.{times_used, times_written, HasSwept}
 use Rattle.fsck_repair.proofs.OnceLaws.{no_use}

@@ -1,4 +1,3 @@
-use Rattle.std.proofs.Common.{refl}
 use Rattle.fsck_repair.specs.Changing.{no_change}
 use Rattle.fsck_repair.proofs.FindLaws.{found_here, none_behind, none_there}
 use Rattle.fsck_repair.proofs.overlay.find_change.Goals as goal

@@ -1,5 +1,4 @@
 use Rattle.sector_disk.specs.Space.{Space}
-use Rattle.fsck_scan.specs.Form.{tree_in}
 use Rattle.hfs_volume.specs.Content.{attributes_file}
 use Rattle.std.proofs.Common.{◌∙◌, ap}
 use Rattle.btree_node.specs.TreeFile.{TreeFile}
