@@ -75,6 +75,7 @@ fn look_through<D: SectorDisk, A: Asker>(
         peek: &peek,
         disk,
         slots: slots.as_mut_slice(),
+        put: None,
     };
     let most = capacity(plan);
     let mut volume = Volume::attach(alloc, &mut space, most)?;

@@ -8,7 +8,7 @@ ghost use Rattle.jnl_replay.specs.Viewing.{shown};
 ghost use Rattle.volume_look.specs.Slots.{AreCopies};
 
 use crate::read_only::ReadOnly;
-use crate::slots::{Copied, keep, recall};
+use crate::slots::{Copied, is_put, keep, read_put, recall};
 use hx_bytes::{Failed, Sector};
 use jnl_replay::Peek;
 use sector_disk::{SectorDisk, SectorSpace, SectorView};
@@ -16,9 +16,10 @@ use sector_disk::{SectorDisk, SectorSpace, SectorView};
 impl<D: SectorDisk> SectorView for ReadOnly<'_, '_, '_, D> {
     ghost use Rattle.std.specs.Prelude.{◌∷◌, []};
     ghost use Rattle.jnl_replay.specs.Viewing.{view_of, view_size};
+    ghost use Rattle.volume_look.specs.Slots.{with_put, put_size};
     ghost use Rattle.jnl_replay.specs.Peeked.{PeeksOn, peeks_none, peeks_both};
 
-    ghost space = { λ s. view_of (s.disk.ghost_name ∷ []) s.peek.now (D.state s.disk.now) };
+    ghost space = { λ s. with_put s.put (view_of (s.disk.ghost_name ∷ []) s.peek.now (D.state s.disk.now)) };
 
     ghost follows = { λ a b. PeeksOn a.peek.now b.peek.now (D.state a.disk.now) (D.state b.disk.now) };
 
@@ -26,28 +27,36 @@ impl<D: SectorDisk> SectorView for ReadOnly<'_, '_, '_, D> {
 
     ghost follows_trans = { λ a b c first second. peeks_both a.peek.now b.peek.now c.peek.now (D.state a.disk.now) (D.state b.disk.now) (D.state c.disk.now) first second };
 
-    ghost well_formed = { λ view tells. view_size (view.disk.ghost_name ∷ []) view.peek.now (D.state view.disk.now) (D.well_formed view.disk.now) tells };
+    ghost well_formed = { λ view tells. put_size view.put (view_of (view.disk.ghost_name ∷ []) view.peek.now (D.state view.disk.now)) (view_size (view.disk.ghost_name ∷ []) view.peek.now (D.state view.disk.now) (D.well_formed view.disk.now) tells) };
 
     fn sectors(&self) -> u64 {
         self.disk.sectors()
     }
 
     fn get(&mut self, at: u64, into: &mut Sector) -> Result<(), Failed> {
+        if read_put(&self.put, at, into) {
+            return Ok(());
+        }
         fetch(self.peek, self.disk, self.slots, at, into)
     }
 }
 
 impl<D: SectorDisk> SectorSpace for ReadOnly<'_, '_, '_, D> {
     fn spare(&self) -> u64 {
-        0
+        match self.put {
+            None => 1,
+            Some(_) => 0,
+        }
     }
 
-    fn is_put(&self, _at: u64) -> bool {
-        false
+    fn is_put(&self, at: u64) -> bool {
+        is_put(&self.put, at)
     }
 
-    /// There is never room for it.
-    fn put(&mut self, _at: u64, _from: &Sector) {}
+    /// It stays in memory.
+    fn put(&mut self, at: u64, from: &Sector) {
+        self.put = Some(Copied { at, bytes: *from });
+    }
 
     /// It fails.
     fn spill(&mut self, _at: u64, _from: &Sector) -> Result<(), Failed> {

@@ -1,7 +1,7 @@
 //! Sectors that were read, kept in memory.
-ghost use Rattle.std.specs.Prelude.{◌≡◌, IfOk, IfSome};
+ghost use Rattle.std.specs.Prelude.{◌≡◌, ◌<◌, true, false, length, IfOk, IfSome};
 ghost use Rattle.sector_disk.specs.Lists.{Content, sector};
-ghost use Rattle.volume_look.specs.Slots.{AreCopies, IsCopy};
+ghost use Rattle.volume_look.specs.Slots.{AreCopies, IsCopy, is_put, put_over};
 
 use hx_bytes::{OutOfMemory, Sector};
 use std::alloc::Global;
@@ -46,6 +46,34 @@ fn bytes_of(copied: &Option<Copied>, at: u64) -> Option<&Sector>
             }
         }
         None => None,
+    }
+}
+
+/// Gives the bytes of a sector that was put over a content, and says whether it was.
+pub(crate) fn read_put(put: &Option<Copied>, at: u64, into: &mut Sector) -> bool
+    ensures found { (content : Content) → at < length content → result ≡ true → into.new ≡ sector (put_over put.now content) at }
+    ensures none { (content : Content) → result ≡ false → sector (put_over put.now content) at ≡ sector content at }
+{
+    match put {
+        Some(one) => {
+            if one.at == at {
+                let bytes = one.bytes;
+                *into = bytes;
+                return true;
+            }
+            false
+        }
+        None => false,
+    }
+}
+
+/// Whether this is the sector that was put.
+pub(crate) fn is_put(put: &Option<Copied>, at: u64) -> bool
+    ensures { result ≡ is_put put.now at }
+{
+    match put {
+        Some(one) => at == one.at,
+        None => false,
     }
 }
 

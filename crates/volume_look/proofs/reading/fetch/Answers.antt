@@ -1,4 +1,4 @@
-use Rattle.std.proofs.Common.{◌≡◌, ◌∙◌, ap, sym, subst}
+use Rattle.std.proofs.Common.{◌∙◌, ap, sym, subst}
 use Rattle.sector_disk.specs.Disk.{content}
 use Rattle.sector_disk.specs.Lists.{Content, sector}
 use Rattle.jnl_replay.specs.Viewing.{shown}
