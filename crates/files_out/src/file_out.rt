@@ -5,7 +5,7 @@ use crate::shown::word_of_name;
 use crate::walk::{Current, Next, Node};
 use crate::wish::Wish;
 use files_talk::{Facts, name_of};
-use hfs_language::{Command, Reply};
+use hfs_language::{Command, Path, Reply};
 use hx_bytes::Units;
 use std::alloc::AllocError;
 use std::fs::DirBuilder;
@@ -93,12 +93,14 @@ impl<'a> Out<'a> {
         reply: Reply,
     ) -> Result<(), AllocError> {
         let mut node = node;
-        if let Command::GetAttr { path, name } = command {
-            node.path = path;
-            match reply {
-                Reply::Content(value) => self.keep_value(&name, value.into_vec())?,
-                other => self.lose(&node, &other)?,
-            }
+        let Some(lent) = lent_to(command) else {
+            return self.walk.push(Next::Entry { node, facts });
+        };
+        let Lent { path, name } = lent;
+        node.path = path;
+        match reply {
+            Reply::Content(value) => self.keep_value(&name, value.into_vec())?,
+            other => self.lose(&node, &other)?,
         }
         self.walk.push(Next::Entry { node, facts })
     }
@@ -197,6 +199,20 @@ impl<'a> Out<'a> {
         }
         self.notes.progress();
         Ok(())
+    }
+}
+
+// The path of a node and the name of its attribute, which were lent to a command.
+#[derive(Drop)]
+struct Lent {
+    path: Path,
+    name: Units,
+}
+
+fn lent_to(command: Command) -> Option<Lent> {
+    match command {
+        Command::GetAttr { path, name } => Some(Lent { path, name }),
+        _other => None,
     }
 }
 

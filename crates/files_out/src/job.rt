@@ -50,13 +50,25 @@ impl<'a> Asker for Out<'a> {
 // A node whose path was lent to a command.
 fn with_path(node: Node, command: Command) -> Node {
     let mut node = node;
-    match command {
-        Command::Ls(path) | Command::Stat(path) | Command::LsAttr(path) => node.path = path,
-        Command::Read { path, .. } => node.path = path,
-        Command::GetAttr { path, .. } => node.path = path,
-        _ => {}
+    if let Some(path) = lent_path(command) {
+        node.path = path;
     }
     node
+}
+
+// The path that was lent to a command.
+fn lent_path(command: Command) -> Option<Path> {
+    match command {
+        Command::Ls(path) => Some(path),
+        Command::Stat(path) => Some(path),
+        Command::LsAttr(path) => Some(path),
+        Command::Read {
+            path,
+            from: _from,
+            length: _length,
+        } => Some(path),
+        _other => None,
+    }
 }
 
 impl<'a> Out<'a> {

@@ -16,6 +16,8 @@ mod growths;
 #[cfg(test)]
 mod lines;
 #[cfg(test)]
+mod looks;
+#[cfg(test)]
 mod repairs;
 #[cfg(test)]
 mod watching;
