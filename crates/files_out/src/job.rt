@@ -3,8 +3,8 @@
 use crate::out::Out;
 use crate::walk::{Asked, Current, Next, Node};
 use files_talk::Facts;
-use hfs_language::{Command, Facts as Told, Listing, Path, Reply};
-use std::alloc::{AllocError, Global};
+use hfs_language::{Command, Facts as Told, Path, Reply};
+use std::alloc::AllocError;
 use std::mem;
 use volume_look::Asker;
 
@@ -12,6 +12,10 @@ use volume_look::Asker;
 const PIECE: u64 = 65_536;
 
 impl<'a> Asker for Out<'a> {
+    ghost use Rattle.files_out.specs.Untold.{untold};
+
+    ghost state = { λ _. untold };
+
     fn ask(&mut self) -> Result<Option<Command>, AllocError> {
         for _ in 0..u64::MAX {
             if self.output.has_failed() {

@@ -31,9 +31,10 @@ use watchers::Watcher;
 /// Does what the words after the program's name ask for, on an image and with the lines of a source.
 ///
 /// `format IMAGE SECTORS` makes an empty volume, `run IMAGE` answers line after line, and `check IMAGE` says whether the volume is
-/// sound. `repair IMAGE` counts anew what can be counted of the volume, in one transaction. The name of the image is the caller's, who opened it. `gen SEED COUNT` plays generated lines on a volume in memory, and leaves
-/// the image alone. Other words tell how the program is called. Watchers are told what the lines of a `run` changed, once it is durable and before the
-/// replies; one that leaves is gone from the list.
+/// sound. `repair IMAGE` counts anew what can be counted of the volume, in one transaction. The name of the image is the caller's, who
+/// opened it. `gen SEED COUNT` plays generated lines on a volume in memory, and leaves the image alone. Other words tell how the program
+/// is called. Watchers are told what the lines of a `run` changed, once it is durable and before the replies; one that leaves is gone from
+/// the list.
 pub fn hfsx<R: Rig, S: Source, W: Watcher>(
     alloc: Global,
     words: &[String],

@@ -1,5 +1,14 @@
 -- Contents on the way of a repair, and what a crash leaves of them.
-use Rattle.std.proofs.Common.{◌≡◌, ◌⊎◌, ◌≤◌, ℕ, None, length, inl, inr, ⊎_elim, sym, ◌∙◌, ap, subst, arith}
+use Rattle.std.proofs.Common.{◌≡◌, ◌⊎◌, ◌≤◌, ℕ, None, length, inl, inr, ⊎_elim, sym, ◌∙◌, ap, subst, arith, Bool, true, false, not, List, [], ◌∷◌, zero, suc, cond, refl, Contains, ◌+◌}
+use Rattle.std.specs.List.{count_by, range_with_len}
+use Rattle.std.specs.Str.{bytes_eq}
+use Rattle.std.proofs.lemmas.Bool.{not-false}
+use Rattle.std.proofs.lemmas.List.Sums.{sum_by-cons}
+use Rattle.std.proofs.lemmas.List.{ext_get_or}
+use Rattle.std.proofs.lemmas.Slice.Eq.{bytes_eq-Decides}
+use Rattle.hfs_volume.proofs.BlockWants.{in_range}
+use Rattle.volume_repair.proofs.Remounted.{may_again}
+use Rattle.volume_repair.proofs.Repairing.{mendable, same_size}
 use Rattle.std.specs.Prelude.{◌↔◌, IsTrue}
 use Rattle.std.specs.Int.{bit_at}
 use Rattle.sector_disk.specs.Clock.{TimePasses}
@@ -19,7 +28,7 @@ use Rattle.hfs_volume.specs.Content.{journal_place, volume_of}
 use Rattle.hfs_volume.specs.Sound.{IsSound}
 use Rattle.volume_repair.specs.Differing.{Differs, differing}
 use Rattle.volume_repair.specs.Remount.{IsRemounted, IsSameButCounts, RepairStaysRemounted, StaysRemounted}
-use Rattle.volume_repair.specs.Repair.{IsRepair}
+use Rattle.volume_repair.specs.Repair.{IsRepair, mended}
 use Rattle.hfs_serving.specs.Grounds.{IsInService, KeepsHeading}
 use Rattle.hfs_serving.specs.Outside.{Outside, outside_of}
 use Rattle.hfs_serving.specs.Readying.{StandsMounted}
@@ -60,6 +69,34 @@ lies_on : (now mended : Content) → IsSameButCounts (header_of_volume now) (hea
 unfolding volume_of
 lies_on now mended same info = ap (λ (h : VolumeHeader). journal_place (sector mended (info_sector_of h))) same ∙ ap journal_place info
 
+-- ---- a content that differs in no sector from its repair
+
+counts_first : (p : ℕ → Bool) (y : ℕ) (l : List ℕ) → count_by p (y ∷ l) ≡ cond (p y) 1 0 + count_by p l
+counts_first p y l = sum_by-cons (λ x. cond (p x) 1 0) y l
+
+zero_each : (p : ℕ → Bool) (l : List ℕ) (x : ℕ) → count_by p l ≡ 0 → Contains l x → p x ≡ false
+zero_each p [] x none (k, low, is) = absurd (omega (arith, low))
+zero_each p (y ∷ l) x none (zero, low, is) = subst (λ v. p v ≡ false) is (by (p y) refl)
+  where
+    by : (b : Bool) → p y ≡ b → p y ≡ false
+    by false same = same
+    by true same = absurd (omega (arith, none, counts_first p y l, ap {B = ℕ} (λ b. cond b 1 0) same))
+zero_each p (y ∷ l) x none (suc k, low, is) = zero_each p l x (omega (arith, none, counts_first p y l)) (k, omega (arith, low), is)
+
+none_differs : (content other : Content) → length other ≡ length content → differing content other ≡ 0 → other ≡ content
+none_differs content other size none =
+    ext_get_or [] other content size (λ at below.
+    (bytes_eq-Decides (sector other at) (sector content at)).0
+    (not-false (bytes_eq (sector other at) (sector content at)) (zero_each (λ k. not (bytes_eq (sector other k) (sector content k))) (range_with_len 0 (length content)) at none (in_range 0 (length content) at (omega arith) (omega (arith, below, size))))))
+
+-- a remounted content has a repair
+has_repair : (content repaired now : Content) → length (sector content 2) ≡ 512 → IsRepair content repaired → IsSound repaired → IsRemounted content now → IsRepair now (mended now)
+has_repair content repaired now long repair sound re = by repair
+  where
+    by : IsRepair content repaired → IsRepair now (mended now)
+    by (inl (may, is)) = inl (may_again content now may long (subst IsSound is sound) re, refl)
+    by (inr (cannot, same)) = absurd (cannot (mendable content (subst IsSound same sound)))
+
 module _ (law : RepairStaysRemounted) (start : Content) (sectors : ℕ) (space : Space) (outside : Outside) (shows : ShowsMounted start space outside) (may : IsRepairable sectors start) where
   stays : (other : Content) → IsRepair space.content other → StaysRemounted start may.mended space.content other
   stays other is = law start may.mended space.content other shows.start_bytes.bytes shows.read_bytes.bytes shows.start_bytes.header shows.read_bytes.header may.repair may.sound shows.mounted is
@@ -71,6 +108,14 @@ module _ (law : RepairStaysRemounted) (start : Content) (sectors : ℕ) (space :
 
   pub enough_is : (other : Content) → IsRepair space.content other → differing space.content other ≤ sectors
   enough_is other is = omega (arith, (stays other is).count, may.fits)
+
+  -- where it differs in no sector, the content is its own repair
+  pub idle_is : sectors ≡ 0 → IsRepair space.content space.content
+  idle_is none =
+      let has = has_repair start may.mended space.content shows.start_bytes.header may.repair may.sound shows.mounted in
+      let size = same_size space.content (mended space.content) has in
+      let count : differing space.content (mended space.content) ≡ 0 = omega (arith, (stays (mended space.content) has).count, may.fits, none) in
+      subst (λ (x : Content). IsRepair space.content x) (none_differs space.content (mended space.content) size count) has
 
   -- so many differ of the content itself too
   pub count_is : (other : Content) (count : ℕ) → IsRepair space.content other → count ≡ differing space.content other → IsCountOf start count

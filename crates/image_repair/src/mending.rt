@@ -1,13 +1,19 @@
 //! The transaction of a repair.
-ghost use Rattle.std.specs.Prelude.{◌≡◌, ◌≤◌, ◌∷◌, [], ℕ, IsErrOf, IsTrue, IfOk, Ok, OnOk, true};
+ghost use Rattle.std.specs.Prelude.{◌≡◌, ◌↔◌, ◌≤◌, ◌∷◌, [], ℕ, IsErrOf, IsTrue, IfOk, Ok, OnOk, true};
 ghost use Rattle.hx_bytes.specs.declared.faults.Trouble.TheVariants as trouble;
+ghost use Rattle.sector_disk.specs.Cause.{Rose};
+ghost use Rattle.sector_disk.specs.Clock.{TimePasses};
 ghost use Rattle.sector_disk.specs.Disk.{HasNothingPending, SameDisk, content};
+ghost use Rattle.sector_disk.specs.Space.{LeavesDurable, SameSpace};
 ghost use Rattle.volume_header.specs.Refusal.{is_volume_size};
 ghost use Rattle.jnl_format.specs.Recovery.{Content, recovery, replayed};
 ghost use Rattle.jnl_replay.specs.Plan.{FitsPlan, IsPlan, journal_of};
 ghost use Rattle.jnl_store.specs.Plan.{IsCapacityOf};
 ghost use Rattle.jnl_store.specs.Seen.{seen};
 ghost use Rattle.jnl_store.specs.Store.{faults_of, plan_of, puts_of};
+ghost use Rattle.hfs_volume.specs.Findings.{HasBytes};
+ghost use Rattle.volume_repair.specs.Differing.{Differs, differing};
+ghost use Rattle.volume_repair.specs.Repair.{IsRepair};
 ghost use Rattle.hfs_serving.specs.Faults.{Faults};
 ghost use Rattle.hfs_serving.specs.Grounds.{IsInService, anchor_of};
 ghost use Rattle.hfs_serving.specs.Outside.{outside_of};
@@ -21,7 +27,7 @@ use hfs_serving::{Ground, attach_store, ready_image, rest};
 use hx_bytes::Trouble;
 use jnl_replay::Plan;
 use jnl_store::Space;
-use sector_disk::Rig;
+use sector_disk::{Rig, SectorSpace};
 use std::alloc::Global;
 use volume_repair::repair_stays_remounted;
 
@@ -81,6 +87,30 @@ fn mend_ready<R: Rig>(alloc: Global, rig: &mut R, plan: &Plan, sectors: u64) -> 
     put_repair(alloc, &mut base, sectors)
 }
 
+// Puts the sectors in which the repair of a content differs, where it differs in any, and answers how many they are.
+fn put_differing<P: SectorSpace>(alloc: Global, space: &mut P, sectors: u64) -> Result<u64, Trouble>
+    requires size { is_volume_size (P.SectorView.space space.old).sectors ≡ true }
+    requires bytes { IsTrue (P.SectorView.space space.old).tells → HasBytes (P.SectorView.space space.old).content }
+    requires open { IsTrue (P.SectorView.space space.old).tells → (other : Content) (at : ℕ) → IsRepair (P.SectorView.space space.old).content other → Differs (P.SectorView.space space.old).content other at → (P.SectorView.space space.old).closed at → ⊥ }
+    requires enough { IsTrue (P.SectorView.space space.old).tells → (other : Content) → IsRepair (P.SectorView.space space.old).content other → differing (P.SectorView.space space.old).content other ≤ sectors }
+    requires idle { IsTrue (P.SectorView.space space.old).tells → sectors ≡ 0 → IsRepair (P.SectorView.space space.old).content (P.SectorView.space space.old).content }
+    requires room { sectors ≤ (P.SectorView.space space.old).spare }
+    ensures repair { IsTrue (P.SectorView.space space.old).tells → IfOk result (λ _. IsRepair (P.SectorView.space space.old).content (P.SectorView.space space.new).content) }
+    ensures count { IsTrue (P.SectorView.space space.old).tells → IfOk result (λ n. n ≡ differing (P.SectorView.space space.old).content (P.SectorView.space space.new).content) }
+    ensures durable { IsTrue (P.SectorView.space space.old).tells → (P.SectorView.space space.new).durable ≡ (P.SectorView.space space.old).durable }
+    ensures spilled { IsTrue (P.SectorView.space space.old).tells → (at : ℕ) → (P.SectorView.space space.new).spilled at ↔ (P.SectorView.space space.old).spilled at }
+    ensures closed { IsTrue (P.SectorView.space space.old).tells → (at : ℕ) → (P.SectorView.space space.new).closed at ↔ (P.SectorView.space space.old).closed at }
+    ensures time { IsTrue (P.SectorView.space space.old).tells → TimePasses (P.SectorView.space space.old).clock (P.SectorView.space space.new).clock (LeavesDurable (P.SectorView.space space.new)) }
+    ensures same { SameSpace (P.SectorView.space space.old) (P.SectorView.space space.new) }
+    ensures below { P.SectorView.follows space.old space.new }
+    ensures disk { IsErrOf result trouble.Disk → Rose (P.SectorView.space space.old).faults (P.SectorView.space space.new).faults }
+{
+    if sectors == 0 {
+        return Ok(0);
+    }
+    repair(alloc, space, sectors)
+}
+
 // Puts the repair of a content, commits it, and writes it home.
 fn put_repair<R: Rig>(
     alloc: Global,
@@ -106,7 +136,7 @@ fn put_repair<R: Rig>(
     ensures faults { Faults (faults_of base.old.store.now) (seen R.state base.old) (faults_of base.new.store.now) (seen R.state base.new) result }
 {
     repair_stays_remounted();
-    let put = repair(alloc, base, sectors)?;
+    let put = put_differing(alloc, base, sectors)?;
     base.look();
     base.commit()?;
     rest(base)?;

@@ -23,3 +23,4 @@ pub mod CatalogPairs
 pub mod BitsMending
 pub mod NodeBytes
 pub mod Keeping
+pub mod RemountCount

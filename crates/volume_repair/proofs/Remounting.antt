@@ -1,11 +1,9 @@
 -- The repair of a remounted content: it is that of the content, but for the version and the journal.
-use Rattle.std.proofs.Common.{◌≡◌, ◌≢◌, ◌<◌, ◌≤◌, ℕ, ◌+◌, ◌-◌, ◌*◌, ◌/◌, ◌%◌, ◌==◌, ◌&&◌, nat_lt, not, Bool, true, false, List, [], length, map, take, drop, inl, inr, refl, sym, ◌∙◌, ap, subst, arith, ⊎_elim, if◌then◌else◌}
+use Rattle.std.proofs.Common.{◌≡◌, ◌≢◌, ◌<◌, ◌≤◌, ℕ, ◌+◌, ◌-◌, ◌*◌, ◌/◌, ◌%◌, ◌==◌, ◌&&◌, nat_lt, not, Bool, true, false, List, [], length, map, take, drop, inr, refl, sym, ◌∙◌, ap, subst, arith, ⊎_elim, if◌then◌else◌}
 use Rattle.std.specs.Prelude.{Contains, IsTrue, Option, Some, None, slice_index}
-use Rattle.std.specs.List.{count_by, range_with_len}
-use Rattle.std.specs.Str.{bytes_eq}
-use Rattle.std.proofs.lemmas.Bool.{cases_eq, cases_lt, true≢false}
+use Rattle.std.specs.List.{range_with_len}
+use Rattle.std.proofs.lemmas.Bool.{cases_lt}
 use Rattle.std.proofs.lemmas.List.{get_or_past}
-use Rattle.std.proofs.lemmas.Slice.Eq.{bytes_eq-Decides}
 use Rattle.jnl_format.specs.Recovery.{Content, sector, header_of_volume, info_sector_of}
 use Rattle.volume_header.specs.Header.{header_of}
 use Rattle.volume_header.specs.declared.header.VolumeHeader.{VolumeHeader}
@@ -14,27 +12,23 @@ use Rattle.btree_node.specs.Tree.{pairs_of}
 use Rattle.btree_node.specs.TreeFile.{TreeFile, IsTreeFile, store_of, extents_form, catalog_form, attributes_form}
 use Rattle.hfs_volume.specs.Aside.{IsJournalSector}
 use Rattle.hfs_volume.specs.Attributing.{RemountKeeps}
-use Rattle.hfs_volume.specs.Findings.{HasBytes}
 use Rattle.hfs_volume.specs.Forks.{per_block_of, all_forks, used_blocks, extents_id, attributes_id}
 use Rattle.hfs_volume.specs.Content.{VolumeState, volume_of, records_of, overflow_of_content, bitmap_sectors, extents_file, catalog_file, attributes_file, facts_of, has_attributes, journal_place}
 use Rattle.hfs_volume.specs.Nodes.{HasTrees}
 use Rattle.hfs_volume.specs.Blocks.{AgreesWith, is_among}
 use Rattle.hfs_volume.specs.Broken.{leaves_in}
 use Rattle.hfs_volume.specs.Sound.{IsSound, IsSoundVolume}
-use Rattle.volume_repair.specs.Differing.{differing}
 use Rattle.volume_repair.specs.Recount.{header_recounted, is_bit_wanted, agrees}
-use Rattle.volume_repair.specs.Remount.{IsRemounted, IsSameButCounts, RepairStaysRemounted, StaysRemounted}
-use Rattle.volume_repair.specs.Repair.{IsMendable, IsRepair, mended, header_mended, file_sector_mended, byte_of_bits, leaf_mended, place_from, catalog_sectors, needs_copy}
-use Rattle.volume_repair.proofs.Counting.{agreement}
-use Rattle.volume_repair.proofs.Journals.{map_free, catalog_free, header_free, alternate_free, journal_stays, journal_there, journal_same}
+use Rattle.volume_repair.specs.Remount.{IsRemounted, IsSameButCounts}
+use Rattle.volume_repair.specs.Repair.{IsMendable, mended, header_mended, file_sector_mended, byte_of_bits, leaf_mended, place_from, catalog_sectors, needs_copy}
+use Rattle.volume_repair.proofs.Journals.{map_free, catalog_free, header_free, alternate_free, journal_there, journal_same}
 use Rattle.volume_repair.proofs.Mending.{size_mended, sector_of_mended, mended_file, mended_else, mended_header, no_alternate, alternate_copied, some_sectors, head_mended, extents_mended}
 use Rattle.volume_repair.proofs.Remounted.{IsPlain, plain_extents, plain_catalog, plain_map, plain_attributes, plain_stays, alternate_stays, head_is, extents_is, catalog_is, volume_now, may_again}
-use Rattle.volume_repair.proofs.Repairing.{mendable}
 use Rattle.volume_repair.proofs.Rereads.{relabelled, sectors_by, AgreesBelow, extents_stay, overflow_stays, catalog_stays, attributes_stay, bits_stay, bitmap_sectors_stay, catalog_sectors_stay}
 use Rattle.volume_repair.proofs.Sounding.{with_version, version_sound, alternate_sound}
-use Rattle.volume_repair.proofs.Words.{low, counts_stay, counts_stood}
+use Rattle.volume_repair.proofs.Words.{low}
 
-and_false : (b : Bool) → (b && false) ≡ false
+pub and_false : (b : Bool) → (b && false) ≡ false
 and_false true = refl
 and_false false = refl
 
@@ -54,7 +48,7 @@ module _ (content now : Content) (may : IsMendable content) (long : length (sect
   abbrev version : ℕ
   version = (header_of_volume now).last_mounted_version
 
-  head_now : header_of_volume now ≡ relabelled head version head.file_count head.folder_count head.free_blocks
+  pub head_now : header_of_volume now ≡ relabelled head version head.file_count head.folder_count head.free_blocks
   head_now = head_is content now may long sound re
 
   again : IsMendable now
@@ -65,7 +59,7 @@ module _ (content now : Content) (may : IsMendable content) (long : length (sect
   abbrev counts : Content → VolumeHeader
   counts c = header_recounted (volume_of c)
 
-  counts_are : counts now ≡ relabelled (counts content) version (counts content).file_count (counts content).folder_count (counts content).free_blocks
+  pub counts_are : counts now ≡ relabelled (counts content) version (counts content).file_count (counts content).folder_count (counts content).free_blocks
   unfolding used_blocks all_forks
   counts_are = ap header_recounted (volume_now content now may long sound re)
 
@@ -102,7 +96,7 @@ module _ (content now : Content) (may : IsMendable content) (long : length (sect
   size_other = size_mended now ∙ re.size
 
   -- a sector that is neither of the headers, and the same
-  same_else : (at : ℕ) → at ≢ 2 → ((at == length content - 2) && needs_copy content) ≡ false → sector now at ≡ sector content at → sector other at ≡ sector new at
+  pub same_else : (at : ℕ) → at ≢ 2 → ((at == length content - 2) && needs_copy content) ≡ false → sector now at ≡ sector content at → sector other at ≡ sector new at
   same_else at not_two no_copy same = ⊎_elim
       (λ (inside : at < length content).
       sector_of_mended now at (omega (arith, inside, re.size))
@@ -117,7 +111,7 @@ module _ (content now : Content) (may : IsMendable content) (long : length (sect
   plain_same at plain = same_else at plain.not_header (no_alternate content at plain.not_alternate) (plain_stays content now may long sound re at plain)
 
   -- the journal is that of the remounted content
-  journal_is : (at : ℕ) → IsJournalSector content at → sector other at ≡ sector now at
+  pub journal_is : (at : ℕ) → IsJournalSector content at → sector other at ≡ sector now at
   journal_is at journal = ⊎_elim
       (λ (inside : at < length content). sector_of_mended now at (omega (arith, inside, re.size)) ∙ mended_else now at
       (λ two. header_free new sound (subst (IsJournalSector new) two there))
@@ -135,14 +129,14 @@ module _ (content now : Content) (may : IsMendable content) (long : length (sect
   head_again : header_of_volume other ≡ relabelled (header_of_volume now) version (low (counts now).file_count) (low (counts now).folder_count) (low (counts now).free_blocks)
   head_again = head_mended now again long_now
 
-  same_but_counts : IsSameButCounts (header_of_volume now) (header_of_volume other)
+  pub same_but_counts : IsSameButCounts (header_of_volume now) (header_of_volume other)
   same_but_counts = head_again ∙ (λ i. record (header_of_volume now) {
     file_count = (sym head_again i).file_count;
     folder_count = (sym head_again i).folder_count;
     free_blocks = (sym head_again i).free_blocks;
   })
 
-  head_other : header_of_volume other ≡ with_version (header_of_volume new) version
+  pub head_other : header_of_volume other ≡ with_version (header_of_volume new) version
   head_other =
       head_again
       ∙ (λ i. relabelled (head_now i) version (low (counts_are i).file_count) (low (counts_are i).folder_count) (low (counts_are i).free_blocks))
@@ -218,17 +212,17 @@ module _ (content now : Content) (may : IsMendable content) (long : length (sect
   last_inside : last < length content
   last_inside = omega (arith, some_sectors content may)
 
-  last_else : last ≢ 2
+  pub last_else : last ≢ 2
   last_else two = omega (arith, two, some_sectors content may)
 
   -- a copy
-  copied : needs_copy content ≡ true → (sector other last ≡ header_mended now) × (sector new last ≡ header_mended content)
+  pub copied : needs_copy content ≡ true → (sector other last ≡ header_mended now) × (sector new last ≡ header_mended content)
   copied copy = (
     ap (λ n. sector other (n - 2)) (sym re.size) ∙ alternate_copied now again (copy_is ∙ copy),
     alternate_copied content may copy,
   )
 
-  header_there : header_of (header_mended now) ≡ header_of_volume other
+  pub header_there : header_of (header_mended now) ≡ header_of_volume other
   header_there = ap header_of (sym (mended_header now) ∙ sym (sector_of_mended now 2 (omega (arith, some_sectors content may, re.size))))
 
   agrees_itself : (one another : VolumeHeader) → another ≡ one → AgreesWith one another
@@ -276,104 +270,3 @@ module _ (content now : Content) (may : IsMendable content) (long : length (sect
 
     pub other_sound : IsSound other
     other_sound = record { trees = trees_other; volume = subst IsSoundVolume (sym volume_other) sound_volume }
-
-  -- ---- it differs in as many sectors
-
-  same_test : (a b c d : List ℕ) → (a ≡ b → c ≡ d) → (c ≡ d → a ≡ b) → bytes_eq a b ≡ bytes_eq c d
-  same_test a b c d to from = by (bytes_eq a b) (bytes_eq c d) refl refl
-    where
-      by : (p q : Bool) → bytes_eq a b ≡ p → bytes_eq c d ≡ q → p ≡ q
-      by true true is also = refl
-      by false false is also = refl
-      by true false is also = absurd (true≢false (sym ((bytes_eq-Decides c d).1 (to ((bytes_eq-Decides a b).0 is))) ∙ also))
-      by false true is also = absurd (true≢false (sym ((bytes_eq-Decides a b).1 (from ((bytes_eq-Decides c d).0 also))) ∙ is))
-
-  module _ (bytes : HasBytes content) (bytes_now : HasBytes now) where
-    header_test : bytes_eq (sector other 2) (sector now 2) ≡ bytes_eq (sector new 2) (sector content 2)
-    header_test = same_test (sector other 2) (sector now 2) (sector new 2) (sector content 2)
-        (λ same.
-        let stood = counts_stood (counts now).file_count (counts now).folder_count (counts now).free_blocks (sector now 2) long_now (sym other_header ∙ same) in
-        new_header ∙ counts_stay (counts content).file_count (counts content).folder_count (counts content).free_blocks (sector content 2) long (bytes 2)
-        (sym (ap (λ (h : VolumeHeader). h.file_count) head_now) ∙ stood.0 ∙ ap (λ (h : VolumeHeader). low h.file_count) counts_are)
-        (sym (ap (λ (h : VolumeHeader). h.folder_count) head_now) ∙ stood.1 ∙ ap (λ (h : VolumeHeader). low h.folder_count) counts_are)
-        (sym (ap (λ (h : VolumeHeader). h.free_blocks) head_now) ∙ stood.2 ∙ ap (λ (h : VolumeHeader). low h.free_blocks) counts_are))
-        (λ same.
-        let stood = counts_stood (counts content).file_count (counts content).folder_count (counts content).free_blocks (sector content 2) long (sym new_header ∙ same) in
-        other_header ∙ counts_stay (counts now).file_count (counts now).folder_count (counts now).free_blocks (sector now 2) long_now (bytes_now 2)
-        (ap (λ (h : VolumeHeader). h.file_count) head_now ∙ stood.0 ∙ sym (ap (λ (h : VolumeHeader). low h.file_count) counts_are))
-        (ap (λ (h : VolumeHeader). h.folder_count) head_now ∙ stood.1 ∙ sym (ap (λ (h : VolumeHeader). low h.folder_count) counts_are))
-        (ap (λ (h : VolumeHeader). h.free_blocks) head_now ∙ stood.2 ∙ sym (ap (λ (h : VolumeHeader). low h.free_blocks) counts_are)))
-      where
-        other_header : sector other 2 ≡ header_mended now
-        other_header = sector_of_mended now 2 (omega (arith, some_sectors content may, re.size)) ∙ mended_header now
-
-        new_header : sector new 2 ≡ header_mended content
-        new_header = sector_of_mended content 2 (omega (arith, some_sectors content may)) ∙ mended_header content
-
-    -- a copy is never what stood there
-    copy_differs : needs_copy content ≡ true → sector new last ≡ sector content last → ⊥
-    unfolding volume_of
-    copy_differs copy same =
-        let stood : (volume_of content).alternate ≡ header_of_volume new = ap header_of (sym same ∙ (copied copy).1 ∙ sym (mended_header content) ∙ sym (sector_of_mended content 2 (omega (arith, some_sectors content may)))) in
-        let agrees_then : AgreesWith head (volume_of content).alternate = record {
-          signature = ap (λ (h : VolumeHeader). h.signature) (stood ∙ head_mended content may long);
-          version = ap (λ (h : VolumeHeader). h.version) (stood ∙ head_mended content may long);
-          block_size = ap (λ (h : VolumeHeader). h.block_size) (stood ∙ head_mended content may long);
-          total_blocks = ap (λ (h : VolumeHeader). h.total_blocks) (stood ∙ head_mended content may long);
-        } in
-        true≢false (sym copy ∙ ap not (agreement head (volume_of content).alternate agrees_then))
-
-    copy_differs_now : needs_copy content ≡ true → sector other last ≡ sector now last → ⊥
-    unfolding volume_of
-    copy_differs_now copy same =
-        let stood : (volume_of content).alternate ≡ header_of_volume other = ap header_of (sym (alternate_stays content now may long sound re) ∙ sym same ∙ (copied copy).0) ∙ header_there in
-        let spelled : (volume_of content).alternate ≡ with_version (header_of_volume new) version = stood ∙ head_other in
-        let agrees_then : AgreesWith head (volume_of content).alternate = record {
-          signature = ap (λ (h : VolumeHeader). h.signature) spelled ∙ ap (λ (h : VolumeHeader). h.signature) (head_mended content may long);
-          version = ap (λ (h : VolumeHeader). h.version) spelled ∙ ap (λ (h : VolumeHeader). h.version) (head_mended content may long);
-          block_size = ap (λ (h : VolumeHeader). h.block_size) spelled ∙ ap (λ (h : VolumeHeader). h.block_size) (head_mended content may long);
-          total_blocks = ap (λ (h : VolumeHeader). h.total_blocks) spelled ∙ ap (λ (h : VolumeHeader). h.total_blocks) (head_mended content may long);
-        } in
-        true≢false (sym copy ∙ ap not (agreement head (volume_of content).alternate agrees_then))
-
-    last_test : (b : Bool) → needs_copy content ≡ b → bytes_eq (sector other last) (sector now last) ≡ bytes_eq (sector new last) (sector content last)
-    last_test true copy = same_test (sector other last) (sector now last) (sector new last) (sector content last) (λ same. absurd (copy_differs_now copy same)) (λ same. absurd (copy_differs copy same))
-    last_test false none =
-        let stays = alternate_stays content now may long sound re in
-        λ i. bytes_eq (same_else last last_else (ap (λ b. (last == last) && b) none ∙ and_false (last == last)) stays i) (stays i)
-
-    each_test : (at : ℕ) → bytes_eq (sector other at) (sector now at) ≡ bytes_eq (sector new at) (sector content at)
-    each_test at = elim (cases_eq at 2) [
-      | inl two ↦ subst (λ n. bytes_eq (sector other n) (sector now n) ≡ bytes_eq (sector new n) (sector content n)) (sym two) header_test
-      | inr not_two ↦ elim (cases_eq at last) [
-        | inl is_last ↦ subst (λ n. bytes_eq (sector other n) (sector now n) ≡ bytes_eq (sector new n) (sector content n)) (sym is_last) (last_test (needs_copy content) refl)
-        | inr not_last ↦ ⊎_elim
-            (λ (same : sector now at ≡ sector content at). λ i. bytes_eq (same_else at not_two (no_alternate content at not_last) same i) (same i))
-            (λ (journal : IsJournalSector content at).
-            same_test (sector other at) (sector now at) (sector new at) (sector content at) (λ _. journal_stays content may long sound at (journal_there content may long sound at journal)) (λ _. journal_is at journal))
-            (re.each at not_two)
-      ]
-    ]
-
-    pub as_many : differing now other ≡ differing content new
-    as_many =
-        (λ i. count_by (λ at. not (each_test at i)) (range_with_len 0 (length now)))
-        ∙ ap (λ n. count_by (λ at. not (bytes_eq (sector new at) (sector content at))) (range_with_len 0 n)) re.size
-
-pub stays_law : RemountKeeps → RepairStaysRemounted
-stays_law law content mended_one now other_one bytes bytes_now long long_now repair sound re again = by repair again
-  where
-    made : IsMendable content → mended_one ≡ mended content → other_one ≡ mended now → StaysRemounted content mended_one now other_one
-    made may is is_other =
-        let here = subst IsSound is sound in
-        record {
-          sound = subst IsSound (sym is_other) (other_sound content now may long long_now here re law);
-          count = ap (differing now) is_other ∙ as_many content now may long long_now here re bytes bytes_now ∙ ap (differing content) (sym is);
-          journal = λ at journal. ap (λ c. sector c at) is_other ∙ journal_is content now may long long_now here re at journal;
-          header = subst (λ c. IsSameButCounts (header_of_volume now) (header_of_volume c)) (sym is_other) (same_but_counts content now may long long_now here re);
-        }
-
-    by : IsRepair content mended_one → IsRepair now other_one → StaysRemounted content mended_one now other_one
-    by (inl (may, is)) (inl (may_now, is_other)) = made may is is_other
-    by (inl (may, is)) (inr (cannot, same)) = absurd (cannot (may_again content now may long (subst IsSound is sound) re))
-    by (inr (cannot, same)) _ = absurd (cannot (mendable content (subst IsSound same sound)))

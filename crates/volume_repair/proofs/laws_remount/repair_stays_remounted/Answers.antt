@@ -1,4 +1,4 @@
-use Rattle.volume_repair.proofs.Remounting.{stays_law}
+use Rattle.volume_repair.proofs.RemountCount.{stays_law}
 use Rattle.volume_repair.proofs.laws_remount.repair_stays_remounted.Goals as goal
 
 pub returns : goal.returns
