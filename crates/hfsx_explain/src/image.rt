@@ -4,6 +4,7 @@ use crate::finding::{Finding, Line, read_line};
 use crate::hearing::Ear;
 use crate::names::Names;
 use crate::refusal::{refusal_help, refusal_text};
+use crate::repair::{Repair, contains};
 use crate::report::Report;
 use crate::runs::runs_of;
 use crate::words::say;
@@ -11,7 +12,7 @@ use file_rig::{FileRig, Image, Store};
 use hfsx_salvage::{ImageSectors, tell_unopened};
 use hfsx_server::{Status, check};
 use salvage_tree::read_survey;
-use std::alloc::AllocError;
+use std::alloc::{AllocError, Global};
 use std::cell::RefCell;
 
 /// The status where standard output failed.
@@ -47,8 +48,12 @@ pub fn explain(rt: &HostRuntime, image: &str, json: bool) -> Result<u8, AllocErr
         Ok(bytes) => String::from_utf8_lossy(rt.alloc(), bytes.as_slice())?,
         Err(_) => String::new(rt.alloc()),
     };
+    let repair = match status {
+        Status::Refused => Repair::of(rt.alloc(), &mut rig)?,
+        _ => Repair::Unknown,
+    };
     let mut report = Report::new(rt, json);
-    tell_all(rt, image, told.as_str(), &mut report)?;
+    tell_all(rt, image, told.as_str(), &repair, &mut report)?;
     if report.failed {
         return Ok(NO_OUTPUT);
     }
@@ -60,6 +65,7 @@ fn tell_all(
     rt: &HostRuntime,
     image: &str,
     told: &str,
+    repair: &Repair,
     report: &mut Report<'_>,
 ) -> Result<(), AllocError> {
     let mut findings = Vec::new(rt.alloc());
@@ -86,7 +92,39 @@ fn tell_all(
     if findings.is_empty() {
         return Ok(());
     }
-    tell_findings(rt, image, findings.as_slice(), report)
+    let findings = with_left(rt.alloc(), findings.as_slice(), repair.left())?;
+    tell_findings(rt, image, findings.as_slice(), repair, report)
+}
+
+// Findings in order, with those that a repair would leave: some are judged only where the first ones are mended.
+fn with_left(
+    alloc: Global,
+    told: &[Finding],
+    left: &[Finding],
+) -> Result<Vec<Finding>, AllocError> {
+    let mut all = Vec::new(alloc);
+    for finding in told {
+        all.push(*finding)?;
+    }
+    for finding in left {
+        if !contains(told, finding) {
+            let at = place_of(all.as_slice(), finding);
+            all.insert(at, *finding)?;
+        }
+    }
+    Ok(all)
+}
+
+// Where a finding stands among others: by rule, then by place.
+fn place_of(all: &[Finding], one: &Finding) -> usize {
+    let mut at = 0;
+    for it in all {
+        if (it.rule, it.place) > (one.rule, one.place) {
+            return at;
+        }
+        at += 1;
+    }
+    at
 }
 
 // Tells of findings, with the paths that the image's catalog tells.
@@ -94,6 +132,7 @@ fn tell_findings(
     rt: &HostRuntime,
     image: &str,
     findings: &[Finding],
+    repair: &Repair,
     report: &mut Report<'_>,
 ) -> Result<(), AllocError> {
     let survey = match ImageSectors::open(rt, image) {
@@ -102,7 +141,7 @@ fn tell_findings(
     };
     let names = Names::new(rt.alloc(), survey)?;
     let mut mendable: u64 = 0;
-    let runs = runs_of(rt.alloc(), findings)?;
+    let runs = runs_of(rt.alloc(), findings, repair)?;
     for run in runs.as_slice() {
         let said = say(rt.alloc(), &names, run)?;
         if said.mends {
@@ -110,5 +149,5 @@ fn tell_findings(
         }
         report.tell(run, &said)?;
     }
-    report.tell_count(findings.len() as u64, mendable)
+    report.tell_count(findings.len() as u64, mendable, repair)
 }

@@ -6,6 +6,7 @@ mod hearing;
 mod image;
 mod names;
 mod refusal;
+mod repair;
 mod report;
 mod runs;
 mod words;

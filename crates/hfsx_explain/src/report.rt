@@ -1,9 +1,10 @@
 //! What is told of an image, as lines or as JSON.
 
+use crate::repair::Repair;
 use crate::runs::Run;
 use crate::words::Said;
 use salvage_tree::push_json;
-use std::alloc::AllocError;
+use std::alloc::{AllocError, Global};
 
 /// Standard output, and whether it failed.
 #[derive(Drop)]
@@ -116,16 +117,58 @@ impl<'a> Report<'a> {
         Ok(line)
     }
 
-    /// Tells how many findings there are, and how many of them can be mended.
-    pub(crate) fn tell_count(&mut self, findings: u64, mendable: u64) -> Result<(), AllocError> {
-        let line = if self.json {
-            format!(in self.rt.alloc(); "{{\"findings\":{findings},\"mendable\":{mendable}}}")?
+    /// Tells how many findings there are, how many of them can be mended, and what `hfsx repair` does.
+    pub(crate) fn tell_count(
+        &mut self,
+        findings: u64,
+        mendable: u64,
+        repair: &Repair,
+    ) -> Result<(), AllocError> {
+        let alloc = self.rt.alloc();
+        let mut line = if self.json {
+            format!(in alloc; "{{\"findings\":{findings},\"mendable\":{mendable},\"repair\":")?
         } else {
-            format!(in self.rt.alloc();
+            format!(in alloc;
                 "findings {findings}, of which {mendable} can be mended from what is there"
             )?
         };
+        let said = if self.json {
+            repair_object(alloc, repair)?
+        } else {
+            repair_sentence(alloc, repair)?
+        };
+        line.push_str(said.as_str())?;
         self.print(line.as_str());
         Ok(())
+    }
+}
+
+// What `hfsx repair` does, behind the counts of an object.
+fn repair_object(alloc: Global, repair: &Repair) -> Result<String, AllocError> {
+    match repair {
+        Repair::Mends(sectors) => format!(in alloc; "true,\"sectors\":{sectors}}}"),
+        Repair::Unknown => format!(in alloc; "null}}"),
+        _ => format!(in alloc; "false}}"),
+    }
+}
+
+// The same behind the counts of a sentence.
+fn repair_sentence(alloc: Global, repair: &Repair) -> Result<String, AllocError> {
+    match repair {
+        Repair::Mends(sectors) => {
+            format!(in alloc;
+                ": `hfsx repair` writes {sectors} sectors, and the volume is sound then"
+            )
+        }
+        Repair::Leaves(_) => {
+            format!(in alloc; "; `hfsx repair` writes nothing as long as the others stay")
+        }
+        Repair::TooBig { sectors, capacity } => format!(in alloc;
+            "; `hfsx repair` refuses it, since {sectors} sectors differ and a transaction of the journal holds {capacity}"
+        ),
+        Repair::Refused => {
+            format!(in alloc; "; `hfsx repair` refuses the image, as `hfsx run` does")
+        }
+        Repair::Unknown => String::from_str(alloc, ""),
     }
 }

@@ -1,6 +1,8 @@
 //! Findings side by side: bits of blocks that follow one another are one.
 
 use crate::finding::Finding;
+use crate::repair::Repair;
+use crate::words::can_be_mended;
 use std::alloc::{AllocError, Global};
 
 /// Findings of one kind at places that follow one another.
@@ -9,6 +11,8 @@ pub(crate) struct Run {
     pub(crate) first: Finding,
     /// The last place.
     pub(crate) last: u64,
+    /// Whether they can be mended from what is there.
+    pub(crate) mends: bool,
 }
 
 /// The rule of the bits of blocks, and that of the bits of nodes.
@@ -18,9 +22,10 @@ const NODE_BITS: u8 = 7;
 
 impl Run {
     // Whether a finding goes on where this run ends.
-    fn goes_on(&self, finding: &Finding) -> bool {
+    fn goes_on(&self, finding: &Finding, mends: bool) -> bool {
         let first = &self.first;
-        (first.rule == BLOCK_BITS || first.rule == NODE_BITS)
+        self.mends == mends
+            && (first.rule == BLOCK_BITS || first.rule == NODE_BITS)
             && first.rule == finding.rule
             && first.found == finding.found
             && first.wanted == finding.wanted
@@ -34,12 +39,20 @@ impl Run {
 }
 
 /// The runs of findings, which stand in order.
-pub(crate) fn runs_of(alloc: Global, findings: &[Finding]) -> Result<Vec<Run>, AllocError> {
+pub(crate) fn runs_of(
+    alloc: Global,
+    findings: &[Finding],
+    repair: &Repair,
+) -> Result<Vec<Run>, AllocError> {
     let mut runs: Vec<Run> = Vec::new(alloc);
     for finding in findings {
+        let mends = match repair.mends(finding) {
+            Some(mends) => mends,
+            None => can_be_mended(finding.rule, finding.found, finding.wanted),
+        };
         let mut joined = false;
         if let Some(run) = runs.as_mut_slice().last_mut() {
-            if run.goes_on(finding) {
+            if run.goes_on(finding, mends) {
                 run.last = finding.place;
                 joined = true;
             }
@@ -48,6 +61,7 @@ pub(crate) fn runs_of(alloc: Global, findings: &[Finding]) -> Result<Vec<Run>, A
             runs.push(Run {
                 first: *finding,
                 last: finding.place,
+                mends,
             })?;
         }
     }

@@ -51,7 +51,7 @@ fn blocks_text(alloc: Global, first: u64, last: u64) -> Result<String, AllocErro
     }
 }
 
-/// Whether a rule's findings can be mended from what is there: the alternate header, counts, and bits of blocks.
+/// Whether a rule's findings can be mended where no other stands beside them: the alternate header, counts, and bits of blocks.
 pub(crate) fn can_be_mended(rule: u8, found: u64, wanted: u64) -> bool {
     match rule {
         2 | 11 | 12 | 13 | 14 => true,
@@ -75,7 +75,7 @@ pub(crate) fn say(alloc: Global, names: &Names, run: &Run) -> Result<Said, Alloc
     Ok(Said {
         text,
         path,
-        mends: can_be_mended(rule, run.first.found, run.first.wanted),
+        mends: run.mends,
     })
 }
 
