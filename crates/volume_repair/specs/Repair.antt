@@ -86,6 +86,7 @@ abbrev pub place_from : ℕ → List ℕ → ℕ → Option ℕ
 place_from k [] at = None
 place_from k (s ∷ rest) at = if s == at then Some k else place_from (k + 1) rest at
 
+-- the sectors of the catalog file, in their order
 abbrev pub catalog_sectors : Content → List ℕ
 catalog_sectors content = sectors_in content (extents_of (overflow_of_content content) catalog_id data_kind (header_of_volume content).catalog_fork)
 
