@@ -75,7 +75,7 @@ fn a_look_is_answered_as_a_run(rt: HostRuntime) -> Result<(), Fail> {
             alloc,
             "run v.img",
             &mut rig,
-            b"create /a\nwrite /a 0 hello\n"
+            b"create /a\nwrite /a 0 =hello\n"
         )?,
         Status::Done
     );
@@ -84,7 +84,7 @@ fn a_look_is_answered_as_a_run(rt: HostRuntime) -> Result<(), Fail> {
     assert_eq!(rt; look(alloc, &mut counting, &mut asker), Status::Done);
     assert_eq!(rt;
         asker.texts.as_slice(),
-        b"ok 1 a\nok ello\nno TooLarge\nok 0\nno BadCommand\n".as_slice()
+        b"ok 1 a\nok =ello\nno TooLarge\nok 0\nno BadCommand\n".as_slice()
     );
     assert_eq!(rt; counting.barriers, 0);
     Ok(())
