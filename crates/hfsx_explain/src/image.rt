@@ -1,4 +1,5 @@
 //! The image is checked, and what the check tells is said in words.
+ghost use Rattle.std.specs.Prelude.{◌≤◌, length};
 
 use crate::finding::{Finding, Line, read_line};
 use crate::hearing::Ear;
@@ -116,15 +117,16 @@ fn with_left(
 }
 
 // Where a finding stands among others: by rule, then by place.
-fn place_of(all: &[Finding], one: &Finding) -> usize {
-    let mut at = 0;
-    for it in all {
+fn place_of(all: &[Finding], one: &Finding) -> usize
+    ensures { result ≤ length all.now }
+{
+    for at in 0..all.len() {
+        let it = &all[at];
         if (it.rule, it.place) > (one.rule, one.place) {
             return at;
         }
-        at += 1;
     }
-    at
+    all.len()
 }
 
 // Tells of findings, with the paths that the image's catalog tells.
