@@ -44,7 +44,7 @@ fn path(alloc: Global) -> Result<Path, AllocError> {
 }
 
 // Five commands, of which the one that is asked last would change the volume.
-fn questions(alloc: Global) -> Result<Questions, AllocError> {
+fn five_commands(alloc: Global) -> Result<Questions, AllocError> {
     let mut commands = Vec::new(alloc);
     commands.push(Command::Mkdir(path(alloc)?))?;
     commands.push(Command::LsAttr(path(alloc)?))?;
@@ -80,7 +80,7 @@ fn a_look_is_answered_as_a_run(rt: HostRuntime) -> Result<(), Fail> {
         Status::Done
     );
     let mut counting = Counting::over(rig);
-    let mut asker = questions(alloc)?;
+    let mut asker = five_commands(alloc)?;
     assert_eq!(rt; look(alloc, &mut counting, &mut asker), Status::Done);
     assert_eq!(rt;
         asker.texts.as_slice(),
@@ -94,7 +94,7 @@ fn a_look_is_answered_as_a_run(rt: HostRuntime) -> Result<(), Fail> {
 fn what_no_run_serves_is_not_looked_at(rt: HostRuntime) -> Result<(), Fail> {
     let alloc = rt.alloc();
     let mut rig = MemRig::new(alloc, 16_384)?;
-    let mut asker = questions(alloc)?;
+    let mut asker = five_commands(alloc)?;
     assert_eq!(rt; look(alloc, &mut rig, &mut asker), Status::Refused);
     assert_eq!(rt; rig.told(), b"refused NotHfsx 0 0\n".as_slice());
     assert!(rt; asker.texts.is_empty());
