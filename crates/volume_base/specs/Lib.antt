@@ -4,6 +4,7 @@ pub mod Cutting
 pub mod DataWeighing
 pub mod Entering
 pub mod Fitting
+pub mod Frame
 pub mod Keeping
 pub mod Linking
 pub mod Listing

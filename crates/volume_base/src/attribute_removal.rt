@@ -6,9 +6,9 @@ ghost use Rattle.btree_file.specs.Standing.{pairs_in};
 ghost use Rattle.btree_file.specs.State.{sectors_of_tree};
 ghost use Rattle.hfs_volume.specs.Content.{has_attributes};
 ghost use Rattle.volume_base.specs.Attributing.{others_owned};
+ghost use Rattle.volume_base.specs.Frame.{Looked, Serves};
 ghost use Rattle.volume_base.specs.Lists.{lists_of};
-ghost use Rattle.volume_base.specs.Looking.{IsAttributesOver, ReadsTree, ReadsVolume};
-ghost use Rattle.volume_base.specs.Standing.{IsSettled, StandsOver};
+ghost use Rattle.volume_base.specs.Looking.{IsAttributesOver, ReadsTree};
 
 use crate::owning::{find_value, list_owned};
 use crate::volume::Volume;
@@ -70,16 +70,12 @@ impl Volume {
         id: u32,
         name: &Units,
     ) -> Result<Option<bool>, Trouble>
-        requires stands { StandsOver self.old (P.SectorView.space space.old) }
-        requires settled { IsTrue (P.SectorView.space space.old).tells → IsSettled self.old (P.SectorView.space space.old).content }
+        requires serves { Serves self.old (P.SectorView.space space.old) }
         requires name { length name.now ≤ 127 }
         ensures found { IsTrue (P.SectorView.space space.old).tells → IfOk result (λ said. said ≡ others_owned (lists_of self.old (P.SectorView.space space.old).content).attribute_pairs id name.now) }
         ensures has { IfOk result (λ said. IfSome said (λ more. IsTrue (has_attributes self.old.header))) }
-        ensures reads { ReadsVolume self.old self.new (P.SectorView.space space.old) (P.SectorView.space space.new) }
-        ensures stands { StandsOver self.new (P.SectorView.space space.new) }
-        ensures settled { IsTrue (P.SectorView.space space.old).tells → IsSettled self.new (P.SectorView.space space.new).content }
-        ensures below { P.SectorView.follows space.old space.new }
-        ensures cause { HasTroubleCause (P.SectorView.space space.old).faults (P.SectorView.space space.new).faults result }
+        ensures looked { Looked P.SectorView.space P.SectorView.follows self.old self.new space.old space.new result }
+        ensures serves { Serves self.new (P.SectorView.space space.new) }
     {
         if self.header.attributes_fork.logical_size == 0 {
             return Ok(None);

@@ -1,9 +1,6 @@
 //! Changes of the attributes of a volume in service.
 ghost use Rattle.std.specs.Prelude.{◌≡◌, ◌≤◌, ℕ, List, IsTrue, length, OnOk};
-ghost use Rattle.std.specs.List.{Contains};
-ghost use Rattle.sector_disk.specs.Lists.{Content};
 ghost use Rattle.attributes.specs.Values.{AreInline};
-ghost use Rattle.btree_edit.specs.Causes.{HasTroubleCause};
 ghost use Rattle.btree_edit.specs.Edits.{EditRoom, TakesAtMost};
 ghost use Rattle.btree_file.specs.Frame.{FollowsOn};
 ghost use Rattle.btree_file.specs.Standing.{numbers_of};
@@ -11,10 +8,9 @@ ghost use Rattle.btree_file.specs.State.{state_of};
 ghost use Rattle.hfs_volume.specs.Changes.{DropsAttribute};
 ghost use Rattle.hfs_volume.specs.Content.{has_attributes};
 ghost use Rattle.volume_base.specs.Attributing.{ChangesAttributes};
+ghost use Rattle.volume_base.specs.Frame.{Edits};
 ghost use Rattle.volume_base.specs.Lists.{lists_of};
-ghost use Rattle.volume_base.specs.Service.{IsInService};
-ghost use Rattle.volume_base.specs.Standing.{StandsOver, own_sectors};
-ghost use Rattle.volume_base.specs.Touching.{Touches};
+ghost use Rattle.volume_base.specs.Standing.{StandsOver};
 
 use crate::valuing::delete_value;
 use crate::volume::Volume;
@@ -38,18 +34,12 @@ impl Volume {
         requires inline { IsTrue (P.SectorView.space space.old).tells → AreInline (lists_of self.old (P.SectorView.space space.old).content).attribute_pairs }
         requires name { length name.now ≤ 127 }
         requires room { (names : List ℕ) → IsTrue (P.SectorView.space space.old).tells → EditRoom 1 266 (state_of names self.old.attributes.file (P.SectorView.space space.old)) }
-        // Behind an answer it stands, and behind a fault it is in service.
-        ensures stands { OnOk result (StandsOver self.new (P.SectorView.space space.new)) }
-        ensures service { IsInService self.new (P.SectorView.space space.new) }
         // Nothing else of it is changed.
         ensures rest { self.new ≡ record self.old { attributes = self.new.attributes } }
         ensures deletes { IsTrue (P.SectorView.space space.old).tells → OnOk result (ChangesAttributes (DropsAttribute id name.now) self.old self.new (P.SectorView.space space.old).content (P.SectorView.space space.new).content) }
-        // On a fault too, it puts sectors of its own alone, whatever was committed last.
-        ensures touches { (committed : Content) → Touches committed (λ s. Contains (own_sectors self.old) s) (P.SectorView.space space.old) (P.SectorView.space space.new) }
+        ensures edits { Edits P.SectorView.space P.SectorView.follows (P.SectorView.space space.old).spare self.old self.new space.old space.new result }
         ensures takes { (names : List ℕ) → TakesAtMost 1 266 (state_of names self.old.attributes.file (P.SectorView.space space.old)) (state_of names self.new.attributes.file (P.SectorView.space space.new)) }
         ensures frame { FollowsOn self.old.attributes.file self.new.attributes.file (P.SectorView.space space.old) (P.SectorView.space space.new) }
-        ensures below { P.SectorView.follows space.old space.new }
-        ensures cause { HasTroubleCause (P.SectorView.space space.old).faults (P.SectorView.space space.new).faults result }
     {
         delete_value(
             alloc,

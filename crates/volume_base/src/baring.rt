@@ -1,10 +1,8 @@
 //! The attributes of a folder or file, removed.
 ghost use Rattle.std.specs.Prelude.{◌≡◌, IsTrue, IfOk};
 ghost use Rattle.attributes.specs.Owned.{names_of};
-ghost use Rattle.btree_edit.specs.Causes.{HasTroubleCause};
+ghost use Rattle.volume_base.specs.Frame.{Looked, Serves};
 ghost use Rattle.volume_base.specs.Lists.{lists_of};
-ghost use Rattle.volume_base.specs.Looking.{ReadsVolume};
-ghost use Rattle.volume_base.specs.Standing.{IsSettled, StandsOver};
 
 use crate::owning::list_owned;
 use crate::volume::Volume;
@@ -20,14 +18,10 @@ impl Volume {
         space: &mut P,
         id: u32,
     ) -> Result<Names, Trouble>
-        requires stands { StandsOver self.old (P.SectorView.space space.old) }
-        requires settled { IsTrue (P.SectorView.space space.old).tells → IsSettled self.old (P.SectorView.space space.old).content }
+        requires serves { Serves self.old (P.SectorView.space space.old) }
         ensures listed { IsTrue (P.SectorView.space space.old).tells → IfOk result (λ owned. owned ≡ names_of id (lists_of self.old (P.SectorView.space space.old).content).attribute_pairs) }
-        ensures reads { ReadsVolume self.old self.new (P.SectorView.space space.old) (P.SectorView.space space.new) }
-        ensures stands { StandsOver self.new (P.SectorView.space space.new) }
-        ensures settled { IsTrue (P.SectorView.space space.old).tells → IsSettled self.new (P.SectorView.space space.new).content }
-        ensures below { P.SectorView.follows space.old space.new }
-        ensures cause { HasTroubleCause (P.SectorView.space space.old).faults (P.SectorView.space space.new).faults result }
+        ensures looked { Looked P.SectorView.space P.SectorView.follows self.old self.new space.old space.new result }
+        ensures serves { Serves self.new (P.SectorView.space space.new) }
     {
         if self.header.attributes_fork.logical_size == 0 {
             return Ok(Names::new(alloc));

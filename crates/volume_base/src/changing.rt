@@ -1,9 +1,6 @@
 //! Changes of the catalog of a volume in service.
 ghost use Rattle.std.specs.Prelude.{◌≡◌, ◌≤◌, ℕ, List, Some, false, IsTrue, length, OnOk, IfOk};
-ghost use Rattle.std.specs.List.{Contains};
-ghost use Rattle.sector_disk.specs.Lists.{Content};
 ghost use Rattle.btree_node.specs.Store.{HasRoom};
-ghost use Rattle.btree_edit.specs.Causes.{HasTroubleCause};
 ghost use Rattle.btree_edit.specs.Editing.{CostsAtMost};
 ghost use Rattle.btree_edit.specs.Edits.{EditRoom, TakesAtMost, TakesEdits};
 ghost use Rattle.btree_file.specs.Frame.{FollowsOn};
@@ -14,9 +11,8 @@ ghost use Rattle.catalog.specs.Rooms.{TakesUpdates};
 ghost use Rattle.cat_records.specs.Fits.{FitsRecord};
 ghost use Rattle.hfs_volume.specs.Entries.{AreSpelled, AreThreaded};
 ghost use Rattle.hfs_volume.specs.Records.{Placed, placed_in, record_at, is_thread};
-ghost use Rattle.volume_base.specs.Service.{IsInService};
-ghost use Rattle.volume_base.specs.Standing.{StandsOver, own_sectors};
-ghost use Rattle.volume_base.specs.Touching.{Touches};
+ghost use Rattle.volume_base.specs.Frame.{Edits};
+ghost use Rattle.volume_base.specs.Standing.{StandsOver};
 
 use crate::editing::{remove_entry, update_entry};
 use crate::volume::Volume;
@@ -44,20 +40,14 @@ impl Volume {
         requires fits { FitsRecord rec.now }
         requires same_kind { IsTrue (P.SectorView.space space.old).tells → (entry : Placed) → record_at (placed_in (pairs_in (sectors_of_tree self.old.catalog.file) (P.SectorView.space space.old).content)) parent name.now ≡ Some entry → IsOfKind rec.now entry.value }
         requires room { (names : List ℕ) → IsTrue (P.SectorView.space space.old).tells → HasRoom 1 (state_of names self.old.catalog.file (P.SectorView.space space.old)) }
-        // Behind an answer it stands, and behind a fault it is in service.
-        ensures stands { OnOk result (StandsOver self.new (P.SectorView.space space.new)) }
-        ensures service { IsInService self.new (P.SectorView.space space.new) }
         // Nothing else of it is changed.
         ensures rest { self.new ≡ record self.old { catalog = self.new.catalog } }
         ensures answer { IsTrue (P.SectorView.space space.old).tells → IfOk result (λ answer. AnswersRemoval (record_at (placed_in (pairs_in (sectors_of_tree self.old.catalog.file) (P.SectorView.space space.old).content)) parent name.now) answer) }
         ensures updated { IsTrue (P.SectorView.space space.old).tells → IfOk result (λ answer. Updating parent name.now rec.now (pairs_in (sectors_of_tree self.old.catalog.file) (P.SectorView.space space.old).content) (pairs_in (sectors_of_tree self.old.catalog.file) (P.SectorView.space space.new).content) answer) }
         ensures takes { (names : List ℕ) → IsTrue (P.SectorView.space space.old).tells → CostsAtMost 1 0 (state_of names self.old.catalog.file (P.SectorView.space space.old)) (state_of names self.new.catalog.file (P.SectorView.space space.new)) }
-        ensures edits { (names : List ℕ) → OnOk result (TakesUpdates 0 1 516 (state_of names self.old.catalog.file (P.SectorView.space space.old)) (state_of names self.new.catalog.file (P.SectorView.space space.new))) }
-        // On a fault too, it puts sectors of its own alone, whatever was committed last.
-        ensures touches { (committed : Content) → Touches committed (λ s. Contains (own_sectors self.old) s) (P.SectorView.space space.old) (P.SectorView.space space.new) }
+        ensures updates { (names : List ℕ) → OnOk result (TakesUpdates 0 1 516 (state_of names self.old.catalog.file (P.SectorView.space space.old)) (state_of names self.new.catalog.file (P.SectorView.space space.new))) }
+        ensures edits { Edits P.SectorView.space P.SectorView.follows (P.SectorView.space space.old).spare self.old self.new space.old space.new result }
         ensures frame { FollowsOn self.old.catalog.file self.new.catalog.file (P.SectorView.space space.old) (P.SectorView.space space.new) }
-        ensures below { P.SectorView.follows space.old space.new }
-        ensures cause { HasTroubleCause (P.SectorView.space space.old).faults (P.SectorView.space space.new).faults result }
     {
         update_entry(
             alloc,
@@ -84,20 +74,14 @@ impl Volume {
         requires some { 1 ≤ length name.now }
         requires name { length name.now ≤ 255 }
         requires room { (names : List ℕ) → IsTrue (P.SectorView.space space.old).tells → EditRoom 2 516 (state_of names self.old.catalog.file (P.SectorView.space space.old)) }
-        // Behind an answer it stands, and behind a fault it is in service.
-        ensures stands { OnOk result (StandsOver self.new (P.SectorView.space space.new)) }
-        ensures service { IsInService self.new (P.SectorView.space space.new) }
         // Nothing else of it is changed.
         ensures rest { self.new ≡ record self.old { catalog = self.new.catalog } }
         ensures answer { IsTrue (P.SectorView.space space.old).tells → IfOk result (λ answer. AnswersRemoval (record_at (placed_in (pairs_in (sectors_of_tree self.old.catalog.file) (P.SectorView.space space.old).content)) parent name.now) answer) }
         ensures removed { IsTrue (P.SectorView.space space.old).tells → IfOk result (λ answer. Removing parent name.now (pairs_in (sectors_of_tree self.old.catalog.file) (P.SectorView.space space.old).content) (pairs_in (sectors_of_tree self.old.catalog.file) (P.SectorView.space space.new).content) answer) }
-        // On a fault too, it puts sectors of its own alone, whatever was committed last.
-        ensures touches { (committed : Content) → Touches committed (λ s. Contains (own_sectors self.old) s) (P.SectorView.space space.old) (P.SectorView.space space.new) }
+        ensures edits { Edits P.SectorView.space P.SectorView.follows (P.SectorView.space space.old).spare self.old self.new space.old space.new result }
         ensures frame { FollowsOn self.old.catalog.file self.new.catalog.file (P.SectorView.space space.old) (P.SectorView.space space.new) }
-        ensures edits { (names : List ℕ) → OnOk result (TakesEdits 2 516 (state_of names self.old.catalog.file (P.SectorView.space space.old)) (state_of names self.new.catalog.file (P.SectorView.space space.new))) }
+        ensures takes_edits { (names : List ℕ) → OnOk result (TakesEdits 2 516 (state_of names self.old.catalog.file (P.SectorView.space space.old)) (state_of names self.new.catalog.file (P.SectorView.space space.new))) }
         ensures takes { (names : List ℕ) → TakesAtMost 2 516 (state_of names self.old.catalog.file (P.SectorView.space space.old)) (state_of names self.new.catalog.file (P.SectorView.space space.new)) }
-        ensures below { P.SectorView.follows space.old space.new }
-        ensures cause { HasTroubleCause (P.SectorView.space space.old).faults (P.SectorView.space space.new).faults result }
     {
         remove_entry(
             alloc,

@@ -9,8 +9,9 @@ ghost use Rattle.catalog.specs.Pairs.{thread_at};
 ghost use Rattle.hfs_volume.specs.Entries.{AreSpelled};
 ghost use Rattle.hfs_volume.specs.Records.{is_thread};
 ghost use Rattle.volume_base.specs.Entering.{entry_by_id, entry_under, entry_with};
+ghost use Rattle.volume_base.specs.Frame.{Looked};
 ghost use Rattle.volume_base.specs.Lists.{lists_of};
-ghost use Rattle.volume_base.specs.Looking.{IsCatalogOver, ReadsTree, ReadsVolume};
+ghost use Rattle.volume_base.specs.Looking.{IsCatalogOver, ReadsTree};
 ghost use Rattle.volume_base.specs.Standing.{StandsOver};
 
 use crate::looking::lookup_record;
@@ -124,12 +125,9 @@ impl Volume {
         ensures found { IsTrue (P.SectorView.space space.old).tells → IfOk result (λ found. found ≡ entry_by_id (lists_of self.old (P.SectorView.space space.old).content).catalog_pairs id) }
         ensures fits { IfOk result (λ found. IfSome found (λ entry. is_thread entry.rec ≡ false → FitsRecord entry.rec)) }
         ensures name { IfOk result (λ found. IfSome found (λ entry. length entry.name ≤ 255)) }
-        ensures reads { ReadsVolume self.old self.new (P.SectorView.space space.old) (P.SectorView.space space.new) }
+        ensures looked { Looked P.SectorView.space P.SectorView.follows self.old self.new space.old space.new result }
         // Nothing else of it is changed.
         ensures rest { self.new ≡ record self.old { catalog = self.new.catalog } }
-        ensures stands { StandsOver self.new (P.SectorView.space space.new) }
-        ensures below { P.SectorView.follows space.old space.new }
-        ensures cause { HasTroubleCause (P.SectorView.space space.old).faults (P.SectorView.space space.new).faults result }
     {
         find_entry(
             alloc,

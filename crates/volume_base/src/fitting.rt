@@ -6,10 +6,10 @@ ghost use Rattle.hfs_volume.specs.Weight.{room_with};
 ghost use Rattle.volume_base.specs.Attributing.{HasRoomToMark};
 ghost use Rattle.volume_base.specs.Changing.{HasRoomToUpdate};
 ghost use Rattle.volume_base.specs.Fitting.{AreMet, is_met, wants};
+ghost use Rattle.volume_base.specs.Frame.{Serves};
 ghost use Rattle.volume_base.specs.Removing.{HasRoomToRemove};
 ghost use Rattle.volume_base.specs.Room.{capacity_of, free_in};
 ghost use Rattle.volume_base.specs.declared.room.FreeBlocks.TheVariants as blocks;
-ghost use Rattle.volume_base.specs.Standing.{IsSettled, StandsOver};
 ghost use Rattle.volume_base.specs.Weighing.{needs_asked};
 
 use crate::room::FreeBlocks;
@@ -56,8 +56,7 @@ pub fn has_tree(size: u64) -> bool
 impl Volume {
     /// Whether edits can be made now, by what they cost.
     pub fn can_edit<P: SectorSpace>(&self, space: &P, edits: Edits) -> bool
-        requires stands { StandsOver self.now (P.SectorView.space space.now) }
-        requires settled { IsTrue (P.SectorView.space space.now).tells → IsSettled self.now (P.SectorView.space space.now).content }
+        requires serves { Serves self.now (P.SectorView.space space.now) }
         requires tree { IsTrue (P.SectorView.space space.now).tells → 0 < edits.attributes → IsTrue (has_attributes self.now.header) }
         ensures { IsTrue (P.SectorView.space space.now).tells
             → result ≡ is_met (cost_of (needs_asked edits) (room_with (capacity_of self.now) (free_in blocks.Takable self.now.map) (volume_of (P.SectorView.space space.now).content))) (P.SectorView.space space.now).spare }
@@ -76,8 +75,7 @@ impl Volume {
 
     /// Whether there is room to remove a folder without attributes.
     pub fn fits_remove<P: SectorSpace>(&self, space: &P) -> bool
-        requires stands { StandsOver self.now (P.SectorView.space space.now) }
-        requires settled { IsTrue (P.SectorView.space space.now).tells → IsSettled self.now (P.SectorView.space space.now).content }
+        requires serves { Serves self.now (P.SectorView.space space.now) }
         ensures room { IsTrue result → HasRoomToRemove self.now (P.SectorView.space space.now) }
         ensures met { IsTrue (P.SectorView.space space.now).tells → AreMet (wants 0 2 0 1) self.now (P.SectorView.space space.now) → IsTrue result }
     {
@@ -97,8 +95,7 @@ impl Volume {
 
     /// Whether there is room to delete an attribute and to mark its owner.
     pub fn fits_delattr<P: SectorSpace>(&self, space: &P) -> bool
-        requires stands { StandsOver self.now (P.SectorView.space space.now) }
-        requires settled { IsTrue (P.SectorView.space space.now).tells → IsSettled self.now (P.SectorView.space space.now).content }
+        requires serves { Serves self.now (P.SectorView.space space.now) }
         ensures room { IsTrue result → HasRoomToMark 1 self.now (P.SectorView.space space.now) }
         ensures met { IsTrue (P.SectorView.space space.now).tells → AreMet (wants 0 0 1 1) self.now (P.SectorView.space space.now) → IsTrue result }
     {

@@ -10,9 +10,9 @@ ghost use Rattle.hfs_language.specs.declared.command.Command.TheVariants as comm
 ghost use Rattle.hfs_model.specs.Step.{step_line};
 ghost use Rattle.hfs_volume.specs.Records.{is_folder};
 ghost use Rattle.hfs_volume.specs.TreeOf.{tree_of};
+ghost use Rattle.volume_base.specs.Frame.{Looked, Serves};
 ghost use Rattle.volume_base.specs.Listing.{is_shown, shown_in, names_in};
-ghost use Rattle.volume_base.specs.Looking.{IsCatalogOver, ReadsTree, ReadsVolume};
-ghost use Rattle.volume_base.specs.Standing.{StandsOver, IsSettled};
+ghost use Rattle.volume_base.specs.Looking.{IsCatalogOver, ReadsTree};
 
 use crate::names::{copy_name, is_private_name, is_private_path};
 use crate::reaching::find_folder;
@@ -116,16 +116,12 @@ impl Volume {
         space: &mut P,
         path: &Path,
     ) -> Result<Reply, Trouble>
-        requires stands { StandsOver self.old (P.SectorView.space space.old) }
-        requires settled { IsTrue (P.SectorView.space space.old).tells → IsSettled self.old (P.SectorView.space space.old).content }
+        requires serves { Serves self.old (P.SectorView.space space.old) }
         requires fits { FitsPath path.now }
         // Told, the reply is that of the plain tree's step.
         ensures reply { IsTrue (P.SectorView.space space.old).tells → IfOk result (λ reply. reply ≡ (step_line (tree_of (P.SectorView.space space.old).content) (Ok (command.Ls path.now))).0) }
-        ensures reads { ReadsVolume self.old self.new (P.SectorView.space space.old) (P.SectorView.space space.new) }
-        ensures stands { StandsOver self.new (P.SectorView.space space.new) }
-        ensures settled { IsTrue (P.SectorView.space space.old).tells → IsSettled self.new (P.SectorView.space space.new).content }
-        ensures below { P.SectorView.follows space.old space.new }
-        ensures cause { HasTroubleCause (P.SectorView.space space.old).faults (P.SectorView.space space.new).faults result }
+        ensures looked { Looked P.SectorView.space P.SectorView.follows self.old self.new space.old space.new result }
+        ensures serves { Serves self.new (P.SectorView.space space.new) }
     {
         if is_private_path(path) {
             return Ok(Reply::No(Refusal::Private));

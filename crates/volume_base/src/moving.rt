@@ -6,10 +6,10 @@ ghost use Rattle.btree_file.specs.Standing.{pairs_in};
 ghost use Rattle.btree_file.specs.State.{sectors_of_tree};
 ghost use Rattle.hfs_language.specs.Written.{FitsPath};
 ghost use Rattle.hfs_model.specs.Step.{is_below};
+ghost use Rattle.volume_base.specs.Frame.{Looked, Serves};
 ghost use Rattle.volume_base.specs.Lists.{lists_of};
-ghost use Rattle.volume_base.specs.Looking.{IsCatalogOver, ReadsTree, ReadsVolume};
+ghost use Rattle.volume_base.specs.Looking.{IsCatalogOver, ReadsTree};
 ghost use Rattle.volume_base.specs.Moving.{route_in};
-ghost use Rattle.volume_base.specs.Standing.{IsSettled, StandsOver};
 
 use crate::owning::owner;
 use crate::reaching::find_folder;
@@ -93,18 +93,14 @@ impl Volume {
         under: &[Units],
         name: &Units,
     ) -> Result<Result<Route, Refusal>, Trouble>
-        requires stands { StandsOver self.old (P.SectorView.space space.old) }
-        requires settled { IsTrue (P.SectorView.space space.old).tells → IsSettled self.old (P.SectorView.space space.old).content }
+        requires serves { Serves self.old (P.SectorView.space space.old) }
         requires from_fits { FitsPath from.now }
         requires above_fits { FitsPath above.now }
         requires under_fits { FitsPath under.now }
         requires name { length name.now ≤ 255 }
         ensures found { IsTrue (P.SectorView.space space.old).tells → IfOk result (λ said. said ≡ route_in (lists_of self.old (P.SectorView.space space.old).content).catalog_pairs self.old.private from.now above.now under.now name.now) }
-        ensures reads { ReadsVolume self.old self.new (P.SectorView.space space.old) (P.SectorView.space space.new) }
-        ensures stands { StandsOver self.new (P.SectorView.space space.new) }
-        ensures settled { IsTrue (P.SectorView.space space.old).tells → IsSettled self.new (P.SectorView.space space.new).content }
-        ensures below { P.SectorView.follows space.old space.new }
-        ensures cause { HasTroubleCause (P.SectorView.space space.old).faults (P.SectorView.space space.new).faults result }
+        ensures looked { Looked P.SectorView.space P.SectorView.follows self.old self.new space.old space.new result }
+        ensures serves { Serves self.new (P.SectorView.space space.new) }
     {
         find_route(
             alloc,

@@ -1,17 +1,15 @@
 //! What commands that move a name or give another one change, for watchers.
 ghost use Rattle.std.specs.Prelude.{◌≡◌, false, Ok, IsTrue, IfOk};
-ghost use Rattle.btree_edit.specs.Causes.{HasTroubleCause};
 ghost use Rattle.hfs_language.specs.Written.{FitsPath};
 ghost use Rattle.hfs_language.specs.declared.reply.ChangeKind.TheVariants as change;
 ghost use Rattle.hfs_model.specs.Step.{Place, is_private_path};
 ghost use Rattle.hfs_model.specs.declared.plain.PlainEntry.{PlainEntry};
 ghost use Rattle.volume_runs.specs.Told.{of_pair};
 ghost use Rattle.hfs_volume.specs.TreeOf.{tree_of};
+ghost use Rattle.volume_base.specs.Frame.{Looked, Serves};
 ghost use Rattle.volume_base.specs.Linking.{MayLink};
-ghost use Rattle.volume_base.specs.Looking.{ReadsVolume};
 ghost use Rattle.volume_base.specs.Making.{path_to};
 ghost use Rattle.volume_base.specs.Moving.{MayMove};
-ghost use Rattle.volume_base.specs.Standing.{IsSettled, StandsOver};
 
 use crate::volume::Volume;
 use crate::watching::one_change;
@@ -35,19 +33,15 @@ impl Volume {
         under: &[Units],
         name: &Units,
     ) -> Result<Changes, Trouble>
-        requires stands { StandsOver self.old (P.SectorView.space space.old) }
-        requires settled { IsTrue (P.SectorView.space space.old).tells → IsSettled self.old (P.SectorView.space space.old).content }
+        requires serves { Serves self.old (P.SectorView.space space.old) }
         requires from_fits { FitsPath from.now }
         requires to_fits { FitsPath to.now }
         requires split { from.now ≡ path_to above.now old.now }
         requires goal_split { to.now ≡ path_to under.now name.now }
         ensures told { IsTrue (P.SectorView.space space.old).tells → is_private_path from.now ≡ false → is_private_path to.now ≡ false → (pair : PlainEntry × Place) → MayMove (tree_of (P.SectorView.space space.old).content) from.now to.now pair
             → IfOk result (λ changes. changes ≡ of_pair line change.Moved (Ok pair)) }
-        ensures reads { ReadsVolume self.old self.new (P.SectorView.space space.old) (P.SectorView.space space.new) }
-        ensures stands { StandsOver self.new (P.SectorView.space space.new) }
-        ensures settled { IsTrue (P.SectorView.space space.old).tells → IsSettled self.new (P.SectorView.space space.new).content }
-        ensures below { P.SectorView.follows space.old space.new }
-        ensures cause { HasTroubleCause (P.SectorView.space space.old).faults (P.SectorView.space space.new).faults result }
+        ensures looked { Looked P.SectorView.space P.SectorView.follows self.old self.new space.old space.new result }
+        ensures serves { Serves self.new (P.SectorView.space space.new) }
     {
         sound_has_plain_tree();
         match self.route(alloc, space, from.as_slice(), above, under, name)? {
@@ -66,18 +60,14 @@ impl Volume {
         from: &Path,
         to: &Path,
     ) -> Result<Changes, Trouble>
-        requires stands { StandsOver self.old (P.SectorView.space space.old) }
-        requires settled { IsTrue (P.SectorView.space space.old).tells → IsSettled self.old (P.SectorView.space space.old).content }
+        requires serves { Serves self.old (P.SectorView.space space.old) }
         requires from_fits { FitsPath from.now }
         requires to_fits { FitsPath to.now }
         // Where it may be moved there, it is what watchers are told of it.
         ensures told { IsTrue (P.SectorView.space space.old).tells → is_private_path from.now ≡ false → is_private_path to.now ≡ false → (pair : PlainEntry × Place) → MayMove (tree_of (P.SectorView.space space.old).content) from.now to.now pair
             → IfOk result (λ changes. changes ≡ of_pair line change.Moved (Ok pair)) }
-        ensures reads { ReadsVolume self.old self.new (P.SectorView.space space.old) (P.SectorView.space space.new) }
-        ensures stands { StandsOver self.new (P.SectorView.space space.new) }
-        ensures settled { IsTrue (P.SectorView.space space.old).tells → IsSettled self.new (P.SectorView.space space.new).content }
-        ensures below { P.SectorView.follows space.old space.new }
-        ensures cause { HasTroubleCause (P.SectorView.space space.old).faults (P.SectorView.space space.new).faults result }
+        ensures looked { Looked P.SectorView.space P.SectorView.follows self.old self.new space.old space.new result }
+        ensures serves { Serves self.new (P.SectorView.space space.new) }
     {
         match from.as_slice().split_last() {
             Some((old, above)) => match to.as_slice().split_last() {
@@ -103,19 +93,15 @@ impl Volume {
         under: &[Units],
         name: &Units,
     ) -> Result<Changes, Trouble>
-        requires stands { StandsOver self.old (P.SectorView.space space.old) }
-        requires settled { IsTrue (P.SectorView.space space.old).tells → IsSettled self.old (P.SectorView.space space.old).content }
+        requires serves { Serves self.old (P.SectorView.space space.old) }
         requires from_fits { FitsPath from.now }
         requires to_fits { FitsPath to.now }
         requires split { from.now ≡ path_to above.now old.now }
         requires goal_split { to.now ≡ path_to under.now name.now }
         ensures told { IsTrue (P.SectorView.space space.old).tells → is_private_path from.now ≡ false → is_private_path to.now ≡ false → (pair : PlainEntry × Place) → MayLink (tree_of (P.SectorView.space space.old).content) from.now to.now pair
             → IfOk result (λ changes. changes ≡ of_pair line change.Linked (Ok pair)) }
-        ensures reads { ReadsVolume self.old self.new (P.SectorView.space space.old) (P.SectorView.space space.new) }
-        ensures stands { StandsOver self.new (P.SectorView.space space.new) }
-        ensures settled { IsTrue (P.SectorView.space space.old).tells → IsSettled self.new (P.SectorView.space space.new).content }
-        ensures below { P.SectorView.follows space.old space.new }
-        ensures cause { HasTroubleCause (P.SectorView.space space.old).faults (P.SectorView.space space.new).faults result }
+        ensures looked { Looked P.SectorView.space P.SectorView.follows self.old self.new space.old space.new result }
+        ensures serves { Serves self.new (P.SectorView.space space.new) }
     {
         sound_has_plain_tree();
         match self.route(alloc, space, from.as_slice(), above, under, name)? {
@@ -135,18 +121,14 @@ impl Volume {
         from: &Path,
         to: &Path,
     ) -> Result<Changes, Trouble>
-        requires stands { StandsOver self.old (P.SectorView.space space.old) }
-        requires settled { IsTrue (P.SectorView.space space.old).tells → IsSettled self.old (P.SectorView.space space.old).content }
+        requires serves { Serves self.old (P.SectorView.space space.old) }
         requires from_fits { FitsPath from.now }
         requires to_fits { FitsPath to.now }
         // Where it may have a name there, it is what watchers are told of it.
         ensures told { IsTrue (P.SectorView.space space.old).tells → is_private_path from.now ≡ false → is_private_path to.now ≡ false → (pair : PlainEntry × Place) → MayLink (tree_of (P.SectorView.space space.old).content) from.now to.now pair
             → IfOk result (λ changes. changes ≡ of_pair line change.Linked (Ok pair)) }
-        ensures reads { ReadsVolume self.old self.new (P.SectorView.space space.old) (P.SectorView.space space.new) }
-        ensures stands { StandsOver self.new (P.SectorView.space space.new) }
-        ensures settled { IsTrue (P.SectorView.space space.old).tells → IsSettled self.new (P.SectorView.space space.new).content }
-        ensures below { P.SectorView.follows space.old space.new }
-        ensures cause { HasTroubleCause (P.SectorView.space space.old).faults (P.SectorView.space space.new).faults result }
+        ensures looked { Looked P.SectorView.space P.SectorView.follows self.old self.new space.old space.new result }
+        ensures serves { Serves self.new (P.SectorView.space space.new) }
     {
         match from.as_slice().split_last() {
             Some((old, above)) => match to.as_slice().split_last() {

@@ -12,10 +12,10 @@ ghost use Rattle.hfs_language.specs.declared.command.Command.TheVariants as comm
 ghost use Rattle.hfs_language.specs.declared.reply.Reply.TheVariants as reply;
 ghost use Rattle.hfs_model.specs.Step.{step_line};
 ghost use Rattle.hfs_volume.specs.TreeOf.{tree_of};
+ghost use Rattle.volume_base.specs.Frame.{Looked, Serves};
 ghost use Rattle.volume_base.specs.Lists.{lists_of};
-ghost use Rattle.volume_base.specs.Looking.{IsCatalogOver, IsAttributesOver, ReadsTree, ReadsVolume};
+ghost use Rattle.volume_base.specs.Looking.{IsCatalogOver, IsAttributesOver, ReadsTree};
 ghost use Rattle.volume_base.specs.Owning.{id_reached, owner_in, listed_name, attributes_in, value_told};
-ghost use Rattle.volume_base.specs.Standing.{StandsOver, IsSettled};
 
 use crate::names::{copy_name, is_private_path};
 use crate::reaching::{Reached, walk};
@@ -193,15 +193,11 @@ impl Volume {
         space: &mut P,
         path: &Path,
     ) -> Result<Result<u32, Refusal>, Trouble>
-        requires stands { StandsOver self.old (P.SectorView.space space.old) }
-        requires settled { IsTrue (P.SectorView.space space.old).tells → IsSettled self.old (P.SectorView.space space.old).content }
+        requires serves { Serves self.old (P.SectorView.space space.old) }
         requires fits { FitsPath path.now }
         ensures found { IsTrue (P.SectorView.space space.old).tells → IfOk result (λ said. said ≡ owner_in (lists_of self.old (P.SectorView.space space.old).content).catalog_pairs self.old.private path.now) }
-        ensures reads { ReadsVolume self.old self.new (P.SectorView.space space.old) (P.SectorView.space space.new) }
-        ensures stands { StandsOver self.new (P.SectorView.space space.new) }
-        ensures settled { IsTrue (P.SectorView.space space.old).tells → IsSettled self.new (P.SectorView.space space.new).content }
-        ensures below { P.SectorView.follows space.old space.new }
-        ensures cause { HasTroubleCause (P.SectorView.space space.old).faults (P.SectorView.space space.new).faults result }
+        ensures looked { Looked P.SectorView.space P.SectorView.follows self.old self.new space.old space.new result }
+        ensures serves { Serves self.new (P.SectorView.space space.new) }
     {
         owner(
             alloc,
@@ -220,14 +216,10 @@ impl Volume {
         space: &mut P,
         id: u32,
     ) -> Result<Listing, Trouble>
-        requires stands { StandsOver self.old (P.SectorView.space space.old) }
-        requires settled { IsTrue (P.SectorView.space space.old).tells → IsSettled self.old (P.SectorView.space space.old).content }
+        requires serves { Serves self.old (P.SectorView.space space.old) }
         ensures listed { IsTrue (P.SectorView.space space.old).tells → IfOk result (λ list. list ≡ attributes_in (lists_of self.old (P.SectorView.space space.old).content).attribute_pairs id) }
-        ensures reads { ReadsVolume self.old self.new (P.SectorView.space space.old) (P.SectorView.space space.new) }
-        ensures stands { StandsOver self.new (P.SectorView.space space.new) }
-        ensures settled { IsTrue (P.SectorView.space space.old).tells → IsSettled self.new (P.SectorView.space space.new).content }
-        ensures below { P.SectorView.follows space.old space.new }
-        ensures cause { HasTroubleCause (P.SectorView.space space.old).faults (P.SectorView.space space.new).faults result }
+        ensures looked { Looked P.SectorView.space P.SectorView.follows self.old self.new space.old space.new result }
+        ensures serves { Serves self.new (P.SectorView.space space.new) }
     {
         if self.header.attributes_fork.logical_size == 0 {
             return Ok(Listing::new(alloc));
@@ -250,16 +242,12 @@ impl Volume {
         space: &mut P,
         path: &Path,
     ) -> Result<Reply, Trouble>
-        requires stands { StandsOver self.old (P.SectorView.space space.old) }
-        requires settled { IsTrue (P.SectorView.space space.old).tells → IsSettled self.old (P.SectorView.space space.old).content }
+        requires serves { Serves self.old (P.SectorView.space space.old) }
         requires fits { FitsPath path.now }
         // Told, the reply is that of the plain tree's step.
         ensures reply { IsTrue (P.SectorView.space space.old).tells → IfOk result (λ reply. reply ≡ (step_line (tree_of (P.SectorView.space space.old).content) (Ok (command.LsAttr path.now))).0) }
-        ensures reads { ReadsVolume self.old self.new (P.SectorView.space space.old) (P.SectorView.space space.new) }
-        ensures stands { StandsOver self.new (P.SectorView.space space.new) }
-        ensures settled { IsTrue (P.SectorView.space space.old).tells → IsSettled self.new (P.SectorView.space space.new).content }
-        ensures below { P.SectorView.follows space.old space.new }
-        ensures cause { HasTroubleCause (P.SectorView.space space.old).faults (P.SectorView.space space.new).faults result }
+        ensures looked { Looked P.SectorView.space P.SectorView.follows self.old self.new space.old space.new result }
+        ensures serves { Serves self.new (P.SectorView.space space.new) }
     {
         if is_private_path(path) {
             return Ok(Reply::No(Refusal::Private));
@@ -279,15 +267,11 @@ impl Volume {
         id: u32,
         name: &Units,
     ) -> Result<Option<Bytes>, Trouble>
-        requires stands { StandsOver self.old (P.SectorView.space space.old) }
-        requires settled { IsTrue (P.SectorView.space space.old).tells → IsSettled self.old (P.SectorView.space space.old).content }
+        requires serves { Serves self.old (P.SectorView.space space.old) }
         requires name { length name.now ≤ 127 }
         ensures found { IsTrue (P.SectorView.space space.old).tells → IfOk result (λ found. found ≡ value_at (lists_of self.old (P.SectorView.space space.old).content).attribute_pairs id name.now) }
-        ensures reads { ReadsVolume self.old self.new (P.SectorView.space space.old) (P.SectorView.space space.new) }
-        ensures stands { StandsOver self.new (P.SectorView.space space.new) }
-        ensures settled { IsTrue (P.SectorView.space space.old).tells → IsSettled self.new (P.SectorView.space space.new).content }
-        ensures below { P.SectorView.follows space.old space.new }
-        ensures cause { HasTroubleCause (P.SectorView.space space.old).faults (P.SectorView.space space.new).faults result }
+        ensures looked { Looked P.SectorView.space P.SectorView.follows self.old self.new space.old space.new result }
+        ensures serves { Serves self.new (P.SectorView.space space.new) }
     {
         if self.header.attributes_fork.logical_size == 0 {
             return Ok(None);
@@ -312,17 +296,13 @@ impl Volume {
         path: &Path,
         name: &Units,
     ) -> Result<Reply, Trouble>
-        requires stands { StandsOver self.old (P.SectorView.space space.old) }
-        requires settled { IsTrue (P.SectorView.space space.old).tells → IsSettled self.old (P.SectorView.space space.old).content }
+        requires serves { Serves self.old (P.SectorView.space space.old) }
         requires fits { FitsPath path.now }
         requires name { length name.now ≤ 127 }
         // Told, the reply is that of the plain tree's step.
         ensures reply { IsTrue (P.SectorView.space space.old).tells → IfOk result (λ reply. reply ≡ (step_line (tree_of (P.SectorView.space space.old).content) (Ok (command.GetAttr path.now name.now))).0) }
-        ensures reads { ReadsVolume self.old self.new (P.SectorView.space space.old) (P.SectorView.space space.new) }
-        ensures stands { StandsOver self.new (P.SectorView.space space.new) }
-        ensures settled { IsTrue (P.SectorView.space space.old).tells → IsSettled self.new (P.SectorView.space space.new).content }
-        ensures below { P.SectorView.follows space.old space.new }
-        ensures cause { HasTroubleCause (P.SectorView.space space.old).faults (P.SectorView.space space.new).faults result }
+        ensures looked { Looked P.SectorView.space P.SectorView.follows self.old self.new space.old space.new result }
+        ensures serves { Serves self.new (P.SectorView.space space.new) }
     {
         if is_private_path(path) {
             return Ok(Reply::No(Refusal::Private));

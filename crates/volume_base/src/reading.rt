@@ -12,11 +12,11 @@ ghost use Rattle.hfs_language.specs.declared.command.Command.TheVariants as comm
 ghost use Rattle.hfs_model.specs.Step.{step_line};
 ghost use Rattle.hfs_volume.specs.Content.{volume_of, records_of};
 ghost use Rattle.hfs_volume.specs.TreeOf.{tree_of, file_bytes};
+ghost use Rattle.volume_base.specs.Frame.{Looked, Serves};
 ghost use Rattle.volume_base.specs.Lists.{lists_of};
-ghost use Rattle.volume_base.specs.Looking.{IsCatalogOver, ReadsTree, ReadsVolume};
+ghost use Rattle.volume_base.specs.Looking.{IsCatalogOver, ReadsTree};
 ghost use Rattle.volume_base.specs.Opening.{ends_inside};
 ghost use Rattle.volume_base.specs.Reading.{HasFile, to_read, file_in};
-ghost use Rattle.volume_base.specs.Standing.{StandsOver, IsSettled};
 
 use crate::extents::inside_or_none;
 use crate::looking::load_extents;
@@ -137,16 +137,12 @@ impl Volume {
         path: &Path,
         long: u64,
     ) -> Result<Result<FileRecord, Refusal>, Trouble>
-        requires stands { StandsOver self.old (P.SectorView.space space.old) }
-        requires settled { IsTrue (P.SectorView.space space.old).tells → IsSettled self.old (P.SectorView.space space.old).content }
+        requires serves { Serves self.old (P.SectorView.space space.old) }
         requires fits { FitsPath path.now }
         ensures found { IsTrue (P.SectorView.space space.old).tells → IfOk result (λ said. said ≡ file_in (lists_of self.old (P.SectorView.space space.old).content).catalog_pairs self.old.private path.now long) }
         ensures few { IfOk result (λ said. IfOk said (λ file. long ≤ 65536)) }
-        ensures reads { ReadsVolume self.old self.new (P.SectorView.space space.old) (P.SectorView.space space.new) }
-        ensures stands { StandsOver self.new (P.SectorView.space space.new) }
-        ensures settled { IsTrue (P.SectorView.space space.old).tells → IsSettled self.new (P.SectorView.space space.new).content }
-        ensures below { P.SectorView.follows space.old space.new }
-        ensures cause { HasTroubleCause (P.SectorView.space space.old).faults (P.SectorView.space space.new).faults result }
+        ensures looked { Looked P.SectorView.space P.SectorView.follows self.old self.new space.old space.new result }
+        ensures serves { Serves self.new (P.SectorView.space space.new) }
     {
         find_file(
             alloc,
@@ -168,16 +164,12 @@ impl Volume {
         from: u64,
         long: u64,
     ) -> Result<Bytes, Trouble>
-        requires stands { StandsOver self.old (P.SectorView.space space.old) }
-        requires settled { IsTrue (P.SectorView.space space.old).tells → IsSettled self.old (P.SectorView.space space.old).content }
+        requires serves { Serves self.old (P.SectorView.space space.old) }
         requires there { IsTrue (P.SectorView.space space.old).tells → HasFile (records_of (volume_of (P.SectorView.space space.old).content)) file.now }
         requires few { long ≤ 65536 }
         ensures bytes { IsTrue (P.SectorView.space space.old).tells → IfOk result (λ bytes. bytes ≡ take long (drop from (file_bytes (P.SectorView.space space.old).content file.now))) }
-        ensures reads { ReadsVolume self.old self.new (P.SectorView.space space.old) (P.SectorView.space space.new) }
-        ensures stands { StandsOver self.new (P.SectorView.space space.new) }
-        ensures settled { IsTrue (P.SectorView.space space.old).tells → IsSettled self.new (P.SectorView.space space.new).content }
-        ensures below { P.SectorView.follows space.old space.new }
-        ensures cause { HasTroubleCause (P.SectorView.space space.old).faults (P.SectorView.space space.new).faults result }
+        ensures looked { Looked P.SectorView.space P.SectorView.follows self.old self.new space.old space.new result }
+        ensures serves { Serves self.new (P.SectorView.space space.new) }
     {
         let block = self.header.block_size;
         let list = load_extents(
@@ -211,16 +203,12 @@ impl Volume {
         from: u64,
         long: u64,
     ) -> Result<Reply, Trouble>
-        requires stands { StandsOver self.old (P.SectorView.space space.old) }
-        requires settled { IsTrue (P.SectorView.space space.old).tells → IsSettled self.old (P.SectorView.space space.old).content }
+        requires serves { Serves self.old (P.SectorView.space space.old) }
         requires fits { FitsPath path.now }
         // Told, the reply is that of the plain tree's step.
         ensures reply { IsTrue (P.SectorView.space space.old).tells → IfOk result (λ reply. reply ≡ (step_line (tree_of (P.SectorView.space space.old).content) (Ok (command.Read path.now from long))).0) }
-        ensures reads { ReadsVolume self.old self.new (P.SectorView.space space.old) (P.SectorView.space space.new) }
-        ensures stands { StandsOver self.new (P.SectorView.space space.new) }
-        ensures settled { IsTrue (P.SectorView.space space.old).tells → IsSettled self.new (P.SectorView.space space.new).content }
-        ensures below { P.SectorView.follows space.old space.new }
-        ensures cause { HasTroubleCause (P.SectorView.space space.old).faults (P.SectorView.space space.new).faults result }
+        ensures looked { Looked P.SectorView.space P.SectorView.follows self.old self.new space.old space.new result }
+        ensures serves { Serves self.new (P.SectorView.space space.new) }
     {
         if is_private_path(path) {
             return Ok(Reply::No(Refusal::Private));

@@ -1,14 +1,12 @@
 //! Why `ln`, `write` and `trunc` are refused.
 ghost use Rattle.std.specs.Prelude.{◌≡◌, ◌≤◌, false, Ok, IsTrue, IfOk};
-ghost use Rattle.btree_edit.specs.Causes.{HasTroubleCause};
 ghost use Rattle.hfs_language.specs.Written.{FitsPath};
 ghost use Rattle.hfs_language.specs.declared.command.Command.TheVariants as command;
 ghost use Rattle.hfs_model.specs.Step.{is_private_path, is_root, size_written, step_line};
 ghost use Rattle.hfs_volume.specs.TreeOf.{tree_of};
-ghost use Rattle.volume_base.specs.Looking.{ReadsVolume};
+ghost use Rattle.volume_base.specs.Frame.{Looked, Serves};
 ghost use Rattle.volume_base.specs.Making.{path_to};
 ghost use Rattle.volume_base.specs.Refusing.{against_growth, against_link, against_trunc, against_write, facts_or, is_exists, refusal_in};
-ghost use Rattle.volume_base.specs.Standing.{IsSettled, StandsOver};
 
 use crate::names::is_private_path;
 use crate::volume::Volume;
@@ -134,15 +132,11 @@ impl Volume {
         space: &mut P,
         path: &Path,
     ) -> Result<Result<Facts, Refusal>, Trouble>
-        requires stands { StandsOver self.old (P.SectorView.space space.old) }
-        requires settled { IsTrue (P.SectorView.space space.old).tells → IsSettled self.old (P.SectorView.space space.old).content }
+        requires serves { Serves self.old (P.SectorView.space space.old) }
         requires fits { FitsPath path.now }
         ensures told { IsTrue (P.SectorView.space space.old).tells → IfOk result (λ said. said ≡ facts_or (step_line (tree_of (P.SectorView.space space.old).content) (Ok (command.Stat path.now))).0) }
-        ensures reads { ReadsVolume self.old self.new (P.SectorView.space space.old) (P.SectorView.space space.new) }
-        ensures stands { StandsOver self.new (P.SectorView.space space.new) }
-        ensures settled { IsTrue (P.SectorView.space space.old).tells → IsSettled self.new (P.SectorView.space space.new).content }
-        ensures below { P.SectorView.follows space.old space.new }
-        ensures cause { HasTroubleCause (P.SectorView.space space.old).faults (P.SectorView.space space.new).faults result }
+        ensures looked { Looked P.SectorView.space P.SectorView.follows self.old self.new space.old space.new result }
+        ensures serves { Serves self.new (P.SectorView.space space.new) }
     {
         let reply = self.stat(alloc, space, path)?;
         Ok(facts_or(reply))
@@ -158,19 +152,15 @@ impl Volume {
         under: &[Units],
         name: &Units,
     ) -> Result<Option<Refusal>, Trouble>
-        requires stands { StandsOver self.old (P.SectorView.space space.old) }
-        requires settled { IsTrue (P.SectorView.space space.old).tells → IsSettled self.old (P.SectorView.space space.old).content }
+        requires serves { Serves self.old (P.SectorView.space space.old) }
         requires from_fits { FitsPath from.now }
         requires to_fits { FitsPath to.now }
         requires split { to.now ≡ path_to under.now name.now }
         requires not_own { is_private_path to.now ≡ false }
         requires not_root { is_root from.now ≡ false }
         ensures told { IsTrue (P.SectorView.space space.old).tells → IfOk result (λ said. said ≡ refusal_in (step_line (tree_of (P.SectorView.space space.old).content) (Ok (command.Ln from.now to.now))).0) }
-        ensures reads { ReadsVolume self.old self.new (P.SectorView.space space.old) (P.SectorView.space space.new) }
-        ensures stands { StandsOver self.new (P.SectorView.space space.new) }
-        ensures settled { IsTrue (P.SectorView.space space.old).tells → IsSettled self.new (P.SectorView.space space.new).content }
-        ensures below { P.SectorView.follows space.old space.new }
-        ensures cause { HasTroubleCause (P.SectorView.space space.old).faults (P.SectorView.space space.new).faults result }
+        ensures looked { Looked P.SectorView.space P.SectorView.follows self.old self.new space.old space.new result }
+        ensures serves { Serves self.new (P.SectorView.space space.new) }
     {
         sound_has_plain_tree();
         match self.facts(alloc, space, from)? {
@@ -190,16 +180,12 @@ impl Volume {
         from: &Path,
         to: &Path,
     ) -> Result<Option<Refusal>, Trouble>
-        requires stands { StandsOver self.old (P.SectorView.space space.old) }
-        requires settled { IsTrue (P.SectorView.space space.old).tells → IsSettled self.old (P.SectorView.space space.old).content }
+        requires serves { Serves self.old (P.SectorView.space space.old) }
         requires from_fits { FitsPath from.now }
         requires to_fits { FitsPath to.now }
         ensures told { IsTrue (P.SectorView.space space.old).tells → IfOk result (λ said. said ≡ refusal_in (step_line (tree_of (P.SectorView.space space.old).content) (Ok (command.Ln from.now to.now))).0) }
-        ensures reads { ReadsVolume self.old self.new (P.SectorView.space space.old) (P.SectorView.space space.new) }
-        ensures stands { StandsOver self.new (P.SectorView.space space.new) }
-        ensures settled { IsTrue (P.SectorView.space space.old).tells → IsSettled self.new (P.SectorView.space space.new).content }
-        ensures below { P.SectorView.follows space.old space.new }
-        ensures cause { HasTroubleCause (P.SectorView.space space.old).faults (P.SectorView.space space.new).faults result }
+        ensures looked { Looked P.SectorView.space P.SectorView.follows self.old self.new space.old space.new result }
+        ensures serves { Serves self.new (P.SectorView.space space.new) }
     {
         if is_private_path(from) {
             return Ok(Some(Refusal::Private));

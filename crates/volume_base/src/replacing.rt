@@ -1,8 +1,5 @@
 //! Another record of a folder or file, where it stands.
 ghost use Rattle.std.specs.Prelude.{ℕ, ◌≡◌, ◌≤◌, ◌+◌, List, Some, false, IsTrue, length, OnOk};
-ghost use Rattle.std.specs.List.{Contains};
-ghost use Rattle.sector_disk.specs.Lists.{Content};
-ghost use Rattle.btree_edit.specs.Causes.{HasTroubleCause};
 ghost use Rattle.catalog.specs.Entries.{IsOfKind};
 ghost use Rattle.btree_file.specs.Standing.{numbers_of};
 ghost use Rattle.btree_file.specs.State.{state_of};
@@ -12,10 +9,9 @@ ghost use Rattle.cat_records.specs.Fits.{FitsRecord};
 ghost use Rattle.hfs_volume.specs.Entries.{AreSpelled};
 ghost use Rattle.hfs_volume.specs.Records.{is_thread};
 ghost use Rattle.volume_base.specs.Changing.{HasRoomToUpdate, HasRoomToUpdates, ReplacesRecord, catalog_node};
+ghost use Rattle.volume_base.specs.Frame.{Edits};
 ghost use Rattle.volume_base.specs.Lists.{lists_of};
-ghost use Rattle.volume_base.specs.Service.{IsInService};
-ghost use Rattle.volume_base.specs.Standing.{StandsOver, own_sectors};
-ghost use Rattle.volume_base.specs.Touching.{Touches};
+ghost use Rattle.volume_base.specs.Standing.{StandsOver};
 
 use crate::entries::Entry;
 use crate::volume::Volume;
@@ -42,22 +38,15 @@ impl Volume {
         requires fits { FitsRecord rec.now }
         requires same_kind { IsOfKind rec.now entry.now.rec }
         requires room { HasRoomToUpdate self.old (P.SectorView.space space.old) }
-        ensures stands { OnOk result (StandsOver self.new (P.SectorView.space space.new)) }
-        ensures service { IsInService self.new (P.SectorView.space space.new) }
         // Nothing else of it is changed.
         ensures rest { self.new ≡ record self.old { catalog = self.new.catalog } }
         ensures replaces { IsTrue (P.SectorView.space space.old).tells → OnOk result (ReplacesRecord entry.now rec.now self.old self.new (P.SectorView.space space.old).content (P.SectorView.space space.new).content) }
-        // On a fault too, it puts sectors of its own alone, whatever was committed last; those of one node at most.
-        ensures touches { (committed : Content) → Touches committed (λ s. Contains (own_sectors self.old) s) (P.SectorView.space space.old) (P.SectorView.space space.new) }
-        ensures spent { IsTrue (P.SectorView.space space.old).tells → (P.SectorView.space space.old).spare ≤ (P.SectorView.space space.new).spare + catalog_node self.old }
+        ensures edits { Edits P.SectorView.space P.SectorView.follows (catalog_node self.old) self.old self.new space.old space.new result }
         // It is one update of the catalog's tree.
-        ensures edits { (names : List ℕ) → OnOk result (TakesUpdates 0 1 516 (state_of names self.old.catalog.file (P.SectorView.space space.old)) (state_of names self.new.catalog.file (P.SectorView.space space.new))) }
+        ensures updates { (names : List ℕ) → OnOk result (TakesUpdates 0 1 516 (state_of names self.old.catalog.file (P.SectorView.space space.old)) (state_of names self.new.catalog.file (P.SectorView.space space.new))) }
         // What is left of the room for so many updates suffices for the others.
         ensures room { (many : ℕ) → HasRoomToUpdates (many + 1) self.old (P.SectorView.space space.old) → OnOk result (HasRoomToUpdates many self.new (P.SectorView.space space.new)) }
-        ensures own { own_sectors self.new ≡ own_sectors self.old }
         ensures size { (numbers_of self.new.catalog.file).node_size ≡ (numbers_of self.old.catalog.file).node_size }
-        ensures below { P.SectorView.follows space.old space.new }
-        ensures cause { HasTroubleCause (P.SectorView.space space.old).faults (P.SectorView.space space.new).faults result }
     {
         // The least node size that the format allows the catalog (TN1150, "Catalog File").
         if self.catalog.file.shape().node_size < 4096 {

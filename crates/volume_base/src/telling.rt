@@ -1,12 +1,10 @@
 //! The commands that change nothing.
 ghost use Rattle.std.specs.Prelude.{◌≡◌, Ok, IsTrue, IfOk, IfSome, is_some};
-ghost use Rattle.btree_edit.specs.Causes.{HasTroubleCause};
 ghost use Rattle.hfs_language.specs.Written.{FitsCommand};
 ghost use Rattle.hfs_model.specs.Step.{only_reads};
 ghost use Rattle.volume_runs.specs.Run.{reply_to};
-ghost use Rattle.volume_base.specs.Looking.{ReadsVolume};
+ghost use Rattle.volume_base.specs.Frame.{Looked, Serves};
 ghost use Rattle.volume_base.specs.Room.{capacity_of};
-ghost use Rattle.volume_base.specs.Standing.{StandsOver, IsSettled};
 
 use crate::volume::Volume;
 use hfs_language::{Command, Reply};
@@ -24,17 +22,13 @@ impl Volume {
         space: &mut P,
         command: &Command,
     ) -> Result<Option<Reply>, Trouble>
-        requires stands { StandsOver self.old (P.SectorView.space space.old) }
-        requires settled { IsTrue (P.SectorView.space space.old).tells → IsSettled self.old (P.SectorView.space space.old).content }
+        requires serves { Serves self.old (P.SectorView.space space.old) }
         requires fits { FitsCommand command.now }
         ensures told { IfOk result (λ told. is_some told ≡ only_reads command.now) }
         // Where the space tells, a reply is that of the plain tree's step, or the gauge.
         ensures reply { IsTrue (P.SectorView.space space.old).tells → IfOk result (λ told. IfSome told (λ reply. reply ≡ reply_to (capacity_of self.old) (P.SectorView.space space.old).content (Ok command.now))) }
-        ensures reads { ReadsVolume self.old self.new (P.SectorView.space space.old) (P.SectorView.space space.new) }
-        ensures stands { StandsOver self.new (P.SectorView.space space.new) }
-        ensures settled { IsTrue (P.SectorView.space space.old).tells → IsSettled self.new (P.SectorView.space space.new).content }
-        ensures below { P.SectorView.follows space.old space.new }
-        ensures cause { HasTroubleCause (P.SectorView.space space.old).faults (P.SectorView.space space.new).faults result }
+        ensures looked { Looked P.SectorView.space P.SectorView.follows self.old self.new space.old space.new result }
+        ensures serves { Serves self.new (P.SectorView.space space.new) }
     {
         match command {
             Command::Ls(path) => Ok(Some(self.ls(alloc, space, path)?)),

@@ -1,18 +1,14 @@
 //! The folder above what a command makes, moves or removes.
 ghost use Rattle.std.specs.Prelude.{ℕ, ◌≡◌, ◌≤◌, ◌<◌, ◌+◌, ◌^◌, Some, false, true, IsTrue, length, OnOk};
-ghost use Rattle.std.specs.List.{Contains};
-ghost use Rattle.sector_disk.specs.Lists.{Content};
-ghost use Rattle.btree_edit.specs.Causes.{HasTroubleCause};
 ghost use Rattle.btree_file.specs.Standing.{numbers_of};
 ghost use Rattle.catalog.specs.Pairs.{value_at};
 ghost use Rattle.cat_records.specs.Fits.{FitsRecord};
 ghost use Rattle.hfs_volume.specs.Entries.{AreSpelled, AreThreaded};
 ghost use Rattle.hfs_volume.specs.Records.{id_in, is_folder, is_thread, valence_in};
-ghost use Rattle.volume_base.specs.Changing.{HasFolder, HasRoomToUpdate, HasRoomToUpdates, KeepsBlocks, TouchesFolder, catalog_node};
+ghost use Rattle.volume_base.specs.Changing.{HasFolder, HasRoomToUpdate, HasRoomToUpdates, TouchesFolder, catalog_node};
+ghost use Rattle.volume_base.specs.Frame.{Edits};
 ghost use Rattle.volume_base.specs.Lists.{lists_of};
-ghost use Rattle.volume_base.specs.Service.{IsInService};
-ghost use Rattle.volume_base.specs.Standing.{StandsOver, own_sectors};
-ghost use Rattle.volume_base.specs.Touching.{Touches};
+ghost use Rattle.volume_base.specs.Standing.{StandsOver};
 
 use crate::entries::Entry;
 use crate::fields::touched;
@@ -37,19 +33,12 @@ impl Volume {
         requires there { IsTrue (P.SectorView.space space.old).tells → value_at (lists_of self.old (P.SectorView.space space.old).content).catalog_pairs entry.now.parent entry.now.name ≡ Some entry.now.rec }
         requires fits { is_thread entry.now.rec ≡ false → FitsRecord entry.now.rec }
         requires room { HasRoomToUpdate self.old (P.SectorView.space space.old) }
-        ensures stands { OnOk result (StandsOver self.new (P.SectorView.space space.new)) }
-        ensures service { IsInService self.new (P.SectorView.space space.new) }
         ensures counts { IsTrue (P.SectorView.space space.old).tells → is_folder entry.now.rec ≡ true → valence_in entry.now.rec + up < 2 ^ 32
             → OnOk result (TouchesFolder (id_in entry.now.rec) up down self.old self.new (P.SectorView.space space.old).content (P.SectorView.space space.new).content) }
-        ensures blocks { KeepsBlocks self.old self.new }
-        ensures touches { (committed : Content) → Touches committed (λ s. Contains (own_sectors self.old) s) (P.SectorView.space space.old) (P.SectorView.space space.new) }
-        ensures spent { IsTrue (P.SectorView.space space.old).tells → (P.SectorView.space space.old).spare ≤ (P.SectorView.space space.new).spare + catalog_node self.old }
+        ensures edits { Edits P.SectorView.space P.SectorView.follows (catalog_node self.old) self.old self.new space.old space.new result }
         // What is left of the room for so many updates suffices for the others.
         ensures room { (many : ℕ) → HasRoomToUpdates (many + 1) self.old (P.SectorView.space space.old) → OnOk result (HasRoomToUpdates many self.new (P.SectorView.space space.new)) }
-        ensures own { own_sectors self.new ≡ own_sectors self.old }
         ensures size { (numbers_of self.new.catalog.file).node_size ≡ (numbers_of self.old.catalog.file).node_size }
-        ensures below { P.SectorView.follows space.old space.new }
-        ensures cause { HasTroubleCause (P.SectorView.space space.old).faults (P.SectorView.space space.new).faults result }
     {
         let Some(rec) = touched(self.header.modify_date, up, down, &entry.rec) else {
             return Ok(());
@@ -71,19 +60,11 @@ impl Volume {
         requires threads { IsTrue (P.SectorView.space space.old).tells → AreThreaded (lists_of self.old (P.SectorView.space space.old).content).catalog_pairs }
         requires there { IsTrue (P.SectorView.space space.old).tells → HasFolder id up (lists_of self.old (P.SectorView.space space.old).content).catalog_pairs }
         requires room { HasRoomToUpdate self.old (P.SectorView.space space.old) }
-        ensures stands { OnOk result (StandsOver self.new (P.SectorView.space space.new)) }
-        ensures service { IsInService self.new (P.SectorView.space space.new) }
         ensures counts { IsTrue (P.SectorView.space space.old).tells → OnOk result (TouchesFolder id up down self.old self.new (P.SectorView.space space.old).content (P.SectorView.space space.new).content) }
-        ensures blocks { KeepsBlocks self.old self.new }
-        // On a fault too, it puts sectors of its own alone, whatever was committed last; those of one node at most.
-        ensures touches { (committed : Content) → Touches committed (λ s. Contains (own_sectors self.old) s) (P.SectorView.space space.old) (P.SectorView.space space.new) }
-        ensures spent { IsTrue (P.SectorView.space space.old).tells → (P.SectorView.space space.old).spare ≤ (P.SectorView.space space.new).spare + catalog_node self.old }
+        ensures edits { Edits P.SectorView.space P.SectorView.follows (catalog_node self.old) self.old self.new space.old space.new result }
         // What is left of the room for so many updates suffices for the others.
         ensures room { (many : ℕ) → HasRoomToUpdates (many + 1) self.old (P.SectorView.space space.old) → OnOk result (HasRoomToUpdates many self.new (P.SectorView.space space.new)) }
-        ensures own { own_sectors self.new ≡ own_sectors self.old }
         ensures size { (numbers_of self.new.catalog.file).node_size ≡ (numbers_of self.old.catalog.file).node_size }
-        ensures below { P.SectorView.follows space.old space.new }
-        ensures cause { HasTroubleCause (P.SectorView.space space.old).faults (P.SectorView.space space.new).faults result }
     {
         match self.entry(alloc, space, id)? {
             Some(entry) => self.put_touched(alloc, space, &entry, up, down),

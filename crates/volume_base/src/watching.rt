@@ -9,10 +9,10 @@ ghost use Rattle.hfs_model.specs.Step.{is_private_path, reached};
 ghost use Rattle.hfs_model.specs.declared.plain.PlainEntry.{PlainEntry};
 ghost use Rattle.volume_runs.specs.Told.{of_entry};
 ghost use Rattle.hfs_volume.specs.TreeOf.{tree_of};
+ghost use Rattle.volume_base.specs.Frame.{Looked, Serves};
 ghost use Rattle.volume_base.specs.Lists.{lists_of};
-ghost use Rattle.volume_base.specs.Looking.{IsCatalogOver, ReadsTree, ReadsVolume};
+ghost use Rattle.volume_base.specs.Looking.{IsCatalogOver, ReadsTree};
 ghost use Rattle.volume_base.specs.Making.{path_to};
-ghost use Rattle.volume_base.specs.Standing.{IsSettled, StandsOver};
 ghost use Rattle.volume_base.specs.Watching.{change_of, standing_in};
 
 use crate::names::copy_name;
@@ -93,16 +93,12 @@ impl Volume {
         path: &[Units],
         above: &[Units],
     ) -> Result<Result<Standing, Refusal>, Trouble>
-        requires stands { StandsOver self.old (P.SectorView.space space.old) }
-        requires settled { IsTrue (P.SectorView.space space.old).tells → IsSettled self.old (P.SectorView.space space.old).content }
+        requires serves { Serves self.old (P.SectorView.space space.old) }
         requires fits { FitsPath path.now }
         requires above_fits { FitsPath above.now }
         ensures found { IsTrue (P.SectorView.space space.old).tells → IfOk result (λ said. said ≡ standing_in (lists_of self.old (P.SectorView.space space.old).content).catalog_pairs self.old.private path.now above.now) }
-        ensures reads { ReadsVolume self.old self.new (P.SectorView.space space.old) (P.SectorView.space space.new) }
-        ensures stands { StandsOver self.new (P.SectorView.space space.new) }
-        ensures settled { IsTrue (P.SectorView.space space.old).tells → IsSettled self.new (P.SectorView.space space.new).content }
-        ensures below { P.SectorView.follows space.old space.new }
-        ensures cause { HasTroubleCause (P.SectorView.space space.old).faults (P.SectorView.space space.new).faults result }
+        ensures looked { Looked P.SectorView.space P.SectorView.follows self.old self.new space.old space.new result }
+        ensures serves { Serves self.new (P.SectorView.space space.new) }
     {
         find_standing(
             alloc,
@@ -126,17 +122,13 @@ impl Volume {
         above: &[Units],
         name: &Units,
     ) -> Result<Changes, Trouble>
-        requires stands { StandsOver self.old (P.SectorView.space space.old) }
-        requires settled { IsTrue (P.SectorView.space space.old).tells → IsSettled self.old (P.SectorView.space space.old).content }
+        requires serves { Serves self.old (P.SectorView.space space.old) }
         requires fits { FitsPath path.now }
         requires split { path.now ≡ path_to above.now name.now }
         ensures told { IsTrue (P.SectorView.space space.old).tells → is_private_path path.now ≡ false → (entry : PlainEntry) → reached (tree_of (P.SectorView.space space.old).content) path.now ≡ Ok entry
             → IfOk result (λ changes. changes ≡ of_entry line kind (Ok entry)) }
-        ensures reads { ReadsVolume self.old self.new (P.SectorView.space space.old) (P.SectorView.space space.new) }
-        ensures stands { StandsOver self.new (P.SectorView.space space.new) }
-        ensures settled { IsTrue (P.SectorView.space space.old).tells → IsSettled self.new (P.SectorView.space space.new).content }
-        ensures below { P.SectorView.follows space.old space.new }
-        ensures cause { HasTroubleCause (P.SectorView.space space.old).faults (P.SectorView.space space.new).faults result }
+        ensures looked { Looked P.SectorView.space P.SectorView.follows self.old self.new space.old space.new result }
+        ensures serves { Serves self.new (P.SectorView.space space.new) }
     {
         sound_has_plain_tree();
         match self.standing(alloc, space, path.as_slice(), above)? {
@@ -155,17 +147,13 @@ impl Volume {
         kind: ChangeKind,
         path: &Path,
     ) -> Result<Changes, Trouble>
-        requires stands { StandsOver self.old (P.SectorView.space space.old) }
-        requires settled { IsTrue (P.SectorView.space space.old).tells → IsSettled self.old (P.SectorView.space space.old).content }
+        requires serves { Serves self.old (P.SectorView.space space.old) }
         requires fits { FitsPath path.now }
         // Where the path reaches something, it is what watchers are told of it.
         ensures told { IsTrue (P.SectorView.space space.old).tells → is_private_path path.now ≡ false → (entry : PlainEntry) → reached (tree_of (P.SectorView.space space.old).content) path.now ≡ Ok entry
             → IfOk result (λ changes. changes ≡ of_entry line kind (Ok entry)) }
-        ensures reads { ReadsVolume self.old self.new (P.SectorView.space space.old) (P.SectorView.space space.new) }
-        ensures stands { StandsOver self.new (P.SectorView.space space.new) }
-        ensures settled { IsTrue (P.SectorView.space space.old).tells → IsSettled self.new (P.SectorView.space space.new).content }
-        ensures below { P.SectorView.follows space.old space.new }
-        ensures cause { HasTroubleCause (P.SectorView.space space.old).faults (P.SectorView.space space.new).faults result }
+        ensures looked { Looked P.SectorView.space P.SectorView.follows self.old self.new space.old space.new result }
+        ensures serves { Serves self.new (P.SectorView.space space.new) }
     {
         match path.as_slice().split_last() {
             Some((name, above)) => self.change_under(alloc, space, line, kind, path, above, name),

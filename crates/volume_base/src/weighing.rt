@@ -4,8 +4,8 @@ ghost use Rattle.hfs_volume.specs.Content.{volume_of, has_attributes};
 ghost use Rattle.hfs_volume.specs.Cost.{cost_of};
 ghost use Rattle.hfs_volume.specs.Weight.{room_with};
 ghost use Rattle.volume_cost.specs.Sizes.{AreSmall};
+ghost use Rattle.volume_base.specs.Frame.{Serves};
 ghost use Rattle.volume_base.specs.Room.{capacity_of, free_in};
-ghost use Rattle.volume_base.specs.Standing.{IsSettled, StandsOver};
 ghost use Rattle.volume_base.specs.Weighing.{are_within, is_block, is_measured, needs_asked};
 
 use crate::room::FreeBlocks;
@@ -86,8 +86,7 @@ impl Volume {
     /// What edits cost, where these blocks count as free: the sectors that they put at most and the nodes by which each tree
     /// grows before, or the first resource that is missing.
     pub fn cost_of_edits<P: SectorSpace>(&self, _space: &P, free: FreeBlocks, edits: Edits) -> Cost
-        requires stands { StandsOver self.now (P.SectorView.space _space.now) }
-        requires settled { IsTrue (P.SectorView.space _space.now).tells → IsSettled self.now (P.SectorView.space _space.now).content }
+        requires serves { Serves self.now (P.SectorView.space _space.now) }
         // Attributes are edited only where there is an attributes file.
         requires tree { IsTrue (P.SectorView.space _space.now).tells → 0 < edits.attributes → IsTrue (has_attributes self.now.header) }
         // Told, it is what they cost a volume of this content with these free blocks.

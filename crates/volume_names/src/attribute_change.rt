@@ -1,9 +1,7 @@
 //! `setattr`: an attribute of a folder or file, set.
 ghost use Rattle.std.specs.Prelude.{◌≡◌, ◌<◌, ◌≤◌, ◌+◌, ℕ, List, Ok, Some, true, false, IsTrue, IfOk, length, OnOk};
 ghost use Rattle.std.specs.List.{Contains};
-ghost use Rattle.sector_disk.specs.Lists.{Content};
 ghost use Rattle.attributes.specs.Values.{AreInline, SetsValue};
-ghost use Rattle.btree_edit.specs.Causes.{HasTroubleCause};
 ghost use Rattle.catalog.specs.Pairs.{value_at};
 ghost use Rattle.cat_records.specs.Fits.{FitsRecord};
 ghost use Rattle.hfs_language.specs.Written.{FitsPath};
@@ -19,12 +17,10 @@ ghost use Rattle.hfs_volume.specs.TreeOf.{tree_of};
 ghost use Rattle.hfs_volume.specs.Weight.{weight};
 ghost use Rattle.hfs_volume.specs.declared.cost.Cost.TheVariants as cost;
 ghost use Rattle.volume_base.specs.Attributing.{ChangesOwned, HasRoomToMark, mark_load, set_answer};
-ghost use Rattle.volume_base.specs.Keeping.{shrunk_of};
+ghost use Rattle.volume_base.specs.Frame.{Edits, Serves};
 ghost use Rattle.volume_base.specs.Lists.{lists_of};
 ghost use Rattle.volume_base.specs.Room.{capacity_of};
-ghost use Rattle.volume_base.specs.Service.{IsInService};
-ghost use Rattle.volume_base.specs.Standing.{IsSettled, StandsOver, own_sectors};
-ghost use Rattle.volume_base.specs.Touching.{Touches};
+ghost use Rattle.volume_base.specs.Standing.{IsSettled, StandsOver};
 
 use crate::attributing::set;
 use crate::marking::put_mark;
@@ -57,18 +53,10 @@ fn put_value<P: SectorSpace>(
     requires name { length name.now ≤ 127 }
     requires long { length value.now ≤ 1700 }
     requires room { HasRoomToMark 2 volume.old (P.SectorView.space space.old) }
-    ensures stands { OnOk result (StandsOver volume.new (P.SectorView.space space.new)) }
-    ensures service { IsInService volume.new (P.SectorView.space space.new) }
     ensures header { volume.new.header ≡ volume.old.header }
-    ensures map { volume.new.map ≡ volume.old.map }
-    ensures capacity { capacity_of volume.new ≡ capacity_of volume.old }
-    ensures shrunk { shrunk_of volume.new ≡ shrunk_of volume.old }
     ensures sets { IsTrue (P.SectorView.space space.old).tells → is_thread entry.now.rec ≡ false
         → OnOk result (ChangesOwned (SetsValue id name.now value.now) true entry.now volume.old volume.new (P.SectorView.space space.old).content (P.SectorView.space space.new).content) }
-    ensures touches { (committed : Content) → Touches committed (λ s. Contains (own_sectors volume.old) s) (P.SectorView.space space.old) (P.SectorView.space space.new) }
-    ensures spent { IsTrue (P.SectorView.space space.old).tells → (P.SectorView.space space.old).spare ≤ (P.SectorView.space space.new).spare + mark_load 2 volume.old }
-    ensures below { P.SectorView.follows space.old space.new }
-    ensures cause { HasTroubleCause (P.SectorView.space space.old).faults (P.SectorView.space space.new).faults result }
+    ensures edits { Edits P.SectorView.space P.SectorView.follows (mark_load 2 volume.old) volume.old volume.new space.old space.new result }
 {
     edits_have_room();
     edits_take_their_load();
@@ -89,27 +77,18 @@ fn set_value_of<P: SectorSpace>(
     name: &Units,
     value: &[u8],
 ) -> Result<(), Trouble>
-    requires stands { StandsOver volume.old (P.SectorView.space space.old) }
-    requires settled { IsTrue (P.SectorView.space space.old).tells → IsSettled volume.old (P.SectorView.space space.old).content }
+    requires serves { Serves volume.old (P.SectorView.space space.old) }
     requires has { IsTrue (has_attributes volume.old.header) }
     requires some { 1 ≤ length name.now }
     requires name { length name.now ≤ 127 }
     requires long { length value.now ≤ 1700 }
     requires there { IsTrue (P.SectorView.space space.old).tells → (node : PlainNode) × Contains (tree_of (P.SectorView.space space.old).content).nodes node × (node.id ≡ id) }
     requires room { HasRoomToMark 2 volume.old (P.SectorView.space space.old) }
-    ensures stands { OnOk result (StandsOver volume.new (P.SectorView.space space.new)) }
-    ensures service { IsInService volume.new (P.SectorView.space space.new) }
     ensures header { volume.new.header ≡ volume.old.header }
-    ensures map { volume.new.map ≡ volume.old.map }
-    ensures capacity { capacity_of volume.new ≡ capacity_of volume.old }
-    ensures shrunk { shrunk_of volume.new ≡ shrunk_of volume.old }
     ensures does { IsTrue (P.SectorView.space space.old).tells → (path : List (List ℕ)) (node : PlainNode) → to_node (tree_of (P.SectorView.space space.old).content) path ≡ Ok node → node.id ≡ id
         → OnOk result (IsSettled volume.new (P.SectorView.space space.new).content × (tree_of (P.SectorView.space space.new).content ≡ (step (tree_of (P.SectorView.space space.old).content) (command.SetAttr path name.now value.now)).1)
         × SetsAttribute id name.now value.now (volume_of (P.SectorView.space space.old).content) (volume_of (P.SectorView.space space.new).content)) }
-    ensures touches { (committed : Content) → Touches committed (λ s. Contains (own_sectors volume.old) s) (P.SectorView.space space.old) (P.SectorView.space space.new) }
-    ensures spent { IsTrue (P.SectorView.space space.old).tells → (P.SectorView.space space.old).spare ≤ (P.SectorView.space space.new).spare + mark_load 2 volume.old }
-    ensures below { P.SectorView.follows space.old space.new }
-    ensures cause { HasTroubleCause (P.SectorView.space space.old).faults (P.SectorView.space space.new).faults result }
+    ensures edits { Edits P.SectorView.space P.SectorView.follows (mark_load 2 volume.old) volume.old volume.new space.old space.new result }
 {
     setattr_does_its_step();
     soundness_has_two_halves();
@@ -132,8 +111,7 @@ pub fn setattr<P: SectorSpace>(
     name: &Units,
     value: &[u8],
 ) -> Result<Reply, Trouble>
-    requires stands { StandsOver volume.old (P.SectorView.space space.old) }
-    requires settled { IsTrue (P.SectorView.space space.old).tells → IsSettled volume.old (P.SectorView.space space.old).content }
+    requires serves { Serves volume.old (P.SectorView.space space.old) }
     requires fits { FitsPath path.now }
     requires some { 1 ≤ length name.now }
     requires name { length name.now ≤ 127 }
@@ -148,20 +126,11 @@ pub fn setattr<P: SectorSpace>(
     ensures lists { IsTrue (P.SectorView.space space.old).tells → IfOk result (λ said. said ≡ reply.Ok → (node : PlainNode) × (to_node (tree_of (P.SectorView.space space.old).content) path.now ≡ Ok node) × SetsAttribute node.id name.now value.now (volume_of (P.SectorView.space space.old).content) (volume_of (P.SectorView.space space.new).content)) }
     // The header and the blocks in use are as they were.
     ensures header { volume.new.header ≡ volume.old.header }
-    ensures map { volume.new.map ≡ volume.old.map }
-    ensures capacity { capacity_of volume.new ≡ capacity_of volume.old }
-    ensures shrunk { shrunk_of volume.new ≡ shrunk_of volume.old }
-    ensures stands { OnOk result (StandsOver volume.new (P.SectorView.space space.new)) }
-    ensures settled { IsTrue (P.SectorView.space space.old).tells → OnOk result (IsSettled volume.new (P.SectorView.space space.new).content) }
-    ensures service { IsInService volume.new (P.SectorView.space space.new) }
-    // On a fault too, it puts sectors of its own alone, whatever was committed last.
-    ensures touches { (committed : Content) → Touches committed (λ s. Contains (own_sectors volume.old) s) (P.SectorView.space space.old) (P.SectorView.space space.new) }
-    ensures spent { IsTrue (P.SectorView.space space.old).tells → (P.SectorView.space space.old).spare ≤ (P.SectorView.space space.new).spare + mark_load 2 volume.old }
+    ensures serves { OnOk result (Serves volume.new (P.SectorView.space space.new)) }
+    ensures edits { Edits P.SectorView.space P.SectorView.follows (mark_load 2 volume.old) volume.old volume.new space.old space.new result }
     // What its load names bounds the sectors that it puts.
     ensures loads { IsTrue (P.SectorView.space space.old).tells → (n : ℕ) (grow : List ℕ) → weight (capacity_of volume.old) (volume_of (P.SectorView.space space.old).content) (tree_of (P.SectorView.space space.old).content) (command.SetAttr path.now name.now value.now) ≡ cost.Load n grow
         → (P.SectorView.space space.old).spare ≤ (P.SectorView.space space.new).spare + n }
-    ensures below { P.SectorView.follows space.old space.new }
-    ensures cause { HasTroubleCause (P.SectorView.space space.old).faults (P.SectorView.space space.new).faults result }
 {
     if is_private_path(path) {
         return Ok(Reply::No(Refusal::Private));

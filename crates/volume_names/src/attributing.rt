@@ -1,19 +1,15 @@
 //! Changes of the attributes of a volume in service.
 ghost use Rattle.std.specs.Prelude.{◌≡◌, ◌≤◌, ℕ, List, IsTrue, length, OnOk};
-ghost use Rattle.std.specs.List.{Contains};
-ghost use Rattle.sector_disk.specs.Lists.{Content};
 ghost use Rattle.attributes.specs.Values.{AreInline, SetsValue};
-ghost use Rattle.btree_edit.specs.Causes.{HasTroubleCause};
 ghost use Rattle.btree_edit.specs.Edits.{EditRoom, TakesAtMost};
 ghost use Rattle.btree_file.specs.Frame.{FollowsOn};
 ghost use Rattle.btree_file.specs.Standing.{numbers_of};
 ghost use Rattle.btree_file.specs.State.{state_of};
 ghost use Rattle.hfs_volume.specs.Content.{has_attributes};
 ghost use Rattle.volume_base.specs.Attributing.{ChangesAttributes};
+ghost use Rattle.volume_base.specs.Frame.{Edits};
 ghost use Rattle.volume_base.specs.Lists.{lists_of};
-ghost use Rattle.volume_base.specs.Service.{IsInService};
-ghost use Rattle.volume_base.specs.Standing.{StandsOver, own_sectors};
-ghost use Rattle.volume_base.specs.Touching.{Touches};
+ghost use Rattle.volume_base.specs.Standing.{StandsOver};
 
 use crate::valuing::set_value;
 use attributes::SetAnswer;
@@ -39,18 +35,12 @@ pub(crate) fn set<P: SectorSpace>(
     requires name { length name.now ≤ 127 }
     requires long { length value.now ≤ 1700 }
     requires room { (names : List ℕ) → IsTrue (P.SectorView.space space.old).tells → EditRoom 2 266 (state_of names volume.old.attributes.file (P.SectorView.space space.old)) }
-    // Behind an answer it stands, and behind a fault it is in service.
-    ensures stands { OnOk result (StandsOver volume.new (P.SectorView.space space.new)) }
-    ensures service { IsInService volume.new (P.SectorView.space space.new) }
     // Nothing else of it is changed.
     ensures rest { volume.new ≡ record volume.old { attributes = volume.new.attributes } }
     ensures sets { IsTrue (P.SectorView.space space.old).tells → OnOk result (ChangesAttributes (SetsValue id name.now value.now) volume.old volume.new (P.SectorView.space space.old).content (P.SectorView.space space.new).content) }
-    // On a fault too, it puts sectors of its own alone, whatever was committed last.
-    ensures touches { (committed : Content) → Touches committed (λ s. Contains (own_sectors volume.old) s) (P.SectorView.space space.old) (P.SectorView.space space.new) }
+    ensures edits { Edits P.SectorView.space P.SectorView.follows (P.SectorView.space space.old).spare volume.old volume.new space.old space.new result }
     ensures takes { (names : List ℕ) → TakesAtMost 2 266 (state_of names volume.old.attributes.file (P.SectorView.space space.old)) (state_of names volume.new.attributes.file (P.SectorView.space space.new)) }
     ensures frame { FollowsOn volume.old.attributes.file volume.new.attributes.file (P.SectorView.space space.old) (P.SectorView.space space.new) }
-    ensures below { P.SectorView.follows space.old space.new }
-    ensures cause { HasTroubleCause (P.SectorView.space space.old).faults (P.SectorView.space space.new).faults result }
 {
     set_value(
         alloc,

@@ -1,7 +1,5 @@
 //! The attributes of a folder or file, removed.
 ghost use Rattle.std.specs.Prelude.{◌≡◌, ◌≤◌, ℕ, List, IsTrue, OnOk, length};
-ghost use Rattle.std.specs.List.{Contains};
-ghost use Rattle.sector_disk.specs.Lists.{Content};
 ghost use Rattle.attributes.specs.Owned.{names_of};
 ghost use Rattle.attributes.specs.Values.{AreInline};
 ghost use Rattle.btree_edit.specs.Causes.{HasTroubleCause};
@@ -16,10 +14,9 @@ ghost use Rattle.hfs_volume.specs.Changes.{AreSortedAttributes, DropsAttribute};
 ghost use Rattle.hfs_volume.specs.Commands.{DropsAttributes};
 ghost use Rattle.hfs_volume.specs.Content.{has_attributes};
 ghost use Rattle.volume_base.specs.Attributing.{ChangesAttributes};
+ghost use Rattle.volume_base.specs.Frame.{Edits};
 ghost use Rattle.volume_base.specs.Lists.{lists_of};
-ghost use Rattle.volume_base.specs.Service.{IsInService};
-ghost use Rattle.volume_base.specs.Standing.{StandsOver, own_sectors};
-ghost use Rattle.volume_base.specs.Touching.{Touches};
+ghost use Rattle.volume_base.specs.Standing.{StandsOver};
 
 use btree_edit::Desk;
 use btree_file::TreeFile;
@@ -109,18 +106,12 @@ pub(crate) fn bare<P: SectorSpace>(
     requires listed { IsTrue (P.SectorView.space space.old).tells → owned.now ≡ names_of id (lists_of volume.old (P.SectorView.space space.old).content).attribute_pairs }
     requires size { 4096 ≤ volume.old.attributes.file.shape.node_size }
     requires room { (names : List ℕ) → IsTrue (P.SectorView.space space.old).tells → EditRoom (length owned.now) 266 (state_of names volume.old.attributes.file (P.SectorView.space space.old)) }
-    // Behind an answer it stands, and behind a fault it is in service.
-    ensures stands { OnOk result (StandsOver volume.new (P.SectorView.space space.new)) }
-    ensures service { IsInService volume.new (P.SectorView.space space.new) }
     // Nothing else of it is changed.
     ensures rest { volume.new ≡ record volume.old { attributes = volume.new.attributes } }
     ensures bares { IsTrue (P.SectorView.space space.old).tells → OnOk result (ChangesAttributes (DropsAttributes id) volume.old volume.new (P.SectorView.space space.old).content (P.SectorView.space space.new).content) }
-    // On a fault too, it puts sectors of its own alone, whatever was committed last.
-    ensures touches { (committed : Content) → Touches committed (λ s. Contains (own_sectors volume.old) s) (P.SectorView.space space.old) (P.SectorView.space space.new) }
+    ensures edits { Edits P.SectorView.space P.SectorView.follows (P.SectorView.space space.old).spare volume.old volume.new space.old space.new result }
     ensures takes { (names : List ℕ) → TakesAtMost (length owned.now) 266 (state_of names volume.old.attributes.file (P.SectorView.space space.old)) (state_of names volume.new.attributes.file (P.SectorView.space space.new)) }
     ensures frame { FollowsOn volume.old.attributes.file volume.new.attributes.file (P.SectorView.space space.old) (P.SectorView.space space.new) }
-    ensures below { P.SectorView.follows space.old space.new }
-    ensures cause { HasTroubleCause (P.SectorView.space space.old).faults (P.SectorView.space space.new).faults result }
 {
     drop_owned(
         alloc,

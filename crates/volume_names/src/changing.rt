@@ -1,8 +1,5 @@
 //! Changes of the catalog of a volume in service.
 ghost use Rattle.std.specs.Prelude.{◌≡◌, ◌≤◌, ℕ, List, [], None, false, IsTrue, length, OnOk, IfOk};
-ghost use Rattle.std.specs.List.{Contains};
-ghost use Rattle.sector_disk.specs.Lists.{Content};
-ghost use Rattle.btree_edit.specs.Causes.{HasTroubleCause};
 ghost use Rattle.btree_edit.specs.Edits.{EditRoom, TakesAtMost, TakesEdits};
 ghost use Rattle.btree_file.specs.Frame.{FollowsOn};
 ghost use Rattle.btree_file.specs.Standing.{numbers_of, pairs_in};
@@ -10,9 +7,8 @@ ghost use Rattle.btree_file.specs.State.{sectors_of_tree, state_of};
 ghost use Rattle.catalog.specs.Entries.{AnswersAdd, Adding};
 ghost use Rattle.cat_records.specs.Fits.{FitsRecord};
 ghost use Rattle.hfs_volume.specs.Records.{placed_in, record_at, id_in, is_thread};
-ghost use Rattle.volume_base.specs.Service.{IsInService};
-ghost use Rattle.volume_base.specs.Standing.{StandsOver, own_sectors};
-ghost use Rattle.volume_base.specs.Touching.{Touches};
+ghost use Rattle.volume_base.specs.Frame.{Edits};
+ghost use Rattle.volume_base.specs.Standing.{StandsOver};
 
 use crate::editing::add_entry;
 use btree_edit::Inserted;
@@ -39,20 +35,14 @@ pub(crate) fn add<P: SectorSpace>(
     requires fits { FitsRecord rec.now }
     requires unused { IsTrue (P.SectorView.space space.old).tells → record_at (placed_in (pairs_in (sectors_of_tree volume.old.catalog.file) (P.SectorView.space space.old).content)) (id_in rec.now) [] ≡ None }
     requires room { (names : List ℕ) → IsTrue (P.SectorView.space space.old).tells → EditRoom 2 516 (state_of names volume.old.catalog.file (P.SectorView.space space.old)) }
-    // Behind an answer it stands, and behind a fault it is in service.
-    ensures stands { OnOk result (StandsOver volume.new (P.SectorView.space space.new)) }
-    ensures service { IsInService volume.new (P.SectorView.space space.new) }
     // Nothing else of it is changed.
     ensures rest { volume.new ≡ record volume.old { catalog = volume.new.catalog } }
     ensures answer { IsTrue (P.SectorView.space space.old).tells → IfOk result (λ answer. AnswersAdd (record_at (placed_in (pairs_in (sectors_of_tree volume.old.catalog.file) (P.SectorView.space space.old).content)) parent name.now) answer) }
     ensures added { IsTrue (P.SectorView.space space.old).tells → IfOk result (λ answer. Adding (record { parent = parent; name = name.now; value = rec.now }) (pairs_in (sectors_of_tree volume.old.catalog.file) (P.SectorView.space space.old).content) (pairs_in (sectors_of_tree volume.old.catalog.file) (P.SectorView.space space.new).content) answer) }
-    // On a fault too, it puts sectors of its own alone, whatever was committed last.
-    ensures touches { (committed : Content) → Touches committed (λ s. Contains (own_sectors volume.old) s) (P.SectorView.space space.old) (P.SectorView.space space.new) }
+    ensures edits { Edits P.SectorView.space P.SectorView.follows (P.SectorView.space space.old).spare volume.old volume.new space.old space.new result }
     ensures frame { FollowsOn volume.old.catalog.file volume.new.catalog.file (P.SectorView.space space.old) (P.SectorView.space space.new) }
-    ensures edits { (names : List ℕ) → OnOk result (TakesEdits 2 516 (state_of names volume.old.catalog.file (P.SectorView.space space.old)) (state_of names volume.new.catalog.file (P.SectorView.space space.new))) }
+    ensures takes_edits { (names : List ℕ) → OnOk result (TakesEdits 2 516 (state_of names volume.old.catalog.file (P.SectorView.space space.old)) (state_of names volume.new.catalog.file (P.SectorView.space space.new))) }
     ensures takes { (names : List ℕ) → TakesAtMost 2 516 (state_of names volume.old.catalog.file (P.SectorView.space space.old)) (state_of names volume.new.catalog.file (P.SectorView.space space.new)) }
-    ensures below { P.SectorView.follows space.old space.new }
-    ensures cause { HasTroubleCause (P.SectorView.space space.old).faults (P.SectorView.space space.new).faults result }
 {
     add_entry(
         alloc,

@@ -1,8 +1,5 @@
 //! `ln` of a file with one name: what is done in the catalog, and the private folder made where there is none.
 ghost use Rattle.std.specs.Prelude.{◌≡◌, ◌≤◌, ◌<◌, ◌+◌, ◌*◌, ◌^◌, ℕ, List, None, Some, IsTrue, length, OnOk};
-ghost use Rattle.std.specs.List.{Contains};
-ghost use Rattle.sector_disk.specs.Lists.{Content};
-ghost use Rattle.btree_edit.specs.Causes.{HasTroubleCause};
 ghost use Rattle.btree_file.specs.Standing.{numbers_of};
 ghost use Rattle.hfs_language.specs.declared.command.Command.TheVariants as command;
 ghost use Rattle.hfs_model.specs.Step.{step};
@@ -13,16 +10,15 @@ ghost use Rattle.hfs_volume.specs.Naming.{LinksFirst};
 ghost use Rattle.hfs_volume.specs.Records.{placed_in, record_at};
 ghost use Rattle.hfs_volume.specs.TreeOf.{tree_of};
 ghost use Rattle.volume_names.specs.LinkLoads.{PutsItsLoad};
-ghost use Rattle.volume_base.specs.Changing.{KeepsBlocks, catalog_node};
+ghost use Rattle.volume_base.specs.Changing.{catalog_node};
+ghost use Rattle.volume_base.specs.Frame.{Edits, Serves};
 ghost use Rattle.volume_base.specs.Linking.{IsLinking};
 ghost use Rattle.volume_names.specs.Linking.{LinksAnew};
 ghost use Rattle.volume_base.specs.Lists.{lists_of};
 ghost use Rattle.volume_base.specs.Losing.{IsOnlyName};
 ghost use Rattle.volume_base.specs.Making.{HasRoomToMake, free_place};
-ghost use Rattle.volume_base.specs.Service.{IsInService};
 ghost use Rattle.volume_names.specs.EditsLeft.{FirstLinkFits, HasEditsLeft, IsReadyToShare, to_put_header};
-ghost use Rattle.volume_base.specs.Standing.{IsSettled, StandsOver, own_sectors};
-ghost use Rattle.volume_base.specs.Touching.{Touches};
+ghost use Rattle.volume_base.specs.Standing.{IsSettled};
 
 use crate::fitting::{fits_first, fits_share};
 use crate::linking::link_date;
@@ -50,8 +46,7 @@ fn link_under<P: SectorSpace>(
     number: u32,
     created: u32,
 ) -> Result<(), Trouble>
-    requires stands { StandsOver volume.old (P.SectorView.space space.old) }
-    requires settled { IsTrue (P.SectorView.space space.old).tells → IsSettled volume.old (P.SectorView.space space.old).content }
+    requires serves { Serves volume.old (P.SectorView.space space.old) }
     requires some { 1 ≤ length name.now }
     requires name { length name.now ≤ 255 }
     requires some_old { 1 ≤ length old.now }
@@ -65,17 +60,12 @@ fn link_under<P: SectorSpace>(
     requires only { IsTrue (P.SectorView.space space.old).tells → IsOnlyName (record { parent = way.now.parent; name = old.now }) (lists_of volume.old (P.SectorView.space space.old).content).catalog_pairs }
     requires links { IsTrue (P.SectorView.space space.old).tells → (from to : List (List ℕ)) × (at : PlainEntry) × IsLinking (tree_of (P.SectorView.space space.old).content) from to at way.now.parent old.now way.now.id way.now.folder name.now }
     requires room { IsReadyToShare volume.old (P.SectorView.space space.old) }
-    ensures stands { OnOk result (StandsOver volume.new (P.SectorView.space space.new)) }
-    ensures service { IsInService volume.new (P.SectorView.space space.new) }
     ensures does { IsTrue (P.SectorView.space space.old).tells → (from to : List (List ℕ)) (at : PlainEntry) → IsLinking (tree_of (P.SectorView.space space.old).content) from to at way.now.parent old.now way.now.id way.now.folder name.now
         → OnOk result (IsSettled volume.new (P.SectorView.space space.new).content × (tree_of (P.SectorView.space space.new).content ≡ (step (tree_of (P.SectorView.space space.old).content) (command.Ln from to)).1)
         × LinksFirst at (free_place way.now.folder name.now) (volume_of (P.SectorView.space space.old).content) (volume_of (P.SectorView.space space.new).content)) }
-    ensures blocks { KeepsBlocks volume.old volume.new }
-    ensures touches { (committed : Content) → Touches committed (λ s. Contains (own_sectors volume.old) s) (P.SectorView.space space.old) (P.SectorView.space space.new) }
+    ensures edits { Edits P.SectorView.space P.SectorView.follows (P.SectorView.space space.old).spare volume.old volume.new space.old space.new result }
     // Sectors that its edits have room beside are left, on a fault too, but for those of three updates.
     ensures leaves { IsTrue (P.SectorView.space space.old).tells → (beside : ℕ) → HasEditsLeft 7 (to_put_header (P.SectorView.space space.old) + beside) volume.old (P.SectorView.space space.old) → beside ≤ (P.SectorView.space space.new).spare + 3 * catalog_node volume.old }
-    ensures below { P.SectorView.follows space.old space.new }
-    ensures cause { HasTroubleCause (P.SectorView.space space.old).faults (P.SectorView.space space.new).faults result }
 {
     ln_does_its_step();
     share(
@@ -98,8 +88,7 @@ fn link_ready<P: SectorSpace>(
     private: u32,
     created: u32,
 ) -> Result<(), Trouble>
-    requires stands { StandsOver volume.old (P.SectorView.space space.old) }
-    requires settled { IsTrue (P.SectorView.space space.old).tells → IsSettled volume.old (P.SectorView.space space.old).content }
+    requires serves { Serves volume.old (P.SectorView.space space.old) }
     requires some { 1 ≤ length name.now }
     requires name { length name.now ≤ 255 }
     requires some_old { 1 ≤ length old.now }
@@ -109,17 +98,12 @@ fn link_ready<P: SectorSpace>(
     requires links { IsTrue (P.SectorView.space space.old).tells → (from to : List (List ℕ)) × (at : PlainEntry) × IsLinking (tree_of (P.SectorView.space space.old).content) from to at way.now.parent old.now way.now.id way.now.folder name.now }
     requires ids { IsTrue (P.SectorView.space space.old).tells → volume.old.header.next_catalog_id + 2 < 2 ^ 32 }
     requires left { FirstLinkFits volume.old (P.SectorView.space space.old) }
-    ensures stands { OnOk result (StandsOver volume.new (P.SectorView.space space.new)) }
-    ensures service { IsInService volume.new (P.SectorView.space space.new) }
     ensures does { IsTrue (P.SectorView.space space.old).tells → (from to : List (List ℕ)) (at : PlainEntry) → IsLinking (tree_of (P.SectorView.space space.old).content) from to at way.now.parent old.now way.now.id way.now.folder name.now
         → OnOk result (IsSettled volume.new (P.SectorView.space space.new).content × (tree_of (P.SectorView.space space.new).content ≡ (step (tree_of (P.SectorView.space space.old).content) (command.Ln from to)).1)
         × LinksFirst at (free_place way.now.folder name.now) (volume_of (P.SectorView.space space.old).content) (volume_of (P.SectorView.space space.new).content)) }
-    ensures blocks { KeepsBlocks volume.old volume.new }
-    ensures touches { (committed : Content) → Touches committed (λ s. Contains (own_sectors volume.old) s) (P.SectorView.space space.old) (P.SectorView.space space.new) }
+    ensures edits { Edits P.SectorView.space P.SectorView.follows (P.SectorView.space space.old).spare volume.old volume.new space.old space.new result }
     // Sectors that its edits have room beside are left, on a fault too, but for those of three updates.
     ensures leaves { IsTrue (P.SectorView.space space.old).tells → (beside : ℕ) → HasEditsLeft 7 (to_put_header (P.SectorView.space space.old) + beside) volume.old (P.SectorView.space space.old) → beside ≤ (P.SectorView.space space.new).spare + 3 * catalog_node volume.old }
-    ensures below { P.SectorView.follows space.old space.new }
-    ensures cause { HasTroubleCause (P.SectorView.space space.old).faults (P.SectorView.space space.new).faults result }
 {
     // The least node size that the format allows the catalog (TN1150, "Catalog File").
     if volume.catalog.file.shape().node_size < 4096 {
@@ -148,8 +132,7 @@ fn link_first<P: SectorSpace>(
     private: u32,
     created: u32,
 ) -> Result<(), Trouble>
-    requires stands { StandsOver volume.old (P.SectorView.space space.old) }
-    requires settled { IsTrue (P.SectorView.space space.old).tells → IsSettled volume.old (P.SectorView.space space.old).content }
+    requires serves { Serves volume.old (P.SectorView.space space.old) }
     requires some { 1 ≤ length name.now }
     requires name { length name.now ≤ 255 }
     requires some_old { 1 ≤ length old.now }
@@ -157,18 +140,13 @@ fn link_first<P: SectorSpace>(
     requires private { volume.old.private ≡ Some private }
     requires only { IsTrue (P.SectorView.space space.old).tells → IsOnlyName (record { parent = way.now.parent; name = old.now }) (lists_of volume.old (P.SectorView.space space.old).content).catalog_pairs }
     requires links { IsTrue (P.SectorView.space space.old).tells → (from to : List (List ℕ)) × (at : PlainEntry) × IsLinking (tree_of (P.SectorView.space space.old).content) from to at way.now.parent old.now way.now.id way.now.folder name.now }
-    ensures stands { OnOk result (StandsOver volume.new (P.SectorView.space space.new)) }
-    ensures service { IsInService volume.new (P.SectorView.space space.new) }
     ensures does { IsTrue (P.SectorView.space space.old).tells → (from to : List (List ℕ)) (at : PlainEntry) → IsLinking (tree_of (P.SectorView.space space.old).content) from to at way.now.parent old.now way.now.id way.now.folder name.now
         → OnOk result (IsSettled volume.new (P.SectorView.space space.new).content × (tree_of (P.SectorView.space space.new).content ≡ (step (tree_of (P.SectorView.space space.old).content) (command.Ln from to)).1)
         × LinksFirst at (free_place way.now.folder name.now) (volume_of (P.SectorView.space space.old).content) (volume_of (P.SectorView.space space.new).content)) }
-    ensures blocks { KeepsBlocks volume.old volume.new }
-    ensures touches { (committed : Content) → Touches committed (λ s. Contains (own_sectors volume.old) s) (P.SectorView.space space.old) (P.SectorView.space space.new) }
+    ensures edits { Edits P.SectorView.space P.SectorView.follows (P.SectorView.space space.old).spare volume.old volume.new space.old space.new result }
     // On a fault too, it puts no more sectors than its load names.
     ensures loads { IsTrue (P.SectorView.space space.old).tells → (from to : List (List ℕ)) (at : PlainEntry) → IsLinking (tree_of (P.SectorView.space space.old).content) from to at way.now.parent old.now way.now.id way.now.folder name.now
         → PutsItsLoad (command.Ln from to) volume.old (P.SectorView.space space.old) (P.SectorView.space space.new) }
-    ensures below { P.SectorView.follows space.old space.new }
-    ensures cause { HasTroubleCause (P.SectorView.space space.old).faults (P.SectorView.space space.new).faults result }
 {
     edits_have_room();
     if !fits_share(volume, space) {
@@ -187,8 +165,7 @@ fn link_dated<P: SectorSpace>(
     name: &Units,
     private: u32,
 ) -> Result<(), Trouble>
-    requires stands { StandsOver volume.old (P.SectorView.space space.old) }
-    requires settled { IsTrue (P.SectorView.space space.old).tells → IsSettled volume.old (P.SectorView.space space.old).content }
+    requires serves { Serves volume.old (P.SectorView.space space.old) }
     requires some { 1 ≤ length name.now }
     requires name { length name.now ≤ 255 }
     requires some_old { 1 ≤ length old.now }
@@ -198,17 +175,12 @@ fn link_dated<P: SectorSpace>(
     requires links { IsTrue (P.SectorView.space space.old).tells → (from to : List (List ℕ)) × (at : PlainEntry) × IsLinking (tree_of (P.SectorView.space space.old).content) from to at way.now.parent old.now way.now.id way.now.folder name.now }
     requires ids { IsTrue (P.SectorView.space space.old).tells → volume.old.header.next_catalog_id + 2 < 2 ^ 32 }
     requires left { FirstLinkFits volume.old (P.SectorView.space space.old) }
-    ensures stands { OnOk result (StandsOver volume.new (P.SectorView.space space.new)) }
-    ensures service { IsInService volume.new (P.SectorView.space space.new) }
     ensures does { IsTrue (P.SectorView.space space.old).tells → (from to : List (List ℕ)) (at : PlainEntry) → IsLinking (tree_of (P.SectorView.space space.old).content) from to at way.now.parent old.now way.now.id way.now.folder name.now
         → OnOk result (IsSettled volume.new (P.SectorView.space space.new).content × (tree_of (P.SectorView.space space.new).content ≡ (step (tree_of (P.SectorView.space space.old).content) (command.Ln from to)).1)
         × LinksFirst at (free_place way.now.folder name.now) (volume_of (P.SectorView.space space.old).content) (volume_of (P.SectorView.space space.new).content)) }
-    ensures blocks { KeepsBlocks volume.old volume.new }
-    ensures touches { (committed : Content) → Touches committed (λ s. Contains (own_sectors volume.old) s) (P.SectorView.space space.old) (P.SectorView.space space.new) }
+    ensures edits { Edits P.SectorView.space P.SectorView.follows (P.SectorView.space space.old).spare volume.old volume.new space.old space.new result }
     // Sectors that its edits have room beside are left, on a fault too, but for those of three updates.
     ensures leaves { IsTrue (P.SectorView.space space.old).tells → (beside : ℕ) → HasEditsLeft 7 (to_put_header (P.SectorView.space space.old) + beside) volume.old (P.SectorView.space space.old) → beside ≤ (P.SectorView.space space.new).spare + 3 * catalog_node volume.old }
-    ensures below { P.SectorView.follows space.old space.new }
-    ensures cause { HasTroubleCause (P.SectorView.space space.old).faults (P.SectorView.space space.new).faults result }
 {
     let created = link_date(volume, alloc, space)?;
     link_ready(volume, alloc, space, way, old, name, private, created)
@@ -224,8 +196,7 @@ fn link_anew<P: SectorSpace>(
     old: &Units,
     name: &Units,
 ) -> Result<(), Trouble>
-    requires stands { StandsOver volume.old (P.SectorView.space space.old) }
-    requires settled { IsTrue (P.SectorView.space space.old).tells → IsSettled volume.old (P.SectorView.space space.old).content }
+    requires serves { Serves volume.old (P.SectorView.space space.old) }
     requires some { 1 ≤ length name.now }
     requires name { length name.now ≤ 255 }
     requires some_old { 1 ≤ length old.now }
@@ -234,18 +205,13 @@ fn link_anew<P: SectorSpace>(
     requires only { IsTrue (P.SectorView.space space.old).tells → IsOnlyName (record { parent = way.now.parent; name = old.now }) (lists_of volume.old (P.SectorView.space space.old).content).catalog_pairs }
     requires links { IsTrue (P.SectorView.space space.old).tells → (from to : List (List ℕ)) × (at : PlainEntry) × IsLinking (tree_of (P.SectorView.space space.old).content) from to at way.now.parent old.now way.now.id way.now.folder name.now }
     requires room { HasRoomToMake volume.old (P.SectorView.space space.old) }
-    ensures stands { OnOk result (StandsOver volume.new (P.SectorView.space space.new)) }
-    ensures service { IsInService volume.new (P.SectorView.space space.new) }
     ensures does { IsTrue (P.SectorView.space space.old).tells → (from to : List (List ℕ)) (at : PlainEntry) → IsLinking (tree_of (P.SectorView.space space.old).content) from to at way.now.parent old.now way.now.id way.now.folder name.now
         → OnOk result (IsSettled volume.new (P.SectorView.space space.new).content × (tree_of (P.SectorView.space space.new).content ≡ (step (tree_of (P.SectorView.space space.old).content) (command.Ln from to)).1)
         × LinksAnew at (free_place way.now.folder name.now) (P.SectorView.space space.old).content (P.SectorView.space space.new).content) }
-    ensures blocks { KeepsBlocks volume.old volume.new }
-    ensures touches { (committed : Content) → Touches committed (λ s. Contains (own_sectors volume.old) s) (P.SectorView.space space.old) (P.SectorView.space space.new) }
+    ensures edits { Edits P.SectorView.space P.SectorView.follows (P.SectorView.space space.old).spare volume.old volume.new space.old space.new result }
     // On a fault too, it puts no more sectors than its load names.
     ensures loads { IsTrue (P.SectorView.space space.old).tells → (from to : List (List ℕ)) (at : PlainEntry) → IsLinking (tree_of (P.SectorView.space space.old).content) from to at way.now.parent old.now way.now.id way.now.folder name.now
         → PutsItsLoad (command.Ln from to) volume.old (P.SectorView.space space.old) (P.SectorView.space space.new) }
-    ensures below { P.SectorView.follows space.old space.new }
-    ensures cause { HasTroubleCause (P.SectorView.space space.old).faults (P.SectorView.space space.new).faults result }
 {
     header_may_change();
     sound_has_plain_tree();
@@ -270,8 +236,7 @@ pub(crate) fn link_own<P: SectorSpace>(
     name: &Units,
     created: u32,
 ) -> Result<(), Trouble>
-    requires stands { StandsOver volume.old (P.SectorView.space space.old) }
-    requires settled { IsTrue (P.SectorView.space space.old).tells → IsSettled volume.old (P.SectorView.space space.old).content }
+    requires serves { Serves volume.old (P.SectorView.space space.old) }
     requires some { 1 ≤ length name.now }
     requires name { length name.now ≤ 255 }
     requires some_old { 1 ≤ length old.now }
@@ -279,18 +244,13 @@ pub(crate) fn link_own<P: SectorSpace>(
     requires only { IsTrue (P.SectorView.space space.old).tells → IsOnlyName (record { parent = way.now.parent; name = old.now }) (lists_of volume.old (P.SectorView.space space.old).content).catalog_pairs }
     requires links { IsTrue (P.SectorView.space space.old).tells → (from to : List (List ℕ)) × (at : PlainEntry) × IsLinking (tree_of (P.SectorView.space space.old).content) from to at way.now.parent old.now way.now.id way.now.folder name.now }
     requires room { HasRoomToMake volume.old (P.SectorView.space space.old) }
-    ensures stands { OnOk result (StandsOver volume.new (P.SectorView.space space.new)) }
-    ensures service { IsInService volume.new (P.SectorView.space space.new) }
     ensures does { IsTrue (P.SectorView.space space.old).tells → (from to : List (List ℕ)) (at : PlainEntry) → IsLinking (tree_of (P.SectorView.space space.old).content) from to at way.now.parent old.now way.now.id way.now.folder name.now
         → OnOk result (IsSettled volume.new (P.SectorView.space space.new).content × (tree_of (P.SectorView.space space.new).content ≡ (step (tree_of (P.SectorView.space space.old).content) (command.Ln from to)).1)
         × LinksAnew at (free_place way.now.folder name.now) (P.SectorView.space space.old).content (P.SectorView.space space.new).content) }
-    ensures blocks { KeepsBlocks volume.old volume.new }
-    ensures touches { (committed : Content) → Touches committed (λ s. Contains (own_sectors volume.old) s) (P.SectorView.space space.old) (P.SectorView.space space.new) }
+    ensures edits { Edits P.SectorView.space P.SectorView.follows (P.SectorView.space space.old).spare volume.old volume.new space.old space.new result }
     // On a fault too, it puts no more sectors than its load names.
     ensures loads { IsTrue (P.SectorView.space space.old).tells → (from to : List (List ℕ)) (at : PlainEntry) → IsLinking (tree_of (P.SectorView.space space.old).content) from to at way.now.parent old.now way.now.id way.now.folder name.now
         → PutsItsLoad (command.Ln from to) volume.old (P.SectorView.space space.old) (P.SectorView.space space.new) }
-    ensures below { P.SectorView.follows space.old space.new }
-    ensures cause { HasTroubleCause (P.SectorView.space space.old).faults (P.SectorView.space space.new).faults result }
 {
     match volume.private {
         Some(private) => link_first(volume, alloc, space, way, old, name, private, created),

@@ -1,15 +1,15 @@
 //! Whether there is room for a command now, by what its edits cost.
-ghost use Rattle.std.specs.Prelude.{◌≡◌, ◌<◌, ◌≤◌, ◌+◌, ◌*◌, ◌^◌, ◌==◌, false, None, IsTrue};
+ghost use Rattle.std.specs.Prelude.{◌≡◌, ◌<◌, ◌+◌, ◌*◌, ◌^◌, ◌==◌, false, None, IsTrue};
 ghost use Rattle.hfs_volume.specs.Content.{has_attributes};
 ghost use Rattle.volume_base.specs.Attributing.{HasRoomToMark};
 ghost use Rattle.volume_base.specs.Fitting.{AreMet, wants};
+ghost use Rattle.volume_base.specs.Frame.{Serves};
 ghost use Rattle.volume_base.specs.Losing.{HasRoomToLose};
 ghost use Rattle.volume_base.specs.Making.{HasRoomToMake};
 ghost use Rattle.volume_base.specs.Moving.{HasRoomToMove};
 ghost use Rattle.volume_base.specs.Removing.{HasRoomToBare};
 ghost use Rattle.volume_base.specs.Changing.{catalog_node};
 ghost use Rattle.volume_names.specs.EditsLeft.{FirstLinkFits, HasLoadFor};
-ghost use Rattle.volume_base.specs.Standing.{IsSettled, StandsOver};
 ghost use Rattle.volume_base.specs.Unlinking.{HasRoomToUnlinkLast};
 
 use sector_disk::SectorSpace;
@@ -26,8 +26,7 @@ fn leaves_id(next: u32) -> bool
 
 /// Whether there is room to make a folder or file.
 pub fn fits_make<P: SectorSpace>(volume: &Volume, space: &P) -> bool
-    requires stands { StandsOver volume.now (P.SectorView.space space.now) }
-    requires settled { IsTrue (P.SectorView.space space.now).tells → IsSettled volume.now (P.SectorView.space space.now).content }
+    requires serves { Serves volume.now (P.SectorView.space space.now) }
     ensures room { IsTrue result → HasRoomToMake volume.now (P.SectorView.space space.now) }
     ensures met { IsTrue (P.SectorView.space space.now).tells → AreMet (wants 1 2 0 1) volume.now (P.SectorView.space space.now) → IsTrue result }
 {
@@ -50,8 +49,7 @@ pub fn fits_make<P: SectorSpace>(volume: &Volume, space: &P) -> bool
 
 /// Whether there is room to remove a folder with so many attributes, by what it costs.
 pub fn fits_bare<P: SectorSpace>(volume: &Volume, space: &P, many: u32) -> bool
-    requires stands { StandsOver volume.now (P.SectorView.space space.now) }
-    requires settled { IsTrue (P.SectorView.space space.now).tells → IsSettled volume.now (P.SectorView.space space.now).content }
+    requires serves { Serves volume.now (P.SectorView.space space.now) }
     ensures room { IsTrue result → HasRoomToBare many volume.now (P.SectorView.space space.now) }
     ensures met { IsTrue (P.SectorView.space space.now).tells → (has_attributes volume.now.header ≡ false → many ≡ 0) → AreMet (wants 0 2 many 1) volume.now (P.SectorView.space space.now) → IsTrue result }
 {
@@ -71,8 +69,7 @@ pub fn fits_bare<P: SectorSpace>(volume: &Volume, space: &P, many: u32) -> bool
 
 /// The same of a folder that has some.
 pub(crate) fn fits_owner<P: SectorSpace>(volume: &Volume, space: &P, many: usize) -> bool
-    requires stands { StandsOver volume.now (P.SectorView.space space.now) }
-    requires settled { IsTrue (P.SectorView.space space.now).tells → IsSettled volume.now (P.SectorView.space space.now).content }
+    requires serves { Serves volume.now (P.SectorView.space space.now) }
     ensures some { IsTrue result → 0 < many }
     ensures room { IsTrue result → HasRoomToBare many volume.now (P.SectorView.space space.now) }
 {
@@ -87,8 +84,7 @@ pub(crate) fn fits_owner<P: SectorSpace>(volume: &Volume, space: &P, many: usize
 
 /// Whether there is room to move a folder or file.
 pub fn fits_move<P: SectorSpace>(volume: &Volume, space: &P) -> bool
-    requires stands { StandsOver volume.now (P.SectorView.space space.now) }
-    requires settled { IsTrue (P.SectorView.space space.now).tells → IsSettled volume.now (P.SectorView.space space.now).content }
+    requires serves { Serves volume.now (P.SectorView.space space.now) }
     ensures room { IsTrue result → HasRoomToMove volume.now (P.SectorView.space space.now) }
     ensures met { IsTrue (P.SectorView.space space.now).tells → AreMet (wants 0 3 0 3) volume.now (P.SectorView.space space.now) → IsTrue result }
 {
@@ -105,8 +101,7 @@ pub fn fits_move<P: SectorSpace>(volume: &Volume, space: &P) -> bool
 
 /// Whether there are CNIDs and room for a file's first link, where the private folder is there.
 pub(crate) fn fits_share<P: SectorSpace>(volume: &Volume, space: &P) -> bool
-    requires stands { StandsOver volume.now (P.SectorView.space space.now) }
-    requires settled { IsTrue (P.SectorView.space space.now).tells → IsSettled volume.now (P.SectorView.space space.now).content }
+    requires serves { Serves volume.now (P.SectorView.space space.now) }
     ensures ids { IsTrue result → IsTrue (P.SectorView.space space.now).tells → volume.now.header.next_catalog_id + 2 < 2 ^ 32 }
     ensures left { IsTrue result → FirstLinkFits volume.now (P.SectorView.space space.now) }
     ensures load { IsTrue result → HasLoadFor 7 (1 + 3 * catalog_node volume.now) volume.now (P.SectorView.space space.now) }
@@ -126,8 +121,7 @@ pub(crate) fn fits_share<P: SectorSpace>(volume: &Volume, space: &P) -> bool
 
 /// Whether there are CNIDs and room to make the private folder, and then for a file's first link.
 pub(crate) fn fits_first<P: SectorSpace>(volume: &Volume, space: &P) -> bool
-    requires stands { StandsOver volume.now (P.SectorView.space space.now) }
-    requires settled { IsTrue (P.SectorView.space space.now).tells → IsSettled volume.now (P.SectorView.space space.now).content }
+    requires serves { Serves volume.now (P.SectorView.space space.now) }
     ensures ids { IsTrue result → IsTrue (P.SectorView.space space.now).tells → volume.now.header.next_catalog_id + 3 < 2 ^ 32 }
     ensures load { IsTrue result → HasLoadFor 9 (1 + (catalog_node volume.now + 3 * catalog_node volume.now)) volume.now (P.SectorView.space space.now) }
     ensures met { IsTrue (P.SectorView.space space.now).tells → AreMet (wants 3 9 0 4) volume.now (P.SectorView.space space.now) → IsTrue result }
@@ -145,8 +139,7 @@ pub(crate) fn fits_first<P: SectorSpace>(volume: &Volume, space: &P) -> bool
 
 /// Whether there is room to make the private folder, and then to put a file aside into it.
 pub(crate) fn fits_aside<P: SectorSpace>(volume: &Volume, space: &P) -> bool
-    requires stands { StandsOver volume.now (P.SectorView.space space.now) }
-    requires settled { IsTrue (P.SectorView.space space.now).tells → IsSettled volume.now (P.SectorView.space space.now).content }
+    requires serves { Serves volume.now (P.SectorView.space space.now) }
     ensures load { IsTrue result → HasLoadFor 5 (1 + (catalog_node volume.now + 2 * catalog_node volume.now)) volume.now (P.SectorView.space space.now) }
     ensures met { IsTrue (P.SectorView.space space.now).tells → AreMet (wants 1 5 0 4) volume.now (P.SectorView.space space.now) → IsTrue result }
 {
@@ -163,8 +156,7 @@ pub(crate) fn fits_aside<P: SectorSpace>(volume: &Volume, space: &P) -> bool
 
 /// Whether there is room for the edits by which a file loses its last link.
 pub(crate) fn fits_unlink_last<P: SectorSpace>(volume: &Volume, space: &P) -> bool
-    requires stands { StandsOver volume.now (P.SectorView.space space.now) }
-    requires settled { IsTrue (P.SectorView.space space.now).tells → IsSettled volume.now (P.SectorView.space space.now).content }
+    requires serves { Serves volume.now (P.SectorView.space space.now) }
     ensures { IsTrue result → HasRoomToUnlinkLast volume.now (P.SectorView.space space.now) }
 {
     a_load_says_enough();
@@ -183,8 +175,7 @@ pub(crate) fn fits_unlink_last<P: SectorSpace>(volume: &Volume, space: &P) -> bo
 
 /// Whether there is room to make the private folder, and then to put a file aside into it.
 fn fits_open<P: SectorSpace>(volume: &Volume, space: &P) -> bool
-    requires stands { StandsOver volume.now (P.SectorView.space space.now) }
-    requires settled { IsTrue (P.SectorView.space space.now).tells → IsSettled volume.now (P.SectorView.space space.now).content }
+    requires serves { Serves volume.now (P.SectorView.space space.now) }
     ensures room { IsTrue result → HasRoomToMake volume.now (P.SectorView.space space.now) }
     ensures met { IsTrue (P.SectorView.space space.now).tells → volume.now.private ≡ None → AreMet (wants 1 2 0 1) volume.now (P.SectorView.space space.now) → AreMet (wants 1 5 0 4) volume.now (P.SectorView.space space.now) → IsTrue result }
 {
@@ -197,8 +188,7 @@ fn fits_open<P: SectorSpace>(volume: &Volume, space: &P) -> bool
 
 /// Whether there is room for a file to lose a name: where it is the only one and there is no private folder, it is made before.
 pub fn fits_lose<P: SectorSpace>(volume: &Volume, space: &P) -> bool
-    requires stands { StandsOver volume.now (P.SectorView.space space.now) }
-    requires settled { IsTrue (P.SectorView.space space.now).tells → IsSettled volume.now (P.SectorView.space space.now).content }
+    requires serves { Serves volume.now (P.SectorView.space space.now) }
     ensures room { IsTrue result → HasRoomToLose volume.now (P.SectorView.space space.now) }
     ensures met { IsTrue (P.SectorView.space space.now).tells → AreMet (wants 0 2 0 1) volume.now (P.SectorView.space space.now) → (volume.now.private ≡ None → AreMet (wants 1 2 0 1) volume.now (P.SectorView.space space.now) × AreMet (wants 1 5 0 4) volume.now (P.SectorView.space space.now)) → IsTrue result }
 {
@@ -213,8 +203,7 @@ pub fn fits_lose<P: SectorSpace>(volume: &Volume, space: &P) -> bool
 
 /// Whether there is room to set an attribute and to mark its owner.
 pub fn fits_setattr<P: SectorSpace>(volume: &Volume, space: &P) -> bool
-    requires stands { StandsOver volume.now (P.SectorView.space space.now) }
-    requires settled { IsTrue (P.SectorView.space space.now).tells → IsSettled volume.now (P.SectorView.space space.now).content }
+    requires serves { Serves volume.now (P.SectorView.space space.now) }
     ensures room { IsTrue result → HasRoomToMark 2 volume.now (P.SectorView.space space.now) }
     ensures met { IsTrue (P.SectorView.space space.now).tells → AreMet (wants 0 0 2 1) volume.now (P.SectorView.space space.now) → IsTrue result }
 {

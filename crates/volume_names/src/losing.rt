@@ -1,7 +1,6 @@
 //! `rm`: a file loses its only name.
 ghost use Rattle.std.specs.Prelude.{◌≡◌, ◌≤◌, ◌+◌, ◌*◌, ℕ, List, Ok, Some, false, true, IsTrue, IfOk, length, None, OnOk};
-ghost use Rattle.std.specs.List.{All, Contains};
-ghost use Rattle.sector_disk.specs.Lists.{Content};
+ghost use Rattle.std.specs.List.{All};
 ghost use Rattle.btree_edit.specs.Causes.{HasTroubleCause};
 ghost use Rattle.btree_file.specs.Standing.{numbers_of, pairs_in};
 ghost use Rattle.btree_file.specs.State.{sectors_of_tree};
@@ -13,9 +12,10 @@ ghost use Rattle.hfs_model.specs.Step.{is_private_path, is_refusal, step, step_l
 ghost use Rattle.hfs_model.specs.declared.plain.PlainEntry.{PlainEntry};
 ghost use Rattle.hfs_volume.specs.Records.{is_link_type};
 ghost use Rattle.hfs_volume.specs.TreeOf.{tree_of};
-ghost use Rattle.volume_base.specs.Changing.{HasRoomToUpdate, KeepsBlocks, catalog_node};
+ghost use Rattle.volume_base.specs.Changing.{HasRoomToUpdate, catalog_node};
+ghost use Rattle.volume_base.specs.Frame.{Edits, Looked, Serves};
 ghost use Rattle.volume_base.specs.Lists.{lists_of};
-ghost use Rattle.volume_base.specs.Looking.{IsCatalogOver, ReadsTree, ReadsVolume};
+ghost use Rattle.volume_base.specs.Looking.{IsCatalogOver, ReadsTree};
 ghost use Rattle.volume_names.specs.Losing.{Buries, HasLost, Hides, Loses, LosesName};
 ghost use Rattle.volume_base.specs.Losing.{HasRoomToLose, IsLoss, IsOnlyName, losing_under, place_of, to_lose};
 ghost use Rattle.volume_base.specs.Making.{HasRoomToMake, path_to};
@@ -24,9 +24,7 @@ ghost use Rattle.volume_names.specs.EditsLeft.{HasEditsLeft};
 ghost use Rattle.volume_names.specs.LinkLoads.{PutsItsLoad};
 ghost use Rattle.volume_names.specs.LossLoads.{NoneOr, SpendsFor, SpendsLoss, SpendsShared};
 ghost use Rattle.volume_base.specs.Removing.{HasRoomToRemove};
-ghost use Rattle.volume_base.specs.Service.{IsInService};
-ghost use Rattle.volume_base.specs.Standing.{IsSettled, StandsOver, own_sectors};
-ghost use Rattle.volume_base.specs.Touching.{Touches};
+ghost use Rattle.volume_base.specs.Standing.{IsSettled};
 ghost use Rattle.volume_names.specs.Unlinking.{LosesLink};
 
 use crate::fitting::{fits_aside, fits_move};
@@ -121,16 +119,12 @@ fn losing<P: SectorSpace>(
     above: &[Units],
     name: &Units,
 ) -> Result<Result<Losing, Refusal>, Trouble>
-    requires stands { StandsOver volume.old (P.SectorView.space space.old) }
-    requires settled { IsTrue (P.SectorView.space space.old).tells → IsSettled volume.old (P.SectorView.space space.old).content }
+    requires serves { Serves volume.old (P.SectorView.space space.old) }
     requires fits { FitsPath above.now }
     requires name { length name.now ≤ 255 }
     ensures found { IsTrue (P.SectorView.space space.old).tells → IfOk result (λ said. said ≡ losing_under (lists_of volume.old (P.SectorView.space space.old).content).catalog_pairs above.now name.now) }
-    ensures reads { ReadsVolume volume.old volume.new (P.SectorView.space space.old) (P.SectorView.space space.new) }
-    ensures stands { StandsOver volume.new (P.SectorView.space space.new) }
-    ensures settled { IsTrue (P.SectorView.space space.old).tells → IsSettled volume.new (P.SectorView.space space.new).content }
-    ensures below { P.SectorView.follows space.old space.new }
-    ensures cause { HasTroubleCause (P.SectorView.space space.old).faults (P.SectorView.space space.new).faults result }
+    ensures looked { Looked P.SectorView.space P.SectorView.follows volume.old volume.new space.old space.new result }
+    ensures serves { Serves volume.new (P.SectorView.space space.new) }
 {
     find_losing(
         alloc,
@@ -150,8 +144,7 @@ fn hide<P: SectorSpace>(
     private: u32,
     at: &EntryAt,
 ) -> Result<(), Trouble>
-    requires stands { StandsOver volume.old (P.SectorView.space space.old) }
-    requires settled { IsTrue (P.SectorView.space space.old).tells → IsSettled volume.old (P.SectorView.space space.old).content }
+    requires serves { Serves volume.old (P.SectorView.space space.old) }
     requires size { 4096 ≤ (numbers_of volume.old.catalog.file).node_size }
     requires some { 1 ≤ length at.now.name }
     requires name { length at.now.name ≤ 255 }
@@ -160,20 +153,13 @@ fn hide<P: SectorSpace>(
     requires loses { IsTrue (P.SectorView.space space.old).tells → (path : List (List ℕ)) × (entry : PlainEntry) × IsLoss (tree_of (P.SectorView.space space.old).content) path entry at.now }
     // The edits have room beside the two records that are updated behind them.
     requires left { HasEditsLeft 3 (2 * catalog_node volume.old) volume.old (P.SectorView.space space.old) }
-    ensures stands { OnOk result (StandsOver volume.new (P.SectorView.space space.new)) }
-    ensures service { IsInService volume.new (P.SectorView.space space.new) }
     ensures hides { IsTrue (P.SectorView.space space.old).tells → OnOk result (Hides private at.now volume.old volume.new (P.SectorView.space space.old).content (P.SectorView.space space.new).content) }
-    ensures blocks { KeepsBlocks volume.old volume.new }
-    ensures own { own_sectors volume.new ≡ own_sectors volume.old }
-    ensures touches { (committed : Content) → Touches committed (λ s. Contains (own_sectors volume.old) s) (P.SectorView.space space.old) (P.SectorView.space space.new) }
-    ensures spent { IsTrue (P.SectorView.space space.old).tells → (P.SectorView.space space.old).spare ≤ (P.SectorView.space space.new).spare + leave_load volume.old }
+    ensures edits { Edits P.SectorView.space P.SectorView.follows (leave_load volume.old) volume.old volume.new space.old space.new result }
     // There is room to update the folder that it was in.
     ensures room { OnOk result (HasRoomToUpdate volume.new (P.SectorView.space space.new)) }
     ensures size { OnOk result ((numbers_of volume.new.catalog.file).node_size ≡ (numbers_of volume.old.catalog.file).node_size) }
     // Sectors that its edits have room beside are left, on a fault too, but for those of an update.
     ensures leaves { IsTrue (P.SectorView.space space.old).tells → (beside : ℕ) → HasEditsLeft 3 beside volume.old (P.SectorView.space space.old) → beside ≤ (P.SectorView.space space.new).spare + catalog_node volume.old }
-    ensures below { P.SectorView.follows space.old space.new }
-    ensures cause { HasTroubleCause (P.SectorView.space space.old).faults (P.SectorView.space space.new).faults result }
 {
     edits_take_their_load();
     set_aside(volume, alloc, space, private, at)?;
@@ -189,8 +175,7 @@ fn bury<P: SectorSpace>(
     private: u32,
     at: &EntryAt,
 ) -> Result<(), Trouble>
-    requires stands { StandsOver volume.old (P.SectorView.space space.old) }
-    requires settled { IsTrue (P.SectorView.space space.old).tells → IsSettled volume.old (P.SectorView.space space.old).content }
+    requires serves { Serves volume.old (P.SectorView.space space.old) }
     requires some { 1 ≤ length at.now.name }
     requires name { length at.now.name ≤ 255 }
     requires private { volume.old.private ≡ Some private }
@@ -198,18 +183,12 @@ fn bury<P: SectorSpace>(
     requires loses { IsTrue (P.SectorView.space space.old).tells → (path : List (List ℕ)) × (entry : PlainEntry) × IsLoss (tree_of (P.SectorView.space space.old).content) path entry at.now }
     // The edits have room beside the two records that are updated behind them.
     requires left { HasEditsLeft 3 (2 * catalog_node volume.old) volume.old (P.SectorView.space space.old) }
-    ensures stands { OnOk result (StandsOver volume.new (P.SectorView.space space.new)) }
-    ensures service { IsInService volume.new (P.SectorView.space space.new) }
     ensures does { IsTrue (P.SectorView.space space.old).tells → (path : List (List ℕ)) (entry : PlainEntry) → IsLoss (tree_of (P.SectorView.space space.old).content) path entry at.now
         → OnOk result (IsSettled volume.new (P.SectorView.space space.new).content × (tree_of (P.SectorView.space space.new).content ≡ (step (tree_of (P.SectorView.space space.old).content) (command.Rm path)).1)
         × Buries entry (P.SectorView.space space.old).content (P.SectorView.space space.new).content) }
-    ensures blocks { KeepsBlocks volume.old volume.new }
-    ensures touches { (committed : Content) → Touches committed (λ s. Contains (own_sectors volume.old) s) (P.SectorView.space space.old) (P.SectorView.space space.new) }
-    ensures spent { IsTrue (P.SectorView.space space.old).tells → (P.SectorView.space space.old).spare ≤ (P.SectorView.space space.new).spare + (leave_load volume.old + catalog_node volume.old) }
+    ensures edits { Edits P.SectorView.space P.SectorView.follows (leave_load volume.old + catalog_node volume.old) volume.old volume.new space.old space.new result }
     // Sectors that its edits have room beside are left, on a fault too, but for those of two updates.
     ensures leaves { IsTrue (P.SectorView.space space.old).tells → (beside : ℕ) → HasEditsLeft 3 beside volume.old (P.SectorView.space space.old) → beside ≤ (P.SectorView.space space.new).spare + 2 * catalog_node volume.old }
-    ensures below { P.SectorView.follows space.old space.new }
-    ensures cause { HasTroubleCause (P.SectorView.space space.old).faults (P.SectorView.space space.new).faults result }
 {
     rm_does_its_step();
     // The least node size that the format allows the catalog (TN1150, "Catalog File").
@@ -228,24 +207,18 @@ fn bury_first<P: SectorSpace>(
     space: &mut P,
     at: &EntryAt,
 ) -> Result<(), Trouble>
-    requires stands { StandsOver volume.old (P.SectorView.space space.old) }
-    requires settled { IsTrue (P.SectorView.space space.old).tells → IsSettled volume.old (P.SectorView.space space.old).content }
+    requires serves { Serves volume.old (P.SectorView.space space.old) }
     requires some { 1 ≤ length at.now.name }
     requires name { length at.now.name ≤ 255 }
     requires absent { volume.old.private ≡ None }
     requires only { IsTrue (P.SectorView.space space.old).tells → IsOnlyName at.now (lists_of volume.old (P.SectorView.space space.old).content).catalog_pairs }
     requires loses { IsTrue (P.SectorView.space space.old).tells → (path : List (List ℕ)) × (entry : PlainEntry) × IsLoss (tree_of (P.SectorView.space space.old).content) path entry at.now }
     requires room { HasRoomToMake volume.old (P.SectorView.space space.old) }
-    ensures stands { OnOk result (StandsOver volume.new (P.SectorView.space space.new)) }
-    ensures service { IsInService volume.new (P.SectorView.space space.new) }
     ensures does { IsTrue (P.SectorView.space space.old).tells → (path : List (List ℕ)) (entry : PlainEntry) → IsLoss (tree_of (P.SectorView.space space.old).content) path entry at.now
         → OnOk result (IsSettled volume.new (P.SectorView.space space.new).content × (tree_of (P.SectorView.space space.new).content ≡ (step (tree_of (P.SectorView.space space.old).content) (command.Rm path)).1)
         × Loses entry (P.SectorView.space space.old).content (P.SectorView.space space.new).content) }
-    ensures blocks { KeepsBlocks volume.old volume.new }
-    ensures touches { (committed : Content) → Touches committed (λ s. Contains (own_sectors volume.old) s) (P.SectorView.space space.old) (P.SectorView.space space.new) }
+    ensures edits { Edits P.SectorView.space P.SectorView.follows (P.SectorView.space space.old).spare volume.old volume.new space.old space.new result }
     ensures spends { IsTrue (P.SectorView.space space.old).tells → NoneOr (SpendsFor 5 volume.old (P.SectorView.space space.old) (P.SectorView.space space.new)) (P.SectorView.space space.old) (P.SectorView.space space.new) }
-    ensures below { P.SectorView.follows space.old space.new }
-    ensures cause { HasTroubleCause (P.SectorView.space space.old).faults (P.SectorView.space space.new).faults result }
 {
     header_may_change();
     rm_does_its_step();
@@ -268,8 +241,7 @@ fn lose_link<P: SectorSpace>(
     at: Losing,
     name: &Units,
 ) -> Result<(), Trouble>
-    requires stands { StandsOver volume.old (P.SectorView.space space.old) }
-    requires settled { IsTrue (P.SectorView.space space.old).tells → IsSettled volume.old (P.SectorView.space space.old).content }
+    requires serves { Serves volume.old (P.SectorView.space space.old) }
     requires some { 1 ≤ length name.now }
     requires name { length name.now ≤ 255 }
     requires fits { FitsPath path.now }
@@ -277,16 +249,11 @@ fn lose_link<P: SectorSpace>(
     requires link { IsTrue (P.SectorView.space space.old).tells → NamesLink (place_of at name.now) (lists_of volume.old (P.SectorView.space space.old).content).catalog_pairs }
     requires loses { IsTrue (P.SectorView.space space.old).tells → (entry : PlainEntry) × IsLoss (tree_of (P.SectorView.space space.old).content) path.now entry (place_of at name.now) }
     requires room { HasRoomToRemove volume.old (P.SectorView.space space.old) }
-    ensures stands { OnOk result (StandsOver volume.new (P.SectorView.space space.new)) }
-    ensures service { IsInService volume.new (P.SectorView.space space.new) }
     ensures does { IsTrue (P.SectorView.space space.old).tells → (entry : PlainEntry) → IsLoss (tree_of (P.SectorView.space space.old).content) path.now entry (place_of at name.now)
         → OnOk result (IsSettled volume.new (P.SectorView.space space.new).content × (tree_of (P.SectorView.space space.new).content ≡ (step (tree_of (P.SectorView.space space.old).content) (command.Rm path.now)).1)
         × LosesLink entry (P.SectorView.space space.old).content (P.SectorView.space space.new).content) }
-    ensures blocks { KeepsBlocks volume.old volume.new }
-    ensures touches { (committed : Content) → Touches committed (λ s. Contains (own_sectors volume.old) s) (P.SectorView.space space.old) (P.SectorView.space space.new) }
+    ensures edits { Edits P.SectorView.space P.SectorView.follows (P.SectorView.space space.old).spare volume.old volume.new space.old space.new result }
     ensures spends { IsTrue (P.SectorView.space space.old).tells → (entry : PlainEntry) → IsLoss (tree_of (P.SectorView.space space.old).content) path.now entry (place_of at name.now) → NoneOr (SpendsShared entry.id volume.old (P.SectorView.space space.old) (P.SectorView.space space.new)) (P.SectorView.space space.old) (P.SectorView.space space.new) }
-    ensures below { P.SectorView.follows space.old space.new }
-    ensures cause { HasTroubleCause (P.SectorView.space space.old).faults (P.SectorView.space space.new).faults result }
 {
     sound_has_plain_tree();
     match volume.owner(alloc, space, path)? {
@@ -307,8 +274,7 @@ fn lose<P: SectorSpace>(
     at: Losing,
     name: &Units,
 ) -> Result<(), Trouble>
-    requires stands { StandsOver volume.old (P.SectorView.space space.old) }
-    requires settled { IsTrue (P.SectorView.space space.old).tells → IsSettled volume.old (P.SectorView.space space.old).content }
+    requires serves { Serves volume.old (P.SectorView.space space.old) }
     requires some { 1 ≤ length name.now }
     requires name { length name.now ≤ 255 }
     requires fits { FitsPath path.now }
@@ -317,16 +283,11 @@ fn lose<P: SectorSpace>(
     requires only { IsTrue (P.SectorView.space space.old).tells → at.link ≡ false → IsOnlyName (place_of at name.now) (lists_of volume.old (P.SectorView.space space.old).content).catalog_pairs }
     requires loses { IsTrue (P.SectorView.space space.old).tells → (entry : PlainEntry) × IsLoss (tree_of (P.SectorView.space space.old).content) path.now entry (place_of at name.now) }
     requires room { HasRoomToLose volume.old (P.SectorView.space space.old) }
-    ensures stands { OnOk result (StandsOver volume.new (P.SectorView.space space.new)) }
-    ensures service { IsInService volume.new (P.SectorView.space space.new) }
     ensures does { IsTrue (P.SectorView.space space.old).tells → (entry : PlainEntry) → IsLoss (tree_of (P.SectorView.space space.old).content) path.now entry (place_of at name.now)
         → OnOk result (IsSettled volume.new (P.SectorView.space space.new).content × (tree_of (P.SectorView.space space.new).content ≡ (step (tree_of (P.SectorView.space space.old).content) (command.Rm path.now)).1)
         × LosesName entry (P.SectorView.space space.old).content (P.SectorView.space space.new).content) }
-    ensures blocks { KeepsBlocks volume.old volume.new }
-    ensures touches { (committed : Content) → Touches committed (λ s. Contains (own_sectors volume.old) s) (P.SectorView.space space.old) (P.SectorView.space space.new) }
+    ensures edits { Edits P.SectorView.space P.SectorView.follows (P.SectorView.space space.old).spare volume.old volume.new space.old space.new result }
     ensures spends { IsTrue (P.SectorView.space space.old).tells → (entry : PlainEntry) → IsLoss (tree_of (P.SectorView.space space.old).content) path.now entry (place_of at name.now) → NoneOr (SpendsLoss at.link entry.id volume.old (P.SectorView.space space.old) (P.SectorView.space space.new)) (P.SectorView.space space.old) (P.SectorView.space space.new) }
-    ensures below { P.SectorView.follows space.old space.new }
-    ensures cause { HasTroubleCause (P.SectorView.space space.old).faults (P.SectorView.space space.new).faults result }
 {
     edits_have_room();
     if at.link {
@@ -356,8 +317,7 @@ fn rm_under<P: SectorSpace>(
     above: &[Units],
     name: &Units,
 ) -> Result<Reply, Trouble>
-    requires stands { StandsOver volume.old (P.SectorView.space space.old) }
-    requires settled { IsTrue (P.SectorView.space space.old).tells → IsSettled volume.old (P.SectorView.space space.old).content }
+    requires serves { Serves volume.old (P.SectorView.space space.old) }
     requires split { path.now ≡ path_to above.now name.now }
     requires fits { FitsPath (path_to above.now name.now) }
     requires not_own { is_private_path (path_to above.now name.now) ≡ false }
@@ -366,14 +326,9 @@ fn rm_under<P: SectorSpace>(
     ensures tree { IsTrue (P.SectorView.space space.old).tells → OnOk result (tree_of (P.SectorView.space space.new).content ≡ (step_line (tree_of (P.SectorView.space space.old).content) (Ok (command.Rm (path_to above.now name.now)))).1) }
     ensures refused { IsTrue (P.SectorView.space space.old).tells → IfOk result (λ reply. is_refusal reply ≡ true → (P.SectorView.space space.new).content ≡ (P.SectorView.space space.old).content) }
     ensures lists { IsTrue (P.SectorView.space space.old).tells → IfOk result (λ said. said ≡ reply.Ok → HasLost (path_to above.now name.now) (P.SectorView.space space.old).content (P.SectorView.space space.new).content) }
-    ensures stands { OnOk result (StandsOver volume.new (P.SectorView.space space.new)) }
-    ensures settled { IsTrue (P.SectorView.space space.old).tells → OnOk result (IsSettled volume.new (P.SectorView.space space.new).content) }
-    ensures service { IsInService volume.new (P.SectorView.space space.new) }
-    ensures blocks { KeepsBlocks volume.old volume.new }
-    ensures touches { (committed : Content) → Touches committed (λ s. Contains (own_sectors volume.old) s) (P.SectorView.space space.old) (P.SectorView.space space.new) }
+    ensures serves { OnOk result (Serves volume.new (P.SectorView.space space.new)) }
+    ensures edits { Edits P.SectorView.space P.SectorView.follows (P.SectorView.space space.old).spare volume.old volume.new space.old space.new result }
     ensures loads { IsTrue (P.SectorView.space space.old).tells → PutsItsLoad (command.Rm (path_to above.now name.now)) volume.old (P.SectorView.space space.old) (P.SectorView.space space.new) }
-    ensures below { P.SectorView.follows space.old space.new }
-    ensures cause { HasTroubleCause (P.SectorView.space space.old).faults (P.SectorView.space space.new).faults result }
 {
     sound_has_plain_tree();
     match losing(volume, alloc, space, above, name)? {
@@ -396,8 +351,7 @@ pub fn rm<P: SectorSpace>(
     space: &mut P,
     path: &Path,
 ) -> Result<Reply, Trouble>
-    requires stands { StandsOver volume.old (P.SectorView.space space.old) }
-    requires settled { IsTrue (P.SectorView.space space.old).tells → IsSettled volume.old (P.SectorView.space space.old).content }
+    requires serves { Serves volume.old (P.SectorView.space space.old) }
     requires fits { FitsPath path.now }
     // There is room for what it puts; the catalog needn't grow before.
     requires room { HasRoomToLose volume.old (P.SectorView.space space.old) }
@@ -407,17 +361,10 @@ pub fn rm<P: SectorSpace>(
     ensures refused { IsTrue (P.SectorView.space space.old).tells → IfOk result (λ reply. is_refusal reply ≡ true → (P.SectorView.space space.new).content ≡ (P.SectorView.space space.old).content) }
     // The content's lists have the file in the private folder, which may be new, or a link less; and the folders' counts. Nothing else of them is changed.
     ensures lists { IsTrue (P.SectorView.space space.old).tells → IfOk result (λ said. said ≡ reply.Ok → HasLost path.now (P.SectorView.space space.old).content (P.SectorView.space space.new).content) }
-    ensures stands { OnOk result (StandsOver volume.new (P.SectorView.space space.new)) }
-    ensures settled { IsTrue (P.SectorView.space space.old).tells → OnOk result (IsSettled volume.new (P.SectorView.space space.new).content) }
-    ensures service { IsInService volume.new (P.SectorView.space space.new) }
-    // The blocks in use are as they were, and so are the file shrunk last and the capacity.
-    ensures blocks { KeepsBlocks volume.old volume.new }
-    // On a fault too, it puts sectors of its own alone, whatever was committed last.
-    ensures touches { (committed : Content) → Touches committed (λ s. Contains (own_sectors volume.old) s) (P.SectorView.space space.old) (P.SectorView.space space.new) }
+    ensures serves { OnOk result (Serves volume.new (P.SectorView.space space.new)) }
+    ensures edits { Edits P.SectorView.space P.SectorView.follows (P.SectorView.space space.old).spare volume.old volume.new space.old space.new result }
     // On a fault too, it puts no more sectors than its load names.
     ensures loads { IsTrue (P.SectorView.space space.old).tells → PutsItsLoad (command.Rm path.now) volume.old (P.SectorView.space space.old) (P.SectorView.space space.new) }
-    ensures below { P.SectorView.follows space.old space.new }
-    ensures cause { HasTroubleCause (P.SectorView.space space.old).faults (P.SectorView.space space.new).faults result }
 {
     if is_private_path(path) {
         return Ok(Reply::No(Refusal::Private));

@@ -1,8 +1,5 @@
 //! `mkdir` and `create`: a new folder or file.
 ghost use Rattle.std.specs.Prelude.{◌≡◌, ◌<◌, ◌≤◌, ◌+◌, ◌^◌, ◌∷◌, ℕ, List, [], Ok, None, Some, false, true, IsTrue, IfOk, length, OnOk};
-ghost use Rattle.std.specs.List.{Contains};
-ghost use Rattle.sector_disk.specs.Lists.{Content};
-ghost use Rattle.btree_edit.specs.Causes.{HasTroubleCause};
 ghost use Rattle.btree_file.specs.Frame.{PutsWithin};
 ghost use Rattle.btree_file.specs.Standing.{numbers_of};
 ghost use Rattle.catalog.specs.Pairs.{value_at};
@@ -16,15 +13,14 @@ ghost use Rattle.hfs_volume.specs.Records.{placed_in, record_at};
 ghost use Rattle.hfs_volume.specs.TreeOf.{tree_of};
 ghost use Rattle.hfs_volume.specs.Weight.{weight};
 ghost use Rattle.hfs_volume.specs.declared.cost.Cost.TheVariants as cost;
-ghost use Rattle.volume_base.specs.Changing.{HasRoomToUpdate, KeepsBlocks, PutsHeader};
+ghost use Rattle.volume_base.specs.Changing.{HasRoomToUpdate, PutsHeader};
+ghost use Rattle.volume_base.specs.Frame.{Edits, Serves};
 ghost use Rattle.volume_base.specs.Lists.{lists_of};
 ghost use Rattle.volume_base.specs.Making.{AddsNew, HasRoomToMake, IsSite, entry_load, free_place, make_load, making, new_value, path_to};
 ghost use Rattle.volume_names.specs.EditsLeft.{HasEditsLeft, HasLoadFor};
 ghost use Rattle.volume_names.specs.Making.{HasNew, Makes};
 ghost use Rattle.volume_base.specs.Room.{capacity_of};
-ghost use Rattle.volume_base.specs.Service.{IsInService};
-ghost use Rattle.volume_base.specs.Standing.{IsSettled, StandsOver, own_sectors};
-ghost use Rattle.volume_base.specs.Touching.{Touches};
+ghost use Rattle.volume_base.specs.Standing.{IsSettled, StandsOver};
 ghost use Rattle.volume_runs.specs.Told.{of_made};
 
 use crate::changing::add;
@@ -64,28 +60,20 @@ pub(crate) fn add_new<P: SectorSpace>(
     name: &Units,
     folder: bool,
 ) -> Result<(), Trouble>
-    requires stands { StandsOver volume.old (P.SectorView.space space.old) }
-    requires settled { IsTrue (P.SectorView.space space.old).tells → IsSettled volume.old (P.SectorView.space space.old).content }
+    requires serves { Serves volume.old (P.SectorView.space space.old) }
     requires size { 4096 ≤ (numbers_of volume.old.catalog.file).node_size }
     requires some { 1 ≤ length name.now }
     requires name { length name.now ≤ 255 }
     requires free { IsTrue (P.SectorView.space space.old).tells → record_at (placed_in (lists_of volume.old (P.SectorView.space space.old).content).catalog_pairs) id name.now ≡ None }
     requires room { HasRoomToMake volume.old (P.SectorView.space space.old) }
-    ensures stands { OnOk result (StandsOver volume.new (P.SectorView.space space.new)) }
-    ensures service { IsInService volume.new (P.SectorView.space space.new) }
     ensures adds { IsTrue (P.SectorView.space space.old).tells → OnOk result (AddsNew folder id name.now volume.old volume.new (P.SectorView.space space.old).content (P.SectorView.space space.new).content) }
     ensures room { OnOk result (HasRoomToUpdate volume.new (P.SectorView.space space.new)) }
     ensures is_put { IsTrue (P.SectorView.space space.old).tells → OnOk result (IsTrue ((P.SectorView.space space.new).put 2)) }
-    ensures own { own_sectors volume.new ≡ own_sectors volume.old }
-    ensures blocks { KeepsBlocks volume.old volume.new }
-    ensures touches { (committed : Content) → Touches committed (λ s. Contains (own_sectors volume.old) s) (P.SectorView.space space.old) (P.SectorView.space space.new) }
-    ensures spent { IsTrue (P.SectorView.space space.old).tells → (P.SectorView.space space.old).spare ≤ (P.SectorView.space space.new).spare + (1 + entry_load volume.old) }
+    ensures edits { Edits P.SectorView.space P.SectorView.follows (1 + entry_load volume.old) volume.old volume.new space.old space.new result }
     // Where the load of two edits more has room beside the header's sector and these sectors, the others have room beside these behind it.
     ensures left { (edits beside : ℕ) → HasLoadFor (2 + edits) (1 + beside) volume.old (P.SectorView.space space.old) → OnOk result (HasEditsLeft edits beside volume.new (P.SectorView.space space.new)) }
     // On a fault too, these sectors are left.
     ensures beside { (edits beside : ℕ) → HasLoadFor (2 + edits) (1 + beside) volume.old (P.SectorView.space space.old) → IsTrue (P.SectorView.space space.old).tells → beside ≤ (P.SectorView.space space.new).spare }
-    ensures below { P.SectorView.follows space.old space.new }
-    ensures cause { HasTroubleCause (P.SectorView.space space.old).faults (P.SectorView.space space.new).faults result }
 {
     edits_have_room();
     edits_take_their_load();
@@ -108,23 +96,16 @@ fn make_in<P: SectorSpace>(
     name: &Units,
     folder: bool,
 ) -> Result<(), Trouble>
-    requires stands { StandsOver volume.old (P.SectorView.space space.old) }
-    requires settled { IsTrue (P.SectorView.space space.old).tells → IsSettled volume.old (P.SectorView.space space.old).content }
+    requires serves { Serves volume.old (P.SectorView.space space.old) }
     requires some { 1 ≤ length name.now }
     requires name { length name.now ≤ 255 }
     requires site { IsTrue (P.SectorView.space space.old).tells → IsSite (tree_of (P.SectorView.space space.old).content) id name.now }
     requires room { HasRoomToMake volume.old (P.SectorView.space space.old) }
-    ensures stands { OnOk result (StandsOver volume.new (P.SectorView.space space.new)) }
-    ensures service { IsInService volume.new (P.SectorView.space space.new) }
     ensures does { IsTrue (P.SectorView.space space.old).tells
         → OnOk result (IsSettled volume.new (P.SectorView.space space.new).content × (tree_of (P.SectorView.space space.new).content ≡ made folder (free_place id name.now) (tree_of (P.SectorView.space space.old).content))
         × (value_at (lists_of volume.new (P.SectorView.space space.new).content).catalog_pairs id name.now ≡ Some (new_value folder volume.old.header.next_catalog_id volume.old.header.modify_date))
         × MakesEntry folder (free_place id name.now) (volume_of (P.SectorView.space space.old).content) (volume_of (P.SectorView.space space.new).content)) }
-    ensures blocks { KeepsBlocks volume.old volume.new }
-    ensures touches { (committed : Content) → Touches committed (λ s. Contains (own_sectors volume.old) s) (P.SectorView.space space.old) (P.SectorView.space space.new) }
-    ensures spent { IsTrue (P.SectorView.space space.old).tells → (P.SectorView.space space.old).spare ≤ (P.SectorView.space space.new).spare + make_load volume.old }
-    ensures below { P.SectorView.follows space.old space.new }
-    ensures cause { HasTroubleCause (P.SectorView.space space.old).faults (P.SectorView.space space.new).faults result }
+    ensures edits { Edits P.SectorView.space P.SectorView.follows (make_load volume.old) volume.old volume.new space.old space.new result }
 {
     mkdir_does_its_step();
     create_does_its_step();
@@ -146,8 +127,7 @@ fn make_under<P: SectorSpace>(
     name: &Units,
     folder: bool,
 ) -> Result<Changes, Trouble>
-    requires stands { StandsOver volume.old (P.SectorView.space space.old) }
-    requires settled { IsTrue (P.SectorView.space space.old).tells → IsSettled volume.old (P.SectorView.space space.old).content }
+    requires serves { Serves volume.old (P.SectorView.space space.old) }
     requires fits { FitsPath (path_to above.now name.now) }
     requires fine { IsTrue (P.SectorView.space space.old).tells → refuses (tree_of (P.SectorView.space space.old).content) (Ok (making folder (path_to above.now name.now))) ≡ false }
     requires room { HasRoomToMake volume.old (P.SectorView.space space.old) }
@@ -155,14 +135,8 @@ fn make_under<P: SectorSpace>(
     ensures tree { IsTrue (P.SectorView.space space.old).tells → OnOk result (tree_of (P.SectorView.space space.new).content ≡ (step_line (tree_of (P.SectorView.space space.old).content) (Ok (making folder (path_to above.now name.now)))).1) }
     ensures entry { IsTrue (P.SectorView.space space.old).tells → OnOk result (HasNew folder (path_to above.now name.now) volume.old.header (lists_of volume.new (P.SectorView.space space.new).content).catalog_pairs) }
     ensures lists { IsTrue (P.SectorView.space space.old).tells → OnOk result (Makes folder (path_to above.now name.now) (P.SectorView.space space.old).content (P.SectorView.space space.new).content) }
-    ensures stands { OnOk result (StandsOver volume.new (P.SectorView.space space.new)) }
-    ensures settled { IsTrue (P.SectorView.space space.old).tells → OnOk result (IsSettled volume.new (P.SectorView.space space.new).content) }
-    ensures service { IsInService volume.new (P.SectorView.space space.new) }
-    ensures blocks { KeepsBlocks volume.old volume.new }
-    ensures touches { (committed : Content) → Touches committed (λ s. Contains (own_sectors volume.old) s) (P.SectorView.space space.old) (P.SectorView.space space.new) }
-    ensures spent { IsTrue (P.SectorView.space space.old).tells → (P.SectorView.space space.old).spare ≤ (P.SectorView.space space.new).spare + make_load volume.old }
-    ensures below { P.SectorView.follows space.old space.new }
-    ensures cause { HasTroubleCause (P.SectorView.space space.old).faults (P.SectorView.space space.new).faults result }
+    ensures serves { OnOk result (Serves volume.new (P.SectorView.space space.new)) }
+    ensures edits { Edits P.SectorView.space P.SectorView.follows (make_load volume.old) volume.old volume.new space.old space.new result }
 {
     sound_has_plain_tree();
     let next = volume.header.next_catalog_id;
@@ -184,8 +158,7 @@ fn make<P: SectorSpace>(
     path: &Path,
     folder: bool,
 ) -> Result<Changes, Trouble>
-    requires stands { StandsOver volume.old (P.SectorView.space space.old) }
-    requires settled { IsTrue (P.SectorView.space space.old).tells → IsSettled volume.old (P.SectorView.space space.old).content }
+    requires serves { Serves volume.old (P.SectorView.space space.old) }
     requires fits { FitsPath path.now }
     requires fine { IsTrue (P.SectorView.space space.old).tells → refuses (tree_of (P.SectorView.space space.old).content) (Ok (making folder path.now)) ≡ false }
     requires room { HasRoomToMake volume.old (P.SectorView.space space.old) }
@@ -193,14 +166,8 @@ fn make<P: SectorSpace>(
     ensures tree { IsTrue (P.SectorView.space space.old).tells → OnOk result (tree_of (P.SectorView.space space.new).content ≡ (step_line (tree_of (P.SectorView.space space.old).content) (Ok (making folder path.now))).1) }
     ensures entry { IsTrue (P.SectorView.space space.old).tells → OnOk result (HasNew folder path.now volume.old.header (lists_of volume.new (P.SectorView.space space.new).content).catalog_pairs) }
     ensures lists { IsTrue (P.SectorView.space space.old).tells → OnOk result (Makes folder path.now (P.SectorView.space space.old).content (P.SectorView.space space.new).content) }
-    ensures stands { OnOk result (StandsOver volume.new (P.SectorView.space space.new)) }
-    ensures settled { IsTrue (P.SectorView.space space.old).tells → OnOk result (IsSettled volume.new (P.SectorView.space space.new).content) }
-    ensures service { IsInService volume.new (P.SectorView.space space.new) }
-    ensures blocks { KeepsBlocks volume.old volume.new }
-    ensures touches { (committed : Content) → Touches committed (λ s. Contains (own_sectors volume.old) s) (P.SectorView.space space.old) (P.SectorView.space space.new) }
-    ensures spent { IsTrue (P.SectorView.space space.old).tells → (P.SectorView.space space.old).spare ≤ (P.SectorView.space space.new).spare + make_load volume.old }
-    ensures below { P.SectorView.follows space.old space.new }
-    ensures cause { HasTroubleCause (P.SectorView.space space.old).faults (P.SectorView.space space.new).faults result }
+    ensures serves { OnOk result (Serves volume.new (P.SectorView.space space.new)) }
+    ensures edits { Edits P.SectorView.space P.SectorView.follows (make_load volume.old) volume.old volume.new space.old space.new result }
 {
     match path.as_slice().split_last() {
         Some((name, above)) => make_under(volume, alloc, space, line, above, name, folder),
@@ -217,8 +184,7 @@ pub fn mkdir<P: SectorSpace>(
     line: u64,
     path: &Path,
 ) -> Result<Changes, Trouble>
-    requires stands { StandsOver volume.old (P.SectorView.space space.old) }
-    requires settled { IsTrue (P.SectorView.space space.old).tells → IsSettled volume.old (P.SectorView.space space.old).content }
+    requires serves { Serves volume.old (P.SectorView.space space.old) }
     requires fits { FitsPath path.now }
     // The step doesn't refuse it.
     requires fine { IsTrue (P.SectorView.space space.old).tells → refuses (tree_of (P.SectorView.space space.old).content) (Ok (command.Mkdir path.now)) ≡ false }
@@ -231,19 +197,11 @@ pub fn mkdir<P: SectorSpace>(
     ensures entry { IsTrue (P.SectorView.space space.old).tells → OnOk result (HasNew true path.now volume.old.header (lists_of volume.new (P.SectorView.space space.new).content).catalog_pairs) }
     // The content's lists have its entry with its thread, one entry more in the folder above, and the header's numbers; nothing else of them is changed.
     ensures lists { IsTrue (P.SectorView.space space.old).tells → OnOk result (Makes true path.now (P.SectorView.space space.old).content (P.SectorView.space space.new).content) }
-    ensures stands { OnOk result (StandsOver volume.new (P.SectorView.space space.new)) }
-    ensures settled { IsTrue (P.SectorView.space space.old).tells → OnOk result (IsSettled volume.new (P.SectorView.space space.new).content) }
-    ensures service { IsInService volume.new (P.SectorView.space space.new) }
-    // The blocks in use are as they were, and so are the file shrunk last and the capacity.
-    ensures blocks { KeepsBlocks volume.old volume.new }
-    // On a fault too, it puts sectors of its own alone, whatever was committed last.
-    ensures touches { (committed : Content) → Touches committed (λ s. Contains (own_sectors volume.old) s) (P.SectorView.space space.old) (P.SectorView.space space.new) }
-    ensures spent { IsTrue (P.SectorView.space space.old).tells → (P.SectorView.space space.old).spare ≤ (P.SectorView.space space.new).spare + make_load volume.old }
+    ensures serves { OnOk result (Serves volume.new (P.SectorView.space space.new)) }
+    ensures edits { Edits P.SectorView.space P.SectorView.follows (make_load volume.old) volume.old volume.new space.old space.new result }
     // What its load names bounds the sectors that it puts.
     ensures loads { IsTrue (P.SectorView.space space.old).tells → (n : ℕ) (grow : List ℕ) → weight (capacity_of volume.old) (volume_of (P.SectorView.space space.old).content) (tree_of (P.SectorView.space space.old).content) (command.Mkdir path.now) ≡ cost.Load n grow
         → (P.SectorView.space space.old).spare ≤ (P.SectorView.space space.new).spare + n }
-    ensures below { P.SectorView.follows space.old space.new }
-    ensures cause { HasTroubleCause (P.SectorView.space space.old).faults (P.SectorView.space space.new).faults result }
 {
     make(volume, alloc, space, line, path, true)
 }
@@ -257,8 +215,7 @@ pub fn create<P: SectorSpace>(
     line: u64,
     path: &Path,
 ) -> Result<Changes, Trouble>
-    requires stands { StandsOver volume.old (P.SectorView.space space.old) }
-    requires settled { IsTrue (P.SectorView.space space.old).tells → IsSettled volume.old (P.SectorView.space space.old).content }
+    requires serves { Serves volume.old (P.SectorView.space space.old) }
     requires fits { FitsPath path.now }
     // The step doesn't refuse it.
     requires fine { IsTrue (P.SectorView.space space.old).tells → refuses (tree_of (P.SectorView.space space.old).content) (Ok (command.Create path.now)) ≡ false }
@@ -271,19 +228,11 @@ pub fn create<P: SectorSpace>(
     ensures entry { IsTrue (P.SectorView.space space.old).tells → OnOk result (HasNew false path.now volume.old.header (lists_of volume.new (P.SectorView.space space.new).content).catalog_pairs) }
     // The content's lists have its entry with its thread, one entry more in the folder above, and the header's numbers; nothing else of them is changed.
     ensures lists { IsTrue (P.SectorView.space space.old).tells → OnOk result (Makes false path.now (P.SectorView.space space.old).content (P.SectorView.space space.new).content) }
-    ensures stands { OnOk result (StandsOver volume.new (P.SectorView.space space.new)) }
-    ensures settled { IsTrue (P.SectorView.space space.old).tells → OnOk result (IsSettled volume.new (P.SectorView.space space.new).content) }
-    ensures service { IsInService volume.new (P.SectorView.space space.new) }
-    // The blocks in use are as they were, and so are the file shrunk last and the capacity.
-    ensures blocks { KeepsBlocks volume.old volume.new }
-    // On a fault too, it puts sectors of its own alone, whatever was committed last.
-    ensures touches { (committed : Content) → Touches committed (λ s. Contains (own_sectors volume.old) s) (P.SectorView.space space.old) (P.SectorView.space space.new) }
-    ensures spent { IsTrue (P.SectorView.space space.old).tells → (P.SectorView.space space.old).spare ≤ (P.SectorView.space space.new).spare + make_load volume.old }
+    ensures serves { OnOk result (Serves volume.new (P.SectorView.space space.new)) }
+    ensures edits { Edits P.SectorView.space P.SectorView.follows (make_load volume.old) volume.old volume.new space.old space.new result }
     // What its load names bounds the sectors that it puts.
     ensures loads { IsTrue (P.SectorView.space space.old).tells → (n : ℕ) (grow : List ℕ) → weight (capacity_of volume.old) (volume_of (P.SectorView.space space.old).content) (tree_of (P.SectorView.space space.old).content) (command.Create path.now) ≡ cost.Load n grow
         → (P.SectorView.space space.old).spare ≤ (P.SectorView.space space.new).spare + n }
-    ensures below { P.SectorView.follows space.old space.new }
-    ensures cause { HasTroubleCause (P.SectorView.space space.old).faults (P.SectorView.space space.new).faults result }
 {
     make(volume, alloc, space, line, path, false)
 }

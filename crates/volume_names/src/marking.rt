@@ -1,18 +1,14 @@
 //! Folders and files whose attributes were changed.
 ghost use Rattle.std.specs.Prelude.{◌≡◌, ◌≤◌, ◌+◌, IfSome, Some, false, IsTrue, length, OnOk};
-ghost use Rattle.std.specs.List.{Contains};
-ghost use Rattle.sector_disk.specs.Lists.{Content};
-ghost use Rattle.btree_edit.specs.Causes.{HasTroubleCause};
 ghost use Rattle.catalog.specs.Pairs.{value_at};
 ghost use Rattle.cat_records.specs.Fits.{FitsEntry, FitsRecord};
 ghost use Rattle.hfs_volume.specs.Entries.{AreSpelled};
 ghost use Rattle.hfs_volume.specs.Records.{is_thread};
 ghost use Rattle.volume_base.specs.Attributing.{MarksEntry, marked_fields, with_attribute_flag, with_mark};
 ghost use Rattle.volume_base.specs.Changing.{HasRoomToUpdate, catalog_node};
+ghost use Rattle.volume_base.specs.Frame.{Edits};
 ghost use Rattle.volume_base.specs.Lists.{lists_of};
-ghost use Rattle.volume_base.specs.Service.{IsInService};
-ghost use Rattle.volume_base.specs.Standing.{StandsOver, own_sectors};
-ghost use Rattle.volume_base.specs.Touching.{Touches};
+ghost use Rattle.volume_base.specs.Standing.{StandsOver};
 
 use cat_records::{CatRecord, EntryFields, FileRecord, FolderRecord};
 use hx_bytes::Trouble;
@@ -72,17 +68,11 @@ pub(crate) fn put_mark<P: SectorSpace>(
     requires there { IsTrue (P.SectorView.space space.old).tells → value_at (lists_of volume.old (P.SectorView.space space.old).content).catalog_pairs entry.now.parent entry.now.name ≡ Some entry.now.rec }
     requires fits { is_thread entry.now.rec ≡ false → FitsRecord entry.now.rec }
     requires room { HasRoomToUpdate volume.old (P.SectorView.space space.old) }
-    ensures stands { OnOk result (StandsOver volume.new (P.SectorView.space space.new)) }
-    ensures service { IsInService volume.new (P.SectorView.space space.new) }
     // Nothing else of it is changed.
     ensures rest { volume.new ≡ record volume.old { catalog = volume.new.catalog } }
     ensures marks { IsTrue (P.SectorView.space space.old).tells → is_thread entry.now.rec ≡ false
         → OnOk result (MarksEntry has volume.old.header.modify_date entry.now volume.old volume.new (P.SectorView.space space.old).content (P.SectorView.space space.new).content) }
-    // On a fault too, it puts sectors of its own alone, whatever was committed last; those of one node at most.
-    ensures touches { (committed : Content) → Touches committed (λ s. Contains (own_sectors volume.old) s) (P.SectorView.space space.old) (P.SectorView.space space.new) }
-    ensures spent { IsTrue (P.SectorView.space space.old).tells → (P.SectorView.space space.old).spare ≤ (P.SectorView.space space.new).spare + catalog_node volume.old }
-    ensures below { P.SectorView.follows space.old space.new }
-    ensures cause { HasTroubleCause (P.SectorView.space space.old).faults (P.SectorView.space space.new).faults result }
+    ensures edits { Edits P.SectorView.space P.SectorView.follows (catalog_node volume.old) volume.old volume.new space.old space.new result }
 {
     let Some(rec) = with_mark(has, volume.header.modify_date, &entry.rec) else {
         return Ok(());

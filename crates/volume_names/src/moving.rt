@@ -1,8 +1,5 @@
 //! `mv`: a folder or file under another name.
 ghost use Rattle.std.specs.Prelude.{◌≡◌, ◌<◌, ◌≤◌, ◌+◌, ◌*◌, ℕ, List, Ok, false, true, IsTrue, IfOk, length, OnOk};
-ghost use Rattle.std.specs.List.{Contains};
-ghost use Rattle.sector_disk.specs.Lists.{Content};
-ghost use Rattle.btree_edit.specs.Causes.{HasTroubleCause};
 ghost use Rattle.btree_file.specs.Standing.{numbers_of};
 ghost use Rattle.hfs_language.specs.Written.{FitsPath};
 ghost use Rattle.hfs_language.specs.declared.command.Command.TheVariants as command;
@@ -16,15 +13,14 @@ ghost use Rattle.hfs_volume.specs.TreeOf.{tree_of};
 ghost use Rattle.hfs_volume.specs.Weight.{weight};
 ghost use Rattle.hfs_volume.specs.declared.cost.Cost.TheVariants as cost;
 ghost use Rattle.volume_names.specs.Changing.{HasEntry};
-ghost use Rattle.volume_base.specs.Changing.{HasFolder, KeepsBlocks, catalog_node};
+ghost use Rattle.volume_base.specs.Changing.{HasFolder, catalog_node};
+ghost use Rattle.volume_base.specs.Frame.{Edits, Serves};
 ghost use Rattle.volume_base.specs.Lists.{lists_of};
 ghost use Rattle.volume_base.specs.Making.{free_place, path_to};
 ghost use Rattle.volume_names.specs.Moving.{Arrives, HasMoved, Leaves};
 ghost use Rattle.volume_base.specs.Moving.{HasRoomToMove, IsMove, leave_load, move_load};
 ghost use Rattle.volume_base.specs.Room.{capacity_of};
-ghost use Rattle.volume_base.specs.Service.{IsInService};
-ghost use Rattle.volume_base.specs.Standing.{IsSettled, StandsOver, own_sectors};
-ghost use Rattle.volume_base.specs.Touching.{Touches};
+ghost use Rattle.volume_base.specs.Standing.{IsSettled, StandsOver};
 
 use crate::relocating::relocate;
 use crate::stamping::date;
@@ -46,8 +42,7 @@ fn leave<P: SectorSpace>(
     old: &Units,
     name: &Units,
 ) -> Result<(), Trouble>
-    requires stands { StandsOver volume.old (P.SectorView.space space.old) }
-    requires settled { IsTrue (P.SectorView.space space.old).tells → IsSettled volume.old (P.SectorView.space space.old).content }
+    requires serves { Serves volume.old (P.SectorView.space space.old) }
     requires size { 4096 ≤ (numbers_of volume.old.catalog.file).node_size }
     requires some { 1 ≤ length old.now }
     requires old_name { length old.now ≤ 255 }
@@ -55,16 +50,9 @@ fn leave<P: SectorSpace>(
     requires name { length name.now ≤ 255 }
     requires moves { IsTrue (P.SectorView.space space.old).tells → (from to : List (List ℕ)) × (at : PlainEntry) × IsMove (tree_of (P.SectorView.space space.old).content) from to at way.now.parent old.now way.now.id way.now.folder name.now }
     requires room { HasRoomToMove volume.old (P.SectorView.space space.old) }
-    ensures stands { OnOk result (StandsOver volume.new (P.SectorView.space space.new)) }
-    ensures service { IsInService volume.new (P.SectorView.space space.new) }
     ensures leaves { IsTrue (P.SectorView.space space.old).tells → OnOk result (Leaves way.now.parent old.now way.now.folder name.now volume.old volume.new (P.SectorView.space space.old).content (P.SectorView.space space.new).content) }
-    ensures own { own_sectors volume.new ≡ own_sectors volume.old }
-    ensures blocks { KeepsBlocks volume.old volume.new }
-    ensures touches { (committed : Content) → Touches committed (λ s. Contains (own_sectors volume.old) s) (P.SectorView.space space.old) (P.SectorView.space space.new) }
-    ensures spent { IsTrue (P.SectorView.space space.old).tells → (P.SectorView.space space.old).spare ≤ (P.SectorView.space space.new).spare + leave_load volume.old }
+    ensures edits { Edits P.SectorView.space P.SectorView.follows (leave_load volume.old) volume.old volume.new space.old space.new result }
     ensures size { OnOk result ((numbers_of volume.new.catalog.file).node_size ≡ (numbers_of volume.old.catalog.file).node_size) }
-    ensures below { P.SectorView.follows space.old space.new }
-    ensures cause { HasTroubleCause (P.SectorView.space space.old).faults (P.SectorView.space space.new).faults result }
 {
     edits_have_room();
     edits_take_their_load();
@@ -88,14 +76,8 @@ fn arrive<P: SectorSpace>(
     requires threads { IsTrue (P.SectorView.space space.old).tells → AreThreaded (lists_of volume.old (P.SectorView.space space.old).content).catalog_pairs }
     requires goal { IsTrue (P.SectorView.space space.old).tells → HasFolder way.now.folder 1 (lists_of volume.old (P.SectorView.space space.old).content).catalog_pairs }
     requires there { IsTrue (P.SectorView.space space.old).tells → HasEntry way.now.id (lists_of volume.old (P.SectorView.space space.old).content).catalog_pairs }
-    ensures stands { OnOk result (StandsOver volume.new (P.SectorView.space space.new)) }
-    ensures service { IsInService volume.new (P.SectorView.space space.new) }
     ensures arrives { IsTrue (P.SectorView.space space.old).tells → OnOk result (Arrives way.now.folder way.now.id volume.old volume.new (P.SectorView.space space.old).content (P.SectorView.space space.new).content) }
-    ensures blocks { KeepsBlocks volume.old volume.new }
-    ensures touches { (committed : Content) → Touches committed (λ s. Contains (own_sectors volume.old) s) (P.SectorView.space space.old) (P.SectorView.space space.new) }
-    ensures spent { IsTrue (P.SectorView.space space.old).tells → (P.SectorView.space space.old).spare ≤ (P.SectorView.space space.new).spare + 2 * catalog_node volume.old }
-    ensures below { P.SectorView.follows space.old space.new }
-    ensures cause { HasTroubleCause (P.SectorView.space space.old).faults (P.SectorView.space space.new).faults result }
+    ensures edits { Edits P.SectorView.space P.SectorView.follows (2 * catalog_node volume.old) volume.old volume.new space.old space.new result }
 {
     if !volume.fits_update(space) {
         return Err(Trouble::Memory);
@@ -116,24 +98,17 @@ fn move_in<P: SectorSpace>(
     old: &Units,
     name: &Units,
 ) -> Result<(), Trouble>
-    requires stands { StandsOver volume.old (P.SectorView.space space.old) }
-    requires settled { IsTrue (P.SectorView.space space.old).tells → IsSettled volume.old (P.SectorView.space space.old).content }
+    requires serves { Serves volume.old (P.SectorView.space space.old) }
     requires some { 1 ≤ length old.now }
     requires old_name { length old.now ≤ 255 }
     requires some_new { 1 ≤ length name.now }
     requires name { length name.now ≤ 255 }
     requires moves { IsTrue (P.SectorView.space space.old).tells → (from to : List (List ℕ)) × (at : PlainEntry) × IsMove (tree_of (P.SectorView.space space.old).content) from to at way.now.parent old.now way.now.id way.now.folder name.now }
     requires room { HasRoomToMove volume.old (P.SectorView.space space.old) }
-    ensures stands { OnOk result (StandsOver volume.new (P.SectorView.space space.new)) }
-    ensures service { IsInService volume.new (P.SectorView.space space.new) }
     ensures does { IsTrue (P.SectorView.space space.old).tells → (from to : List (List ℕ)) (at : PlainEntry) → IsMove (tree_of (P.SectorView.space space.old).content) from to at way.now.parent old.now way.now.id way.now.folder name.now
         → OnOk result (IsSettled volume.new (P.SectorView.space space.new).content × (tree_of (P.SectorView.space space.new).content ≡ (step (tree_of (P.SectorView.space space.old).content) (command.Mv from to)).1)
         × MovesName at (free_place way.now.folder name.now) (volume_of (P.SectorView.space space.old).content) (volume_of (P.SectorView.space space.new).content)) }
-    ensures blocks { KeepsBlocks volume.old volume.new }
-    ensures touches { (committed : Content) → Touches committed (λ s. Contains (own_sectors volume.old) s) (P.SectorView.space space.old) (P.SectorView.space space.new) }
-    ensures spent { IsTrue (P.SectorView.space space.old).tells → (P.SectorView.space space.old).spare ≤ (P.SectorView.space space.new).spare + move_load volume.old }
-    ensures below { P.SectorView.follows space.old space.new }
-    ensures cause { HasTroubleCause (P.SectorView.space space.old).faults (P.SectorView.space space.new).faults result }
+    ensures edits { Edits P.SectorView.space P.SectorView.follows (move_load volume.old) volume.old volume.new space.old space.new result }
 {
     mv_does_its_step();
     // The least node size that the format allows the catalog (TN1150, "Catalog File").
@@ -156,8 +131,7 @@ fn mv_under<P: SectorSpace>(
     under: &[Units],
     name: &Units,
 ) -> Result<Reply, Trouble>
-    requires stands { StandsOver volume.old (P.SectorView.space space.old) }
-    requires settled { IsTrue (P.SectorView.space space.old).tells → IsSettled volume.old (P.SectorView.space space.old).content }
+    requires serves { Serves volume.old (P.SectorView.space space.old) }
     requires from_fits { FitsPath from.now }
     requires to_fits { FitsPath to.now }
     requires split { from.now ≡ path_to above.now old.now }
@@ -169,14 +143,8 @@ fn mv_under<P: SectorSpace>(
     ensures tree { IsTrue (P.SectorView.space space.old).tells → OnOk result (tree_of (P.SectorView.space space.new).content ≡ (step_line (tree_of (P.SectorView.space space.old).content) (Ok (command.Mv from.now to.now))).1) }
     ensures refused { IsTrue (P.SectorView.space space.old).tells → IfOk result (λ reply. is_refusal reply ≡ true → (P.SectorView.space space.new).content ≡ (P.SectorView.space space.old).content) }
     ensures lists { IsTrue (P.SectorView.space space.old).tells → IfOk result (λ said. said ≡ reply.Ok → HasMoved from.now to.now (P.SectorView.space space.old).content (P.SectorView.space space.new).content) }
-    ensures stands { OnOk result (StandsOver volume.new (P.SectorView.space space.new)) }
-    ensures settled { IsTrue (P.SectorView.space space.old).tells → OnOk result (IsSettled volume.new (P.SectorView.space space.new).content) }
-    ensures service { IsInService volume.new (P.SectorView.space space.new) }
-    ensures blocks { KeepsBlocks volume.old volume.new }
-    ensures touches { (committed : Content) → Touches committed (λ s. Contains (own_sectors volume.old) s) (P.SectorView.space space.old) (P.SectorView.space space.new) }
-    ensures spent { IsTrue (P.SectorView.space space.old).tells → (P.SectorView.space space.old).spare ≤ (P.SectorView.space space.new).spare + move_load volume.old }
-    ensures below { P.SectorView.follows space.old space.new }
-    ensures cause { HasTroubleCause (P.SectorView.space space.old).faults (P.SectorView.space space.new).faults result }
+    ensures serves { OnOk result (Serves volume.new (P.SectorView.space space.new)) }
+    ensures edits { Edits P.SectorView.space P.SectorView.follows (move_load volume.old) volume.old volume.new space.old space.new result }
 {
     sound_has_plain_tree();
     match volume.route(alloc, space, from.as_slice(), above, under, name)? {
@@ -202,8 +170,7 @@ pub fn mv<P: SectorSpace>(
     from: &Path,
     to: &Path,
 ) -> Result<Reply, Trouble>
-    requires stands { StandsOver volume.old (P.SectorView.space space.old) }
-    requires settled { IsTrue (P.SectorView.space space.old).tells → IsSettled volume.old (P.SectorView.space space.old).content }
+    requires serves { Serves volume.old (P.SectorView.space space.old) }
     requires from_fits { FitsPath from.now }
     requires to_fits { FitsPath to.now }
     // There is room for what it puts; the catalog needn't grow before.
@@ -214,19 +181,11 @@ pub fn mv<P: SectorSpace>(
     ensures refused { IsTrue (P.SectorView.space space.old).tells → IfOk result (λ reply. is_refusal reply ≡ true → (P.SectorView.space space.new).content ≡ (P.SectorView.space space.old).content) }
     // The content's lists have it at its new place, both folders' counts, and its date; nothing else of them is changed.
     ensures lists { IsTrue (P.SectorView.space space.old).tells → IfOk result (λ said. said ≡ reply.Ok → HasMoved from.now to.now (P.SectorView.space space.old).content (P.SectorView.space space.new).content) }
-    ensures stands { OnOk result (StandsOver volume.new (P.SectorView.space space.new)) }
-    ensures settled { IsTrue (P.SectorView.space space.old).tells → OnOk result (IsSettled volume.new (P.SectorView.space space.new).content) }
-    ensures service { IsInService volume.new (P.SectorView.space space.new) }
-    // The blocks in use are as they were, and so are the file shrunk last and the capacity.
-    ensures blocks { KeepsBlocks volume.old volume.new }
-    // On a fault too, it puts sectors of its own alone, whatever was committed last.
-    ensures touches { (committed : Content) → Touches committed (λ s. Contains (own_sectors volume.old) s) (P.SectorView.space space.old) (P.SectorView.space space.new) }
-    ensures spent { IsTrue (P.SectorView.space space.old).tells → (P.SectorView.space space.old).spare ≤ (P.SectorView.space space.new).spare + move_load volume.old }
+    ensures serves { OnOk result (Serves volume.new (P.SectorView.space space.new)) }
+    ensures edits { Edits P.SectorView.space P.SectorView.follows (move_load volume.old) volume.old volume.new space.old space.new result }
     // What its load names bounds the sectors that it puts.
     ensures loads { IsTrue (P.SectorView.space space.old).tells → (n : ℕ) (grow : List ℕ) → weight (capacity_of volume.old) (volume_of (P.SectorView.space space.old).content) (tree_of (P.SectorView.space space.old).content) (command.Mv from.now to.now) ≡ cost.Load n grow
         → (P.SectorView.space space.old).spare ≤ (P.SectorView.space space.new).spare + n }
-    ensures below { P.SectorView.follows space.old space.new }
-    ensures cause { HasTroubleCause (P.SectorView.space space.old).faults (P.SectorView.space space.new).faults result }
 {
     if is_private_path(from) {
         return Ok(Reply::No(Refusal::Private));

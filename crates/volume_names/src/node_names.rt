@@ -5,9 +5,9 @@ ghost use Rattle.btree_file.specs.Standing.{pairs_in};
 ghost use Rattle.btree_file.specs.State.{sectors_of_tree};
 ghost use Rattle.hfs_volume.specs.Links.{node_name};
 ghost use Rattle.hfs_volume.specs.Records.{placed_in, record_at};
+ghost use Rattle.volume_base.specs.Frame.{Looked, Serves};
 ghost use Rattle.volume_base.specs.Lists.{lists_of};
-ghost use Rattle.volume_base.specs.Looking.{IsCatalogOver, ReadsTree, ReadsVolume};
-ghost use Rattle.volume_base.specs.Standing.{IsSettled, StandsOver};
+ghost use Rattle.volume_base.specs.Looking.{IsCatalogOver, ReadsTree};
 
 use btree_edit::Desk;
 use btree_file::TreeFile;
@@ -97,14 +97,10 @@ pub(crate) fn free_number<P: SectorSpace>(
     private: u32,
     low: u32,
 ) -> Result<u32, Trouble>
-    requires stands { StandsOver volume.old (P.SectorView.space space.old) }
-    requires settled { IsTrue (P.SectorView.space space.old).tells → IsSettled volume.old (P.SectorView.space space.old).content }
+    requires serves { Serves volume.old (P.SectorView.space space.old) }
     ensures free { IsTrue (P.SectorView.space space.old).tells → IfOk result (λ number. record_at (placed_in (lists_of volume.old (P.SectorView.space space.old).content).catalog_pairs) private (node_name number) ≡ None) }
-    ensures reads { ReadsVolume volume.old volume.new (P.SectorView.space space.old) (P.SectorView.space space.new) }
-    ensures stands { StandsOver volume.new (P.SectorView.space space.new) }
-    ensures settled { IsTrue (P.SectorView.space space.old).tells → IsSettled volume.new (P.SectorView.space space.new).content }
-    ensures below { P.SectorView.follows space.old space.new }
-    ensures cause { HasTroubleCause (P.SectorView.space space.old).faults (P.SectorView.space space.new).faults result }
+    ensures looked { Looked P.SectorView.space P.SectorView.follows volume.old volume.new space.old space.new result }
+    ensures serves { Serves volume.new (P.SectorView.space space.new) }
 {
     find_free_number(
         alloc,

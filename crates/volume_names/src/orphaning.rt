@@ -1,7 +1,5 @@
 //! Files that lost their last name, in a volume in service.
 ghost use Rattle.std.specs.Prelude.{◌≡◌, ◌≤◌, ℕ, List, IsTrue, length, OnOk};
-ghost use Rattle.std.specs.List.{Contains};
-ghost use Rattle.sector_disk.specs.Lists.{Content};
 ghost use Rattle.btree_node.specs.Keys.{IsCatalogKey, catalog_cmp, anything};
 ghost use Rattle.btree_node.specs.TreeFile.{catalog_form};
 ghost use Rattle.btree_edit.specs.Causes.{HasTroubleCause};
@@ -12,9 +10,8 @@ ghost use Rattle.btree_file.specs.Standing.{HoldsTree, LiesInside, LiesOpen, num
 ghost use Rattle.btree_file.specs.State.{sectors_of_tree, state_of};
 ghost use Rattle.hard_links.specs.Orphans.{MakesOrphan, NamesFile};
 ghost use Rattle.hfs_volume.specs.Entries.{AreThreaded};
-ghost use Rattle.volume_base.specs.Service.{IsInService};
-ghost use Rattle.volume_base.specs.Standing.{StandsOver, own_sectors};
-ghost use Rattle.volume_base.specs.Touching.{Touches};
+ghost use Rattle.volume_base.specs.Frame.{Edits};
+ghost use Rattle.volume_base.specs.Standing.{StandsOver};
 
 use btree_edit::Desk;
 use btree_file::{TreeFile, TreeOn};
@@ -73,19 +70,13 @@ pub(crate) fn set_aside<P: SectorSpace>(
     requires name { length at.now.name ≤ 255 }
     requires file { IsTrue (P.SectorView.space space.old).tells → NamesFile at.now (pairs_in (sectors_of_tree volume.old.catalog.file) (P.SectorView.space space.old).content) }
     requires room { (names : List ℕ) → IsTrue (P.SectorView.space space.old).tells → EditRoom 3 516 (state_of names volume.old.catalog.file (P.SectorView.space space.old)) }
-    // Behind an answer it stands, and behind a fault it is in service.
-    ensures stands { OnOk result (StandsOver volume.new (P.SectorView.space space.new)) }
-    ensures service { IsInService volume.new (P.SectorView.space space.new) }
     // Nothing else of it is changed.
     ensures rest { volume.new ≡ record volume.old { catalog = volume.new.catalog } }
     ensures moved { IsTrue (P.SectorView.space space.old).tells → OnOk result (MakesOrphan private at.now (pairs_in (sectors_of_tree volume.old.catalog.file) (P.SectorView.space space.old).content) (pairs_in (sectors_of_tree volume.old.catalog.file) (P.SectorView.space space.new).content)) }
-    // On a fault too, it puts sectors of its own alone, whatever was committed last.
-    ensures touches { (committed : Content) → Touches committed (λ s. Contains (own_sectors volume.old) s) (P.SectorView.space space.old) (P.SectorView.space space.new) }
+    ensures edits { Edits P.SectorView.space P.SectorView.follows (P.SectorView.space space.old).spare volume.old volume.new space.old space.new result }
     ensures frame { FollowsOn volume.old.catalog.file volume.new.catalog.file (P.SectorView.space space.old) (P.SectorView.space space.new) }
-    ensures edits { (names : List ℕ) → OnOk result (TakesEdits 3 516 (state_of names volume.old.catalog.file (P.SectorView.space space.old)) (state_of names volume.new.catalog.file (P.SectorView.space space.new))) }
+    ensures takes_edits { (names : List ℕ) → OnOk result (TakesEdits 3 516 (state_of names volume.old.catalog.file (P.SectorView.space space.old)) (state_of names volume.new.catalog.file (P.SectorView.space space.new))) }
     ensures takes { (names : List ℕ) → TakesAtMost 3 516 (state_of names volume.old.catalog.file (P.SectorView.space space.old)) (state_of names volume.new.catalog.file (P.SectorView.space space.new)) }
-    ensures below { P.SectorView.follows space.old space.new }
-    ensures cause { HasTroubleCause (P.SectorView.space space.old).faults (P.SectorView.space space.new).faults result }
 {
     put_aside(
         alloc,

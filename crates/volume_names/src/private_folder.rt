@@ -1,22 +1,18 @@
 //! The private folder, made by itself where there is none.
 ghost use Rattle.std.specs.Prelude.{ℕ, ◌≡◌, ◌≤◌, ◌<◌, ◌+◌, ◌^◌, None, Some, false, true, IsTrue, IfSome, length, OnOk};
-ghost use Rattle.std.specs.List.{Contains};
-ghost use Rattle.sector_disk.specs.Lists.{Content};
-ghost use Rattle.btree_edit.specs.Causes.{HasTroubleCause};
 ghost use Rattle.btree_file.specs.Standing.{numbers_of};
 ghost use Rattle.catalog.specs.Entries.{IsOfKind};
 ghost use Rattle.catalog.specs.Pairs.{value_at};
 ghost use Rattle.cat_records.specs.Fits.{FitsEntry, FitsRecord};
 ghost use Rattle.hfs_volume.specs.Entries.{AreSpelled, AreThreaded};
 ghost use Rattle.hfs_volume.specs.Records.{id_in, is_folder, is_thread, valence_in};
-ghost use Rattle.volume_base.specs.Changing.{HasFolder, HasRoomToUpdate, KeepsBlocks, catalog_node};
+ghost use Rattle.volume_base.specs.Changing.{HasFolder, HasRoomToUpdate, catalog_node};
+ghost use Rattle.volume_base.specs.Frame.{Edits, Serves};
 ghost use Rattle.volume_base.specs.Lists.{lists_of};
 ghost use Rattle.volume_base.specs.Making.{HasRoomToMake};
 ghost use Rattle.volume_names.specs.EditsLeft.{HasEditsLeft, HasLoadFor};
 ghost use Rattle.volume_names.specs.PrivateFolder.{HasOpened, RecountsFolder, recounted, with_more};
-ghost use Rattle.volume_base.specs.Service.{IsInService};
-ghost use Rattle.volume_base.specs.Standing.{IsSettled, StandsOver, own_sectors};
-ghost use Rattle.volume_base.specs.Touching.{Touches};
+ghost use Rattle.volume_base.specs.Standing.{StandsOver};
 
 use crate::making::add_new;
 use cat_records::{CatRecord, EntryFields, FolderRecord};
@@ -73,18 +69,11 @@ fn put_recounted<P: SectorSpace>(
     requires there { IsTrue (P.SectorView.space space.old).tells → value_at (lists_of volume.old (P.SectorView.space space.old).content).catalog_pairs entry.now.parent entry.now.name ≡ Some entry.now.rec }
     requires fits { is_thread entry.now.rec ≡ false → FitsRecord entry.now.rec }
     requires room { HasRoomToUpdate volume.old (P.SectorView.space space.old) }
-    ensures stands { OnOk result (StandsOver volume.new (P.SectorView.space space.new)) }
-    ensures service { IsInService volume.new (P.SectorView.space space.new) }
     ensures counts { IsTrue (P.SectorView.space space.old).tells → is_folder entry.now.rec ≡ true → valence_in entry.now.rec + up < 2 ^ 32
         → OnOk result (RecountsFolder (id_in entry.now.rec) up volume.old volume.new (P.SectorView.space space.old).content (P.SectorView.space space.new).content) }
-    ensures blocks { KeepsBlocks volume.old volume.new }
-    ensures touches { (committed : Content) → Touches committed (λ s. Contains (own_sectors volume.old) s) (P.SectorView.space space.old) (P.SectorView.space space.new) }
-    ensures spent { IsTrue (P.SectorView.space space.old).tells → (P.SectorView.space space.old).spare ≤ (P.SectorView.space space.new).spare + catalog_node volume.old }
-    ensures own { own_sectors volume.new ≡ own_sectors volume.old }
+    ensures edits { Edits P.SectorView.space P.SectorView.follows (catalog_node volume.old) volume.old volume.new space.old space.new result }
     // Edits that have room beside a node more than these sectors have room beside them behind it.
     ensures left { (edits beside : ℕ) → HasEditsLeft edits (catalog_node volume.old + beside) volume.old (P.SectorView.space space.old) → OnOk result (HasEditsLeft edits beside volume.new (P.SectorView.space space.new)) }
-    ensures below { P.SectorView.follows space.old space.new }
-    ensures cause { HasTroubleCause (P.SectorView.space space.old).faults (P.SectorView.space space.new).faults result }
 {
     let Some(rec) = recounted(up, &entry.rec) else {
         return Ok(());
@@ -105,18 +94,10 @@ fn recount<P: SectorSpace>(
     requires threads { IsTrue (P.SectorView.space space.old).tells → AreThreaded (lists_of volume.old (P.SectorView.space space.old).content).catalog_pairs }
     requires there { IsTrue (P.SectorView.space space.old).tells → HasFolder id up (lists_of volume.old (P.SectorView.space space.old).content).catalog_pairs }
     requires room { HasRoomToUpdate volume.old (P.SectorView.space space.old) }
-    ensures stands { OnOk result (StandsOver volume.new (P.SectorView.space space.new)) }
-    ensures service { IsInService volume.new (P.SectorView.space space.new) }
     ensures counts { IsTrue (P.SectorView.space space.old).tells → OnOk result (RecountsFolder id up volume.old volume.new (P.SectorView.space space.old).content (P.SectorView.space space.new).content) }
-    ensures blocks { KeepsBlocks volume.old volume.new }
-    // On a fault too, it puts sectors of its own alone, whatever was committed last; those of one node at most.
-    ensures touches { (committed : Content) → Touches committed (λ s. Contains (own_sectors volume.old) s) (P.SectorView.space space.old) (P.SectorView.space space.new) }
-    ensures spent { IsTrue (P.SectorView.space space.old).tells → (P.SectorView.space space.old).spare ≤ (P.SectorView.space space.new).spare + catalog_node volume.old }
-    ensures own { own_sectors volume.new ≡ own_sectors volume.old }
+    ensures edits { Edits P.SectorView.space P.SectorView.follows (catalog_node volume.old) volume.old volume.new space.old space.new result }
     // Edits that have room beside a node more than these sectors have room beside them behind it.
     ensures left { (edits beside : ℕ) → HasEditsLeft edits (catalog_node volume.old + beside) volume.old (P.SectorView.space space.old) → OnOk result (HasEditsLeft edits beside volume.new (P.SectorView.space space.new)) }
-    ensures below { P.SectorView.follows space.old space.new }
-    ensures cause { HasTroubleCause (P.SectorView.space space.old).faults (P.SectorView.space space.new).faults result }
 {
     match volume.entry(alloc, space, id)? {
         Some(entry) => put_recounted(volume, alloc, space, &entry, up),
@@ -130,17 +111,12 @@ fn make_private<P: SectorSpace>(
     alloc: Global,
     space: &mut P,
 ) -> Result<(), Trouble>
-    requires stands { StandsOver volume.old (P.SectorView.space space.old) }
-    requires settled { IsTrue (P.SectorView.space space.old).tells → IsSettled volume.old (P.SectorView.space space.old).content }
+    requires serves { Serves volume.old (P.SectorView.space space.old) }
     requires size { 4096 ≤ (numbers_of volume.old.catalog.file).node_size }
     requires absent { volume.old.private ≡ None }
     requires room { HasRoomToMake volume.old (P.SectorView.space space.old) }
-    ensures stands { OnOk result (StandsOver volume.new (P.SectorView.space space.new)) }
-    ensures service { IsInService volume.new (P.SectorView.space space.new) }
     ensures does { IsTrue (P.SectorView.space space.old).tells → OnOk result (HasOpened (record volume.new { private = Some volume.old.header.next_catalog_id }) (P.SectorView.space space.old).content (P.SectorView.space space.new).content) }
-    ensures blocks { KeepsBlocks volume.old volume.new }
-    ensures own { own_sectors volume.new ≡ own_sectors volume.old }
-    ensures touches { (committed : Content) → Touches committed (λ s. Contains (own_sectors volume.old) s) (P.SectorView.space space.old) (P.SectorView.space space.new) }
+    ensures edits { Edits P.SectorView.space P.SectorView.follows (P.SectorView.space space.old).spare volume.old volume.new space.old space.new result }
     // The header was put and counts it, and the catalog's nodes are as large.
     ensures is_put { IsTrue (P.SectorView.space space.old).tells → OnOk result (IsTrue ((P.SectorView.space space.new).put 2)) }
     ensures ids { IsTrue (P.SectorView.space space.old).tells → OnOk result (volume.new.header.next_catalog_id ≡ volume.old.header.next_catalog_id + 1) }
@@ -149,8 +125,6 @@ fn make_private<P: SectorSpace>(
     ensures left { (edits beside : ℕ) → HasLoadFor (2 + edits) (1 + (catalog_node volume.old + beside)) volume.old (P.SectorView.space space.old) → OnOk result (HasEditsLeft edits beside volume.new (P.SectorView.space space.new)) }
     // On a fault too, these sectors are left.
     ensures beside { (edits beside : ℕ) → HasLoadFor (2 + edits) (1 + (catalog_node volume.old + beside)) volume.old (P.SectorView.space space.old) → IsTrue (P.SectorView.space space.old).tells → beside ≤ (P.SectorView.space space.new).spare }
-    ensures below { P.SectorView.follows space.old space.new }
-    ensures cause { HasTroubleCause (P.SectorView.space space.old).faults (P.SectorView.space space.new).faults result }
 {
     header_may_change();
     let name = private_folder(alloc)?;
@@ -165,18 +139,12 @@ pub(crate) fn open_private<P: SectorSpace>(
     alloc: Global,
     space: &mut P,
 ) -> Result<(), Trouble>
-    requires stands { StandsOver volume.old (P.SectorView.space space.old) }
-    requires settled { IsTrue (P.SectorView.space space.old).tells → IsSettled volume.old (P.SectorView.space space.old).content }
+    requires serves { Serves volume.old (P.SectorView.space space.old) }
     requires absent { volume.old.private ≡ None }
     // There is a CNID for it, and room for what it puts; the catalog needn't grow before.
     requires room { HasRoomToMake volume.old (P.SectorView.space space.old) }
-    ensures stands { OnOk result (StandsOver volume.new (P.SectorView.space space.new)) }
-    ensures service { IsInService volume.new (P.SectorView.space space.new) }
     ensures opens { IsTrue (P.SectorView.space space.old).tells → OnOk result (HasOpened volume.new (P.SectorView.space space.old).content (P.SectorView.space space.new).content) }
-    ensures blocks { KeepsBlocks volume.old volume.new }
-    ensures own { own_sectors volume.new ≡ own_sectors volume.old }
-    // On a fault too, it puts sectors of its own alone, whatever was committed last.
-    ensures touches { (committed : Content) → Touches committed (λ s. Contains (own_sectors volume.old) s) (P.SectorView.space space.old) (P.SectorView.space space.new) }
+    ensures edits { Edits P.SectorView.space P.SectorView.follows (P.SectorView.space space.old).spare volume.old volume.new space.old space.new result }
     // The header was put and counts it, and the catalog's nodes are as large.
     ensures is_put { IsTrue (P.SectorView.space space.old).tells → OnOk result (IsTrue ((P.SectorView.space space.new).put 2)) }
     ensures ids { IsTrue (P.SectorView.space space.old).tells → OnOk result (volume.new.header.next_catalog_id ≡ volume.old.header.next_catalog_id + 1) }
@@ -185,8 +153,6 @@ pub(crate) fn open_private<P: SectorSpace>(
     ensures left { (edits beside : ℕ) → HasLoadFor (2 + edits) (1 + (catalog_node volume.old + beside)) volume.old (P.SectorView.space space.old) → OnOk result (HasEditsLeft edits beside volume.new (P.SectorView.space space.new)) }
     // On a fault too, these sectors are left.
     ensures beside { (edits beside : ℕ) → HasLoadFor (2 + edits) (1 + (catalog_node volume.old + beside)) volume.old (P.SectorView.space space.old) → IsTrue (P.SectorView.space space.old).tells → beside ≤ (P.SectorView.space space.new).spare }
-    ensures below { P.SectorView.follows space.old space.new }
-    ensures cause { HasTroubleCause (P.SectorView.space space.old).faults (P.SectorView.space space.new).faults result }
 {
     // The least node size that the format allows the catalog (TN1150, "Catalog File").
     if volume.catalog.file.shape().node_size < 4096 {

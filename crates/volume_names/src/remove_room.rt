@@ -1,7 +1,6 @@
 //! How many attributes `rmdir` removes.
 ghost use Rattle.std.specs.Prelude.{◌≡◌, false, Ok, IsTrue, IfOk};
 ghost use Rattle.attributes.specs.Owned.{count_of};
-ghost use Rattle.btree_edit.specs.Causes.{HasTroubleCause};
 ghost use Rattle.hfs_language.specs.Written.{FitsPath};
 ghost use Rattle.hfs_language.specs.declared.command.Command.TheVariants as command;
 ghost use Rattle.hfs_model.specs.Step.{is_private_path};
@@ -9,11 +8,10 @@ ghost use Rattle.hfs_model.specs.declared.plain.PlainEntry.{PlainEntry};
 ghost use Rattle.volume_runs.specs.Run.{attribute_edits};
 ghost use Rattle.hfs_volume.specs.Content.{has_attributes};
 ghost use Rattle.hfs_volume.specs.TreeOf.{tree_of};
+ghost use Rattle.volume_base.specs.Frame.{Looked, Serves};
 ghost use Rattle.volume_base.specs.Lists.{lists_of};
-ghost use Rattle.volume_base.specs.Looking.{ReadsVolume};
 ghost use Rattle.volume_base.specs.Making.{path_to};
 ghost use Rattle.volume_names.specs.Removing.{MayRemove};
-ghost use Rattle.volume_base.specs.Standing.{IsSettled, StandsOver};
 
 use hfs_language::Path;
 use hfs_volume::sound_has_plain_tree;
@@ -29,14 +27,10 @@ fn count_attributes<P: SectorSpace>(
     space: &mut P,
     id: u32,
 ) -> Result<u32, Trouble>
-    requires stands { StandsOver volume.old (P.SectorView.space space.old) }
-    requires settled { IsTrue (P.SectorView.space space.old).tells → IsSettled volume.old (P.SectorView.space space.old).content }
+    requires serves { Serves volume.old (P.SectorView.space space.old) }
     ensures counted { IsTrue (P.SectorView.space space.old).tells → IfOk result (λ many. many ≡ count_of id (lists_of volume.old (P.SectorView.space space.old).content).attribute_pairs) }
-    ensures reads { ReadsVolume volume.old volume.new (P.SectorView.space space.old) (P.SectorView.space space.new) }
-    ensures stands { StandsOver volume.new (P.SectorView.space space.new) }
-    ensures settled { IsTrue (P.SectorView.space space.old).tells → IsSettled volume.new (P.SectorView.space space.new).content }
-    ensures below { P.SectorView.follows space.old space.new }
-    ensures cause { HasTroubleCause (P.SectorView.space space.old).faults (P.SectorView.space space.new).faults result }
+    ensures looked { Looked P.SectorView.space P.SectorView.follows volume.old volume.new space.old space.new result }
+    ensures serves { Serves volume.new (P.SectorView.space space.new) }
 {
     let owned = volume.tell_attributes(alloc, space, id)?;
     if owned.len() > 0xFFFF_FFFF {
@@ -53,17 +47,13 @@ fn bare_count_under<P: SectorSpace>(
     above: &[Units],
     name: &Units,
 ) -> Result<u32, Trouble>
-    requires stands { StandsOver volume.old (P.SectorView.space space.old) }
-    requires settled { IsTrue (P.SectorView.space space.old).tells → IsSettled volume.old (P.SectorView.space space.old).content }
+    requires serves { Serves volume.old (P.SectorView.space space.old) }
     requires fits { FitsPath (path_to above.now name.now) }
     ensures told { IsTrue (P.SectorView.space space.old).tells → is_private_path (path_to above.now name.now) ≡ false → (entry : PlainEntry) → MayRemove (tree_of (P.SectorView.space space.old).content) (path_to above.now name.now) entry
         → IfOk result (λ many. many ≡ attribute_edits (tree_of (P.SectorView.space space.old).content) (command.Rmdir (path_to above.now name.now))) }
     ensures none { IsTrue (P.SectorView.space space.old).tells → has_attributes volume.old.header ≡ false → IfOk result (λ many. many ≡ 0) }
-    ensures reads { ReadsVolume volume.old volume.new (P.SectorView.space space.old) (P.SectorView.space space.new) }
-    ensures stands { StandsOver volume.new (P.SectorView.space space.new) }
-    ensures settled { IsTrue (P.SectorView.space space.old).tells → IsSettled volume.new (P.SectorView.space space.new).content }
-    ensures below { P.SectorView.follows space.old space.new }
-    ensures cause { HasTroubleCause (P.SectorView.space space.old).faults (P.SectorView.space space.new).faults result }
+    ensures looked { Looked P.SectorView.space P.SectorView.follows volume.old volume.new space.old space.new result }
+    ensures serves { Serves volume.new (P.SectorView.space space.new) }
 {
     sound_has_plain_tree();
     match volume.leaving(alloc, space, above, name)? {
@@ -80,19 +70,15 @@ pub fn bare_count<P: SectorSpace>(
     space: &mut P,
     path: &Path,
 ) -> Result<u32, Trouble>
-    requires stands { StandsOver volume.old (P.SectorView.space space.old) }
-    requires settled { IsTrue (P.SectorView.space space.old).tells → IsSettled volume.old (P.SectorView.space space.old).content }
+    requires serves { Serves volume.old (P.SectorView.space space.old) }
     requires fits { FitsPath path.now }
     // Told, it is their number on the plain tree, where the folder may be removed.
     ensures told { IsTrue (P.SectorView.space space.old).tells → is_private_path path.now ≡ false → (entry : PlainEntry) → MayRemove (tree_of (P.SectorView.space space.old).content) path.now entry
         → IfOk result (λ many. many ≡ attribute_edits (tree_of (P.SectorView.space space.old).content) (command.Rmdir path.now)) }
     // Without an attributes file there are none.
     ensures none { IsTrue (P.SectorView.space space.old).tells → has_attributes volume.old.header ≡ false → IfOk result (λ many. many ≡ 0) }
-    ensures reads { ReadsVolume volume.old volume.new (P.SectorView.space space.old) (P.SectorView.space space.new) }
-    ensures stands { StandsOver volume.new (P.SectorView.space space.new) }
-    ensures settled { IsTrue (P.SectorView.space space.old).tells → IsSettled volume.new (P.SectorView.space space.new).content }
-    ensures below { P.SectorView.follows space.old space.new }
-    ensures cause { HasTroubleCause (P.SectorView.space space.old).faults (P.SectorView.space space.new).faults result }
+    ensures looked { Looked P.SectorView.space P.SectorView.follows volume.old volume.new space.old space.new result }
+    ensures serves { Serves volume.new (P.SectorView.space space.new) }
 {
     match path.as_slice().split_last() {
         Some((name, above)) => bare_count_under(volume, alloc, space, above, name),

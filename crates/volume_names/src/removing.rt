@@ -1,9 +1,6 @@
 //! `rmdir`: a folder is removed.
 ghost use Rattle.std.specs.Prelude.{◌≡◌, ◌≤◌, ◌+◌, ◌∷◌, ℕ, List, [], Ok, false, true, IsTrue, IfOk, length, OnOk};
-ghost use Rattle.std.specs.List.{Contains};
-ghost use Rattle.sector_disk.specs.Lists.{Content};
 ghost use Rattle.attributes.specs.Owned.{count_of, names_of};
-ghost use Rattle.btree_edit.specs.Causes.{HasTroubleCause};
 ghost use Rattle.btree_file.specs.Frame.{PutsWithin};
 ghost use Rattle.btree_file.specs.Standing.{numbers_of};
 ghost use Rattle.hfs_language.specs.Written.{FitsPath};
@@ -17,15 +14,14 @@ ghost use Rattle.hfs_volume.specs.Content.{volume_of};
 ghost use Rattle.hfs_volume.specs.TreeOf.{tree_of};
 ghost use Rattle.hfs_volume.specs.Weight.{weight};
 ghost use Rattle.hfs_volume.specs.declared.cost.Cost.TheVariants as cost;
-ghost use Rattle.volume_base.specs.Changing.{HasRoomToUpdate, KeepsBlocks, PutsHeader};
+ghost use Rattle.volume_base.specs.Changing.{HasRoomToUpdate, PutsHeader};
+ghost use Rattle.volume_base.specs.Frame.{Edits, Serves};
 ghost use Rattle.volume_base.specs.Lists.{lists_of};
 ghost use Rattle.volume_base.specs.Making.{entry_load, path_to};
 ghost use Rattle.volume_base.specs.Removing.{DropsFolder, HasNoAttributes, HasRoomToRemove, IsLeaving, TakesFolder, bare_load, folder_at, remove_load};
 ghost use Rattle.volume_names.specs.Removing.{HasRemoved};
 ghost use Rattle.volume_base.specs.Room.{capacity_of};
-ghost use Rattle.volume_base.specs.Service.{IsInService};
-ghost use Rattle.volume_base.specs.Standing.{IsSettled, StandsOver, own_sectors};
-ghost use Rattle.volume_base.specs.Touching.{Touches};
+ghost use Rattle.volume_base.specs.Standing.{IsSettled, StandsOver};
 
 use crate::baring::bare;
 use crate::fitting::fits_owner;
@@ -73,23 +69,15 @@ fn take_off<P: SectorSpace>(
     at: Leaving,
     name: &Units,
 ) -> Result<(), Trouble>
-    requires stands { StandsOver volume.old (P.SectorView.space space.old) }
-    requires settled { IsTrue (P.SectorView.space space.old).tells → IsSettled volume.old (P.SectorView.space space.old).content }
+    requires serves { Serves volume.old (P.SectorView.space space.old) }
     requires size { 4096 ≤ (numbers_of volume.old.catalog.file).node_size }
     requires some { 1 ≤ length name.now }
     requires name { length name.now ≤ 255 }
     requires leaving { IsTrue (P.SectorView.space space.old).tells → IsLeaving (tree_of (P.SectorView.space space.old).content) at name.now }
     requires room { HasRoomToRemove volume.old (P.SectorView.space space.old) }
-    ensures stands { OnOk result (StandsOver volume.new (P.SectorView.space space.new)) }
-    ensures service { IsInService volume.new (P.SectorView.space space.new) }
-    ensures blocks { KeepsBlocks volume.old volume.new }
     ensures drops { IsTrue (P.SectorView.space space.old).tells → OnOk result (DropsFolder at.parent name.now volume.old volume.new (P.SectorView.space space.old).content (P.SectorView.space space.new).content) }
     ensures room { OnOk result (HasRoomToUpdate volume.new (P.SectorView.space space.new)) }
-    ensures own { own_sectors volume.new ≡ own_sectors volume.old }
-    ensures touches { (committed : Content) → Touches committed (λ s. Contains (own_sectors volume.old) s) (P.SectorView.space space.old) (P.SectorView.space space.new) }
-    ensures spent { IsTrue (P.SectorView.space space.old).tells → (P.SectorView.space space.old).spare ≤ (P.SectorView.space space.new).spare + (1 + entry_load volume.old) }
-    ensures below { P.SectorView.follows space.old space.new }
-    ensures cause { HasTroubleCause (P.SectorView.space space.old).faults (P.SectorView.space space.new).faults result }
+    ensures edits { Edits P.SectorView.space P.SectorView.follows (1 + entry_load volume.old) volume.old volume.new space.old space.new result }
 {
     edits_have_room();
     edits_take_their_load();
@@ -107,23 +95,16 @@ fn remove_folder<P: SectorSpace>(
     at: Leaving,
     name: &Units,
 ) -> Result<(), Trouble>
-    requires stands { StandsOver volume.old (P.SectorView.space space.old) }
-    requires settled { IsTrue (P.SectorView.space space.old).tells → IsSettled volume.old (P.SectorView.space space.old).content }
+    requires serves { Serves volume.old (P.SectorView.space space.old) }
     requires some { 1 ≤ length name.now }
     requires name { length name.now ≤ 255 }
     requires leaving { IsTrue (P.SectorView.space space.old).tells → IsLeaving (tree_of (P.SectorView.space space.old).content) at name.now }
     requires bare { IsTrue (P.SectorView.space space.old).tells → HasNoAttributes at.id (volume_of (P.SectorView.space space.old).content).attribute_pairs }
     requires room { HasRoomToRemove volume.old (P.SectorView.space space.old) }
-    ensures stands { OnOk result (StandsOver volume.new (P.SectorView.space space.new)) }
-    ensures service { IsInService volume.new (P.SectorView.space space.new) }
     ensures takes { IsTrue (P.SectorView.space space.old).tells → OnOk result (TakesFolder at.id (volume_of (P.SectorView.space space.old).content) (volume_of (P.SectorView.space space.new).content)) }
-    ensures blocks { KeepsBlocks volume.old volume.new }
     ensures does { IsTrue (P.SectorView.space space.old).tells
         → OnOk result (IsSettled volume.new (P.SectorView.space space.new).content × (tree_of (P.SectorView.space space.new).content ≡ removed_folder (folder_at at name.now) (tree_of (P.SectorView.space space.old).content))) }
-    ensures touches { (committed : Content) → Touches committed (λ s. Contains (own_sectors volume.old) s) (P.SectorView.space space.old) (P.SectorView.space space.new) }
-    ensures spent { IsTrue (P.SectorView.space space.old).tells → (P.SectorView.space space.old).spare ≤ (P.SectorView.space space.new).spare + remove_load volume.old }
-    ensures below { P.SectorView.follows space.old space.new }
-    ensures cause { HasTroubleCause (P.SectorView.space space.old).faults (P.SectorView.space space.new).faults result }
+    ensures edits { Edits P.SectorView.space P.SectorView.follows (remove_load volume.old) volume.old volume.new space.old space.new result }
 {
     rmdir_does_its_step();
     sound_has_plain_tree();
@@ -145,23 +126,16 @@ fn remove_owner<P: SectorSpace>(
     name: &Units,
     owned: &[Units],
 ) -> Result<(), Trouble>
-    requires stands { StandsOver volume.old (P.SectorView.space space.old) }
-    requires settled { IsTrue (P.SectorView.space space.old).tells → IsSettled volume.old (P.SectorView.space space.old).content }
+    requires serves { Serves volume.old (P.SectorView.space space.old) }
     requires some { 1 ≤ length name.now }
     requires name { length name.now ≤ 255 }
     requires leaving { IsTrue (P.SectorView.space space.old).tells → IsLeaving (tree_of (P.SectorView.space space.old).content) at name.now }
     requires listed { IsTrue (P.SectorView.space space.old).tells → owned.now ≡ names_of at.id (lists_of volume.old (P.SectorView.space space.old).content).attribute_pairs }
     requires room { HasRoomToRemove volume.old (P.SectorView.space space.old) }
-    ensures stands { OnOk result (StandsOver volume.new (P.SectorView.space space.new)) }
-    ensures service { IsInService volume.new (P.SectorView.space space.new) }
     ensures takes { IsTrue (P.SectorView.space space.old).tells → OnOk result (TakesFolder at.id (volume_of (P.SectorView.space space.old).content) (volume_of (P.SectorView.space space.new).content)) }
-    ensures blocks { KeepsBlocks volume.old volume.new }
     ensures does { IsTrue (P.SectorView.space space.old).tells
         → OnOk result (IsSettled volume.new (P.SectorView.space space.new).content × (tree_of (P.SectorView.space space.new).content ≡ removed_folder (folder_at at name.now) (tree_of (P.SectorView.space space.old).content))) }
-    ensures touches { (committed : Content) → Touches committed (λ s. Contains (own_sectors volume.old) s) (P.SectorView.space space.old) (P.SectorView.space space.new) }
-    ensures spent { IsTrue (P.SectorView.space space.old).tells → (P.SectorView.space space.old).spare ≤ (P.SectorView.space space.new).spare + (remove_load volume.old + bare_load volume.old (length owned.now)) }
-    ensures below { P.SectorView.follows space.old space.new }
-    ensures cause { HasTroubleCause (P.SectorView.space space.old).faults (P.SectorView.space space.new).faults result }
+    ensures edits { Edits P.SectorView.space P.SectorView.follows (remove_load volume.old + bare_load volume.old (length owned.now)) volume.old volume.new space.old space.new result }
 {
     edits_have_room();
     edits_take_their_load();
@@ -190,22 +164,15 @@ fn remove_bare<P: SectorSpace>(
     at: Leaving,
     name: &Units,
 ) -> Result<(), Trouble>
-    requires stands { StandsOver volume.old (P.SectorView.space space.old) }
-    requires settled { IsTrue (P.SectorView.space space.old).tells → IsSettled volume.old (P.SectorView.space space.old).content }
+    requires serves { Serves volume.old (P.SectorView.space space.old) }
     requires some { 1 ≤ length name.now }
     requires name { length name.now ≤ 255 }
     requires leaving { IsTrue (P.SectorView.space space.old).tells → IsLeaving (tree_of (P.SectorView.space space.old).content) at name.now }
     requires room { HasRoomToRemove volume.old (P.SectorView.space space.old) }
-    ensures stands { OnOk result (StandsOver volume.new (P.SectorView.space space.new)) }
-    ensures service { IsInService volume.new (P.SectorView.space space.new) }
     ensures takes { IsTrue (P.SectorView.space space.old).tells → OnOk result (TakesFolder at.id (volume_of (P.SectorView.space space.old).content) (volume_of (P.SectorView.space space.new).content)) }
-    ensures blocks { KeepsBlocks volume.old volume.new }
     ensures does { IsTrue (P.SectorView.space space.old).tells
         → OnOk result (IsSettled volume.new (P.SectorView.space space.new).content × (tree_of (P.SectorView.space space.new).content ≡ removed_folder (folder_at at name.now) (tree_of (P.SectorView.space space.old).content))) }
-    ensures touches { (committed : Content) → Touches committed (λ s. Contains (own_sectors volume.old) s) (P.SectorView.space space.old) (P.SectorView.space space.new) }
-    ensures spent { IsTrue (P.SectorView.space space.old).tells → (P.SectorView.space space.old).spare ≤ (P.SectorView.space space.new).spare + (remove_load volume.old + bare_load volume.old (count_of at.id (lists_of volume.old (P.SectorView.space space.old).content).attribute_pairs)) }
-    ensures below { P.SectorView.follows space.old space.new }
-    ensures cause { HasTroubleCause (P.SectorView.space space.old).faults (P.SectorView.space space.new).faults result }
+    ensures edits { Edits P.SectorView.space P.SectorView.follows (remove_load volume.old + bare_load volume.old (count_of at.id (lists_of volume.old (P.SectorView.space space.old).content).attribute_pairs)) volume.old volume.new space.old space.new result }
 {
     let owned = volume.list_attributes(alloc, space, at.id)?;
     if owned.is_empty() {
@@ -222,8 +189,7 @@ fn rmdir_under<P: SectorSpace>(
     above: &[Units],
     name: &Units,
 ) -> Result<Reply, Trouble>
-    requires stands { StandsOver volume.old (P.SectorView.space space.old) }
-    requires settled { IsTrue (P.SectorView.space space.old).tells → IsSettled volume.old (P.SectorView.space space.old).content }
+    requires serves { Serves volume.old (P.SectorView.space space.old) }
     requires fits { FitsPath (path_to above.now name.now) }
     requires not_own { is_private_path (path_to above.now name.now) ≡ false }
     requires room { HasRoomToRemove volume.old (P.SectorView.space space.old) }
@@ -231,15 +197,10 @@ fn rmdir_under<P: SectorSpace>(
     ensures tree { IsTrue (P.SectorView.space space.old).tells → OnOk result (tree_of (P.SectorView.space space.new).content ≡ (step_line (tree_of (P.SectorView.space space.old).content) (Ok (command.Rmdir (path_to above.now name.now)))).1) }
     ensures refused { IsTrue (P.SectorView.space space.old).tells → IfOk result (λ reply. is_refusal reply ≡ true → (P.SectorView.space space.new).content ≡ (P.SectorView.space space.old).content) }
     ensures lists { IsTrue (P.SectorView.space space.old).tells → IfOk result (λ said. said ≡ reply.Ok → HasRemoved (path_to above.now name.now) (P.SectorView.space space.old).content (P.SectorView.space space.new).content) }
-    ensures stands { OnOk result (StandsOver volume.new (P.SectorView.space space.new)) }
-    ensures settled { IsTrue (P.SectorView.space space.old).tells → OnOk result (IsSettled volume.new (P.SectorView.space space.new).content) }
-    ensures service { IsInService volume.new (P.SectorView.space space.new) }
-    ensures blocks { KeepsBlocks volume.old volume.new }
-    ensures touches { (committed : Content) → Touches committed (λ s. Contains (own_sectors volume.old) s) (P.SectorView.space space.old) (P.SectorView.space space.new) }
+    ensures serves { OnOk result (Serves volume.new (P.SectorView.space space.new)) }
+    ensures edits { Edits P.SectorView.space P.SectorView.follows (P.SectorView.space space.old).spare volume.old volume.new space.old space.new result }
     ensures loads { IsTrue (P.SectorView.space space.old).tells → (n : ℕ) (grow : List ℕ) → weight (capacity_of volume.old) (volume_of (P.SectorView.space space.old).content) (tree_of (P.SectorView.space space.old).content) (command.Rmdir (path_to above.now name.now)) ≡ cost.Load n grow
         → (P.SectorView.space space.old).spare ≤ (P.SectorView.space space.new).spare + n }
-    ensures below { P.SectorView.follows space.old space.new }
-    ensures cause { HasTroubleCause (P.SectorView.space space.old).faults (P.SectorView.space space.new).faults result }
 {
     sound_has_plain_tree();
     match volume.leaving(alloc, space, above, name)? {
@@ -262,8 +223,7 @@ pub fn rmdir<P: SectorSpace>(
     space: &mut P,
     path: &Path,
 ) -> Result<Reply, Trouble>
-    requires stands { StandsOver volume.old (P.SectorView.space space.old) }
-    requires settled { IsTrue (P.SectorView.space space.old).tells → IsSettled volume.old (P.SectorView.space space.old).content }
+    requires serves { Serves volume.old (P.SectorView.space space.old) }
     requires fits { FitsPath path.now }
     // There is room for what it puts; the catalog needn't grow before.
     requires room { HasRoomToRemove volume.old (P.SectorView.space space.old) }
@@ -274,18 +234,11 @@ pub fn rmdir<P: SectorSpace>(
     // The content's lists are without its attributes and its entry, with one entry less in the folder above, and the header's numbers;
     // nothing else of them is changed.
     ensures lists { IsTrue (P.SectorView.space space.old).tells → IfOk result (λ said. said ≡ reply.Ok → HasRemoved path.now (P.SectorView.space space.old).content (P.SectorView.space space.new).content) }
-    ensures stands { OnOk result (StandsOver volume.new (P.SectorView.space space.new)) }
-    ensures settled { IsTrue (P.SectorView.space space.old).tells → OnOk result (IsSettled volume.new (P.SectorView.space space.new).content) }
-    ensures service { IsInService volume.new (P.SectorView.space space.new) }
-    // The blocks in use are as they were, and so are the file shrunk last and the capacity.
-    ensures blocks { KeepsBlocks volume.old volume.new }
-    // On a fault too, it puts sectors of its own alone, whatever was committed last.
-    ensures touches { (committed : Content) → Touches committed (λ s. Contains (own_sectors volume.old) s) (P.SectorView.space space.old) (P.SectorView.space space.new) }
+    ensures serves { OnOk result (Serves volume.new (P.SectorView.space space.new)) }
+    ensures edits { Edits P.SectorView.space P.SectorView.follows (P.SectorView.space space.old).spare volume.old volume.new space.old space.new result }
     // What its load names bounds the sectors that it puts.
     ensures loads { IsTrue (P.SectorView.space space.old).tells → (n : ℕ) (grow : List ℕ) → weight (capacity_of volume.old) (volume_of (P.SectorView.space space.old).content) (tree_of (P.SectorView.space space.old).content) (command.Rmdir path.now) ≡ cost.Load n grow
         → (P.SectorView.space space.old).spare ≤ (P.SectorView.space space.new).spare + n }
-    ensures below { P.SectorView.follows space.old space.new }
-    ensures cause { HasTroubleCause (P.SectorView.space space.old).faults (P.SectorView.space space.new).faults result }
 {
     if is_private_path(path) {
         return Ok(Reply::No(Refusal::Private));

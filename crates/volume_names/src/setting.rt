@@ -1,8 +1,6 @@
 //! `chmod`: the rights of a folder or file.
 ghost use Rattle.std.specs.Prelude.{◌≡◌, ◌<◌, ◌≤◌, ◌+◌, ℕ, List, Ok, Some, false, true, IsTrue, IfOk, length, OnOk};
 ghost use Rattle.std.specs.List.{Contains};
-ghost use Rattle.sector_disk.specs.Lists.{Content};
-ghost use Rattle.btree_edit.specs.Causes.{HasTroubleCause};
 ghost use Rattle.catalog.specs.Pairs.{value_at};
 ghost use Rattle.cat_records.specs.Fits.{FitsRecord};
 ghost use Rattle.hfs_language.specs.Written.{FitsPath};
@@ -19,12 +17,10 @@ ghost use Rattle.hfs_volume.specs.Weight.{weight};
 ghost use Rattle.hfs_volume.specs.declared.cost.Cost.TheVariants as cost;
 ghost use Rattle.volume_base.specs.Changing.{HasRoomToUpdate, catalog_node};
 ghost use Rattle.volume_names.specs.Changing.{SetsRights};
-ghost use Rattle.volume_base.specs.Keeping.{shrunk_of};
+ghost use Rattle.volume_base.specs.Frame.{Edits, Serves};
 ghost use Rattle.volume_base.specs.Lists.{lists_of};
 ghost use Rattle.volume_base.specs.Room.{capacity_of};
-ghost use Rattle.volume_base.specs.Service.{IsInService};
-ghost use Rattle.volume_base.specs.Standing.{IsSettled, StandsOver, own_sectors};
-ghost use Rattle.volume_base.specs.Touching.{Touches};
+ghost use Rattle.volume_base.specs.Standing.{IsSettled, StandsOver};
 
 use crate::fields::with_mode;
 use hfs_language::{Path, Refusal, Reply};
@@ -48,15 +44,10 @@ fn put_mode<P: SectorSpace>(
     requires there { IsTrue (P.SectorView.space space.old).tells → value_at (lists_of volume.old (P.SectorView.space space.old).content).catalog_pairs entry.now.parent entry.now.name ≡ Some entry.now.rec }
     requires fits { is_thread entry.now.rec ≡ false → FitsRecord entry.now.rec }
     requires room { HasRoomToUpdate volume.old (P.SectorView.space space.old) }
-    ensures stands { OnOk result (StandsOver volume.new (P.SectorView.space space.new)) }
-    ensures service { IsInService volume.new (P.SectorView.space space.new) }
     ensures rest { volume.new ≡ record volume.old { catalog = volume.new.catalog } }
     ensures sets { IsTrue (P.SectorView.space space.old).tells → is_thread entry.now.rec ≡ false
         → OnOk result (SetsRights volume.old.header.modify_date rights entry.now volume.old volume.new (P.SectorView.space space.old).content (P.SectorView.space space.new).content) }
-    ensures touches { (committed : Content) → Touches committed (λ s. Contains (own_sectors volume.old) s) (P.SectorView.space space.old) (P.SectorView.space space.new) }
-    ensures spent { IsTrue (P.SectorView.space space.old).tells → (P.SectorView.space space.old).spare ≤ (P.SectorView.space space.new).spare + catalog_node volume.old }
-    ensures below { P.SectorView.follows space.old space.new }
-    ensures cause { HasTroubleCause (P.SectorView.space space.old).faults (P.SectorView.space space.new).faults result }
+    ensures edits { Edits P.SectorView.space P.SectorView.follows (catalog_node volume.old) volume.old volume.new space.old space.new result }
 {
     let Some(rec) = with_mode(volume.header.modify_date, rights, &entry.rec) else {
         return Ok(());
@@ -72,21 +63,15 @@ fn set_mode<P: SectorSpace>(
     id: u32,
     rights: u16,
 ) -> Result<(), Trouble>
-    requires stands { StandsOver volume.old (P.SectorView.space space.old) }
-    requires settled { IsTrue (P.SectorView.space space.old).tells → IsSettled volume.old (P.SectorView.space space.old).content }
+    requires serves { Serves volume.old (P.SectorView.space space.old) }
     requires rights { rights < 4096 }
     requires there { IsTrue (P.SectorView.space space.old).tells → (node : PlainNode) × Contains (tree_of (P.SectorView.space space.old).content).nodes node × (node.id ≡ id) }
     requires room { HasRoomToUpdate volume.old (P.SectorView.space space.old) }
-    ensures stands { OnOk result (StandsOver volume.new (P.SectorView.space space.new)) }
-    ensures service { IsInService volume.new (P.SectorView.space space.new) }
     ensures rest { volume.new ≡ record volume.old { catalog = volume.new.catalog } }
     ensures does { IsTrue (P.SectorView.space space.old).tells → (path : List (List ℕ)) (node : PlainNode) → to_node (tree_of (P.SectorView.space space.old).content) path ≡ Ok node → node.id ≡ id
         → OnOk result (IsSettled volume.new (P.SectorView.space space.new).content × (tree_of (P.SectorView.space space.new).content ≡ (step (tree_of (P.SectorView.space space.old).content) (command.Chmod path rights)).1)
         × ChangesMode id rights (volume_of (P.SectorView.space space.old).content) (volume_of (P.SectorView.space space.new).content)) }
-    ensures touches { (committed : Content) → Touches committed (λ s. Contains (own_sectors volume.old) s) (P.SectorView.space space.old) (P.SectorView.space space.new) }
-    ensures spent { IsTrue (P.SectorView.space space.old).tells → (P.SectorView.space space.old).spare ≤ (P.SectorView.space space.new).spare + catalog_node volume.old }
-    ensures below { P.SectorView.follows space.old space.new }
-    ensures cause { HasTroubleCause (P.SectorView.space space.old).faults (P.SectorView.space space.new).faults result }
+    ensures edits { Edits P.SectorView.space P.SectorView.follows (catalog_node volume.old) volume.old volume.new space.old space.new result }
 {
     chmod_does_its_step();
     soundness_has_two_halves();
@@ -106,8 +91,7 @@ pub fn chmod<P: SectorSpace>(
     path: &Path,
     rights: u16,
 ) -> Result<Reply, Trouble>
-    requires stands { StandsOver volume.old (P.SectorView.space space.old) }
-    requires settled { IsTrue (P.SectorView.space space.old).tells → IsSettled volume.old (P.SectorView.space space.old).content }
+    requires serves { Serves volume.old (P.SectorView.space space.old) }
     requires fits { FitsPath path.now }
     requires rights { rights < 4096 }
     // Its load is a node of the catalog.
@@ -120,20 +104,11 @@ pub fn chmod<P: SectorSpace>(
     ensures lists { IsTrue (P.SectorView.space space.old).tells → IfOk result (λ said. said ≡ reply.Ok → (node : PlainNode) × (to_node (tree_of (P.SectorView.space space.old).content) path.now ≡ Ok node) × ChangesMode node.id rights (volume_of (P.SectorView.space space.old).content) (volume_of (P.SectorView.space space.new).content)) }
     // The header and the blocks in use are as they were.
     ensures header { volume.new.header ≡ volume.old.header }
-    ensures map { volume.new.map ≡ volume.old.map }
-    ensures capacity { capacity_of volume.new ≡ capacity_of volume.old }
-    ensures shrunk { shrunk_of volume.new ≡ shrunk_of volume.old }
-    ensures stands { OnOk result (StandsOver volume.new (P.SectorView.space space.new)) }
-    ensures settled { IsTrue (P.SectorView.space space.old).tells → OnOk result (IsSettled volume.new (P.SectorView.space space.new).content) }
-    ensures service { IsInService volume.new (P.SectorView.space space.new) }
-    // On a fault too, it puts sectors of its own alone, whatever was committed last.
-    ensures touches { (committed : Content) → Touches committed (λ s. Contains (own_sectors volume.old) s) (P.SectorView.space space.old) (P.SectorView.space space.new) }
-    ensures spent { IsTrue (P.SectorView.space space.old).tells → (P.SectorView.space space.old).spare ≤ (P.SectorView.space space.new).spare + catalog_node volume.old }
+    ensures serves { OnOk result (Serves volume.new (P.SectorView.space space.new)) }
+    ensures edits { Edits P.SectorView.space P.SectorView.follows (catalog_node volume.old) volume.old volume.new space.old space.new result }
     // What its load names bounds the sectors that it puts.
     ensures loads { IsTrue (P.SectorView.space space.old).tells → (n : ℕ) (grow : List ℕ) → weight (capacity_of volume.old) (volume_of (P.SectorView.space space.old).content) (tree_of (P.SectorView.space space.old).content) (command.Chmod path.now rights) ≡ cost.Load n grow
         → (P.SectorView.space space.old).spare ≤ (P.SectorView.space space.new).spare + n }
-    ensures below { P.SectorView.follows space.old space.new }
-    ensures cause { HasTroubleCause (P.SectorView.space space.old).faults (P.SectorView.space space.new).faults result }
 {
     if is_private_path(path) {
         return Ok(Reply::No(Refusal::Private));

@@ -1,8 +1,5 @@
 //! `ln` of a file with one name: it goes to the private folder, and links stand at both names.
 ghost use Rattle.std.specs.Prelude.{◌≡◌, ◌<◌, ◌≤◌, ◌+◌, ◌*◌, ◌∷◌, ◌^◌, ℕ, List, [], None, Some, IsTrue, length, OnOk};
-ghost use Rattle.std.specs.List.{Contains};
-ghost use Rattle.sector_disk.specs.Lists.{Content};
-ghost use Rattle.btree_edit.specs.Causes.{HasTroubleCause};
 ghost use Rattle.btree_edit.specs.Edits.{EditRoom};
 ghost use Rattle.btree_file.specs.Frame.{PutsWithin};
 ghost use Rattle.btree_file.specs.Standing.{numbers_of};
@@ -14,15 +11,14 @@ ghost use Rattle.hfs_model.specs.declared.plain.PlainEntry.{PlainEntry};
 ghost use Rattle.hfs_volume.specs.Records.{placed_in, record_at};
 ghost use Rattle.hfs_volume.specs.TreeOf.{tree_of};
 ghost use Rattle.volume_header.specs.Header.{FitsHeader};
-ghost use Rattle.volume_base.specs.Changing.{HasRoomToUpdate, HasRoomToUpdates, KeepsBlocks, PutsHeader, catalog_node};
+ghost use Rattle.volume_base.specs.Changing.{HasRoomToUpdate, HasRoomToUpdates, PutsHeader, catalog_node};
+ghost use Rattle.volume_base.specs.Frame.{Edits, Serves};
 ghost use Rattle.volume_base.specs.Linking.{IsLinking};
 ghost use Rattle.volume_base.specs.Lists.{lists_of};
 ghost use Rattle.volume_base.specs.Losing.{IsOnlyName};
-ghost use Rattle.volume_base.specs.Service.{IsInService};
 ghost use Rattle.volume_names.specs.EditsLeft.{HasEditsLeft, IsReadyToShare, to_put_header};
 ghost use Rattle.volume_names.specs.Sharing.{LinksBoth, PutsLink, SharesFile, with_two_made};
-ghost use Rattle.volume_base.specs.Standing.{IsSettled, StandsOver, own_sectors};
-ghost use Rattle.volume_base.specs.Touching.{Touches};
+ghost use Rattle.volume_base.specs.Standing.{StandsOver};
 ghost use Rattle.volume_names.specs.Unlinking.{HasShared, SaysLinks};
 
 use crate::changing::add;
@@ -82,8 +78,7 @@ fn share_file<P: SectorSpace>(
     node: &Units,
     number: u32,
 ) -> Result<(), Trouble>
-    requires stands { StandsOver volume.old (P.SectorView.space space.old) }
-    requires settled { IsTrue (P.SectorView.space space.old).tells → IsSettled volume.old (P.SectorView.space space.old).content }
+    requires serves { Serves volume.old (P.SectorView.space space.old) }
     requires size { 4096 ≤ (numbers_of volume.old.catalog.file).node_size }
     requires some { 1 ≤ length old.now }
     requires old_name { length old.now ≤ 255 }
@@ -93,21 +88,15 @@ fn share_file<P: SectorSpace>(
     requires there { IsTrue (P.SectorView.space space.old).tells → record_at (placed_in (lists_of volume.old (P.SectorView.space space.old).content).catalog_pairs) parent old.now ≡ None → ⊥ }
     requires free { IsTrue (P.SectorView.space space.old).tells → record_at (placed_in (lists_of volume.old (P.SectorView.space space.old).content).catalog_pairs) private (node_name number) ≡ None }
     requires room { IsReadyToShare volume.old (P.SectorView.space space.old) }
-    ensures stands { OnOk result (StandsOver volume.new (P.SectorView.space space.new)) }
-    ensures service { IsInService volume.new (P.SectorView.space space.new) }
     ensures shares { IsTrue (P.SectorView.space space.old).tells → OnOk result (SharesFile parent old.now private number volume.old volume.new (P.SectorView.space space.old).content (P.SectorView.space space.new).content) }
     // What is left of the room for seven edits suffices for four, and for three updates.
     ensures left { OnOk result (HasEditsLeft 4 (3 * catalog_node volume.old) volume.new (P.SectorView.space space.new)) }
     ensures size { OnOk result ((numbers_of volume.new.catalog.file).node_size ≡ (numbers_of volume.old.catalog.file).node_size) }
-    ensures own { own_sectors volume.new ≡ own_sectors volume.old }
-    ensures blocks { KeepsBlocks volume.old volume.new }
-    ensures touches { (committed : Content) → Touches committed (λ s. Contains (own_sectors volume.old) s) (P.SectorView.space space.old) (P.SectorView.space space.new) }
+    ensures edits { Edits P.SectorView.space P.SectorView.follows (P.SectorView.space space.old).spare volume.old volume.new space.old space.new result }
     // The same beside any other sectors.
     ensures leaves { (beside : ℕ) → HasEditsLeft 7 (to_put_header (P.SectorView.space space.old) + beside) volume.old (P.SectorView.space space.old) → OnOk result (HasEditsLeft 4 beside volume.new (P.SectorView.space space.new)) }
     // On a fault too, the sectors beside the edits are left.
     ensures beside { (beside : ℕ) → HasEditsLeft 7 (to_put_header (P.SectorView.space space.old) + beside) volume.old (P.SectorView.space space.old) → IsTrue (P.SectorView.space space.old).tells → beside ≤ (P.SectorView.space space.new).spare }
-    ensures below { P.SectorView.follows space.old space.new }
-    ensures cause { HasTroubleCause (P.SectorView.space space.old).faults (P.SectorView.space space.new).faults result }
 {
     draw_two(volume, space);
     relocate(volume, alloc, space, parent, old, private, node)?;
@@ -132,19 +121,13 @@ fn put_link<P: SectorSpace>(
     requires vacant { IsTrue (P.SectorView.space space.old).tells → record_at (placed_in (lists_of volume.old (P.SectorView.space space.old).content).catalog_pairs) folder name.now ≡ None }
     requires unused { IsTrue (P.SectorView.space space.old).tells → record_at (placed_in (lists_of volume.old (P.SectorView.space space.old).content).catalog_pairs) id [] ≡ None }
     requires room { (names : List ℕ) → IsTrue (P.SectorView.space space.old).tells → EditRoom 2 516 (state_of names volume.old.catalog.file (P.SectorView.space space.old)) }
-    ensures stands { OnOk result (StandsOver volume.new (P.SectorView.space space.new)) }
-    ensures service { IsInService volume.new (P.SectorView.space space.new) }
     ensures puts { IsTrue (P.SectorView.space space.old).tells → OnOk result (PutsLink folder name.now id number created volume.old volume.new (P.SectorView.space space.old).content (P.SectorView.space space.new).content) }
     // Of room for two edits more, that for the others is left.
     ensures left { (edits beside : ℕ) → HasEditsLeft (2 + edits) beside volume.old (P.SectorView.space space.old) → OnOk result (HasEditsLeft edits beside volume.new (P.SectorView.space space.new)) }
     // On a fault too, the sectors beside them are left.
     ensures beside { (edits beside : ℕ) → HasEditsLeft (2 + edits) beside volume.old (P.SectorView.space space.old) → IsTrue (P.SectorView.space space.old).tells → beside ≤ (P.SectorView.space space.new).spare }
     ensures size { OnOk result ((numbers_of volume.new.catalog.file).node_size ≡ (numbers_of volume.old.catalog.file).node_size) }
-    ensures own { own_sectors volume.new ≡ own_sectors volume.old }
-    ensures blocks { KeepsBlocks volume.old volume.new }
-    ensures touches { (committed : Content) → Touches committed (λ s. Contains (own_sectors volume.old) s) (P.SectorView.space space.old) (P.SectorView.space space.new) }
-    ensures below { P.SectorView.follows space.old space.new }
-    ensures cause { HasTroubleCause (P.SectorView.space space.old).faults (P.SectorView.space space.new).faults result }
+    ensures edits { Edits P.SectorView.space P.SectorView.follows (P.SectorView.space space.old).spare volume.old volume.new space.old space.new result }
 {
     let rec = link_record(id, number, created);
     add(volume, alloc, space, folder, name, &rec)?;
@@ -162,17 +145,10 @@ pub(crate) fn say_two<P: SectorSpace>(
     requires threads { IsTrue (P.SectorView.space space.old).tells → AreThreaded (lists_of volume.old (P.SectorView.space space.old).content).catalog_pairs }
     requires there { IsTrue (P.SectorView.space space.old).tells → HasShared id (lists_of volume.old (P.SectorView.space space.old).content).catalog_pairs }
     requires room { HasRoomToUpdate volume.old (P.SectorView.space space.old) }
-    ensures stands { OnOk result (StandsOver volume.new (P.SectorView.space space.new)) }
-    ensures service { IsInService volume.new (P.SectorView.space space.new) }
     // What is left of the room for so many updates suffices for the others.
     ensures room { (many : ℕ) → HasRoomToUpdates (many + 1) volume.old (P.SectorView.space space.old) → OnOk result (HasRoomToUpdates many volume.new (P.SectorView.space space.new)) }
     ensures says { IsTrue (P.SectorView.space space.old).tells → OnOk result ((had : ℕ) × SaysLinks id 2 had volume.old volume.new (P.SectorView.space space.old).content (P.SectorView.space space.new).content) }
-    ensures own { own_sectors volume.new ≡ own_sectors volume.old }
-    ensures blocks { KeepsBlocks volume.old volume.new }
-    ensures touches { (committed : Content) → Touches committed (λ s. Contains (own_sectors volume.old) s) (P.SectorView.space space.old) (P.SectorView.space space.new) }
-    ensures spent { IsTrue (P.SectorView.space space.old).tells → (P.SectorView.space space.old).spare ≤ (P.SectorView.space space.new).spare + catalog_node volume.old }
-    ensures below { P.SectorView.follows space.old space.new }
-    ensures cause { HasTroubleCause (P.SectorView.space space.old).faults (P.SectorView.space space.new).faults result }
+    ensures edits { Edits P.SectorView.space P.SectorView.follows (catalog_node volume.old) volume.old volume.new space.old space.new result }
 {
     match volume.entry(alloc, space, id)? {
         Some(entry) => put_links(volume, alloc, space, &entry, 2),
@@ -193,8 +169,7 @@ pub(crate) fn share<P: SectorSpace>(
     number: u32,
     created: u32,
 ) -> Result<(), Trouble>
-    requires stands { StandsOver volume.old (P.SectorView.space space.old) }
-    requires settled { IsTrue (P.SectorView.space space.old).tells → IsSettled volume.old (P.SectorView.space space.old).content }
+    requires serves { Serves volume.old (P.SectorView.space space.old) }
     requires size { 4096 ≤ (numbers_of volume.old.catalog.file).node_size }
     requires some { 1 ≤ length name.now }
     requires name { length name.now ≤ 255 }
@@ -208,21 +183,15 @@ pub(crate) fn share<P: SectorSpace>(
     requires only { IsTrue (P.SectorView.space space.old).tells → IsOnlyName (record { parent = way.now.parent; name = old.now }) (lists_of volume.old (P.SectorView.space space.old).content).catalog_pairs }
     requires links { IsTrue (P.SectorView.space space.old).tells → (from to : List (List ℕ)) × (at : PlainEntry) × IsLinking (tree_of (P.SectorView.space space.old).content) from to at way.now.parent old.now way.now.id way.now.folder name.now }
     requires room { IsReadyToShare volume.old (P.SectorView.space space.old) }
-    ensures stands { OnOk result (StandsOver volume.new (P.SectorView.space space.new)) }
-    ensures service { IsInService volume.new (P.SectorView.space space.new) }
     // Three records may be updated behind it.
     ensures room { OnOk result (HasRoomToUpdates 3 volume.new (P.SectorView.space space.new)) }
     ensures both { IsTrue (P.SectorView.space space.old).tells → OnOk result (LinksBoth way.now.parent old.now private number way.now.folder name.now created volume.old volume.new (P.SectorView.space space.old).content (P.SectorView.space space.new).content) }
-    ensures own { own_sectors volume.new ≡ own_sectors volume.old }
-    ensures blocks { KeepsBlocks volume.old volume.new }
-    ensures touches { (committed : Content) → Touches committed (λ s. Contains (own_sectors volume.old) s) (P.SectorView.space space.old) (P.SectorView.space space.new) }
+    ensures edits { Edits P.SectorView.space P.SectorView.follows (P.SectorView.space space.old).spare volume.old volume.new space.old space.new result }
     // What other puts need beside its edits is left.
     ensures leaves { (beside : ℕ) → HasEditsLeft 7 (to_put_header (P.SectorView.space space.old) + beside) volume.old (P.SectorView.space space.old) → OnOk result (HasEditsLeft 0 beside volume.new (P.SectorView.space space.new)) }
     // On a fault too, the sectors beside the edits are left.
     ensures beside { (beside : ℕ) → HasEditsLeft 7 (to_put_header (P.SectorView.space space.old) + beside) volume.old (P.SectorView.space space.old) → IsTrue (P.SectorView.space space.old).tells → beside ≤ (P.SectorView.space space.new).spare }
     ensures size { OnOk result ((numbers_of volume.new.catalog.file).node_size ≡ (numbers_of volume.old.catalog.file).node_size) }
-    ensures below { P.SectorView.follows space.old space.new }
-    ensures cause { HasTroubleCause (P.SectorView.space space.old).faults (P.SectorView.space space.new).faults result }
 {
     let one = volume.header.next_catalog_id;
     let two = id_behind(one);

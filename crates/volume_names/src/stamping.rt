@@ -1,18 +1,14 @@
 //! The attribute date of what a command did something to.
 ghost use Rattle.std.specs.Prelude.{ℕ, ◌≡◌, ◌≤◌, ◌+◌, Some, false, IsTrue, length, OnOk};
-ghost use Rattle.std.specs.List.{Contains};
-ghost use Rattle.sector_disk.specs.Lists.{Content};
-ghost use Rattle.btree_edit.specs.Causes.{HasTroubleCause};
 ghost use Rattle.catalog.specs.Pairs.{value_at};
 ghost use Rattle.cat_records.specs.Fits.{FitsRecord};
 ghost use Rattle.hfs_volume.specs.Entries.{AreSpelled, AreThreaded};
 ghost use Rattle.hfs_volume.specs.Records.{id_in, is_thread};
 ghost use Rattle.volume_names.specs.Changing.{DatesEntry, HasEntry};
-ghost use Rattle.volume_base.specs.Changing.{HasRoomToUpdate, HasRoomToUpdates, KeepsBlocks, catalog_node};
+ghost use Rattle.volume_base.specs.Changing.{HasRoomToUpdate, HasRoomToUpdates, catalog_node};
+ghost use Rattle.volume_base.specs.Frame.{Edits};
 ghost use Rattle.volume_base.specs.Lists.{lists_of};
-ghost use Rattle.volume_base.specs.Service.{IsInService};
-ghost use Rattle.volume_base.specs.Standing.{StandsOver, own_sectors};
-ghost use Rattle.volume_base.specs.Touching.{Touches};
+ghost use Rattle.volume_base.specs.Standing.{StandsOver};
 
 use crate::fields::dated;
 use hx_bytes::Trouble;
@@ -33,16 +29,10 @@ fn put_dated<P: SectorSpace>(
     requires there { IsTrue (P.SectorView.space space.old).tells → value_at (lists_of volume.old (P.SectorView.space space.old).content).catalog_pairs entry.now.parent entry.now.name ≡ Some entry.now.rec }
     requires fits { is_thread entry.now.rec ≡ false → FitsRecord entry.now.rec }
     requires room { HasRoomToUpdate volume.old (P.SectorView.space space.old) }
-    ensures stands { OnOk result (StandsOver volume.new (P.SectorView.space space.new)) }
-    ensures service { IsInService volume.new (P.SectorView.space space.new) }
     ensures dates { IsTrue (P.SectorView.space space.old).tells → is_thread entry.now.rec ≡ false → OnOk result (DatesEntry (id_in entry.now.rec) volume.old volume.new (P.SectorView.space space.old).content (P.SectorView.space space.new).content) }
-    ensures blocks { KeepsBlocks volume.old volume.new }
-    ensures touches { (committed : Content) → Touches committed (λ s. Contains (own_sectors volume.old) s) (P.SectorView.space space.old) (P.SectorView.space space.new) }
-    ensures spent { IsTrue (P.SectorView.space space.old).tells → (P.SectorView.space space.old).spare ≤ (P.SectorView.space space.new).spare + catalog_node volume.old }
+    ensures edits { Edits P.SectorView.space P.SectorView.follows (catalog_node volume.old) volume.old volume.new space.old space.new result }
     // What is left of the room for so many updates suffices for the others.
     ensures room { (many : ℕ) → HasRoomToUpdates (many + 1) volume.old (P.SectorView.space space.old) → OnOk result (HasRoomToUpdates many volume.new (P.SectorView.space space.new)) }
-    ensures below { P.SectorView.follows space.old space.new }
-    ensures cause { HasTroubleCause (P.SectorView.space space.old).faults (P.SectorView.space space.new).faults result }
 {
     let Some(rec) = dated(volume.header.modify_date, &entry.rec) else {
         return Ok(());
@@ -62,17 +52,10 @@ pub(crate) fn date<P: SectorSpace>(
     requires threads { IsTrue (P.SectorView.space space.old).tells → AreThreaded (lists_of volume.old (P.SectorView.space space.old).content).catalog_pairs }
     requires there { IsTrue (P.SectorView.space space.old).tells → HasEntry id (lists_of volume.old (P.SectorView.space space.old).content).catalog_pairs }
     requires room { HasRoomToUpdate volume.old (P.SectorView.space space.old) }
-    ensures stands { OnOk result (StandsOver volume.new (P.SectorView.space space.new)) }
-    ensures service { IsInService volume.new (P.SectorView.space space.new) }
     ensures dates { IsTrue (P.SectorView.space space.old).tells → OnOk result (DatesEntry id volume.old volume.new (P.SectorView.space space.old).content (P.SectorView.space space.new).content) }
-    ensures blocks { KeepsBlocks volume.old volume.new }
-    // On a fault too, it puts sectors of its own alone, whatever was committed last; those of one node at most.
-    ensures touches { (committed : Content) → Touches committed (λ s. Contains (own_sectors volume.old) s) (P.SectorView.space space.old) (P.SectorView.space space.new) }
-    ensures spent { IsTrue (P.SectorView.space space.old).tells → (P.SectorView.space space.old).spare ≤ (P.SectorView.space space.new).spare + catalog_node volume.old }
+    ensures edits { Edits P.SectorView.space P.SectorView.follows (catalog_node volume.old) volume.old volume.new space.old space.new result }
     // What is left of the room for so many updates suffices for the others.
     ensures room { (many : ℕ) → HasRoomToUpdates (many + 1) volume.old (P.SectorView.space space.old) → OnOk result (HasRoomToUpdates many volume.new (P.SectorView.space space.new)) }
-    ensures below { P.SectorView.follows space.old space.new }
-    ensures cause { HasTroubleCause (P.SectorView.space space.old).faults (P.SectorView.space space.new).faults result }
 {
     match volume.entry(alloc, space, id)? {
         Some(entry) => put_dated(volume, alloc, space, &entry),

@@ -1,7 +1,6 @@
 //! What data costs that a command puts into a file.
 ghost use Rattle.std.specs.Prelude.{◌≡◌, ◌<◌, ◌≤◌, ◌^◌, true, false, is_some, length, min, Some, IsTrue, IfOk, IfSome};
 ghost use Rattle.std.specs.List.{Contains};
-ghost use Rattle.btree_edit.specs.Causes.{HasTroubleCause};
 ghost use Rattle.flag_rows.specs.Runs.{fewest_of};
 ghost use Rattle.hfs_model.specs.declared.plain.PlainNode.{PlainNode};
 ghost use Rattle.hfs_volume.specs.Content.{volume_of, records_of, overflow_in_volume};
@@ -12,11 +11,10 @@ ghost use Rattle.hfs_volume.specs.Weight.{file_blocks, file_extents, free_runs, 
 ghost use Rattle.volume_cost.specs.Sizes.{AreSmall};
 ghost use Rattle.volume_weights.specs.DataWeighing.{IsFileOfPut, are_usual, file_of_record, has_more, needs_put};
 ghost use Rattle.volume_base.specs.DataWeighing.{data_as, data_weighed};
-ghost use Rattle.volume_base.specs.Looking.{ReadsVolume};
+ghost use Rattle.volume_base.specs.Frame.{Looked, Serves};
 ghost use Rattle.volume_base.specs.Reading.{HasFile};
 ghost use Rattle.volume_base.specs.Room.{capacity_of, free_in};
 ghost use Rattle.volume_base.specs.declared.room.FreeBlocks.TheVariants as blocks;
-ghost use Rattle.volume_base.specs.Standing.{IsSettled, StandsOver};
 
 use crate::weighing::joined;
 use cat_records::{CatRecord, FileRecord};
@@ -112,8 +110,7 @@ fn cost_of_put<P: SectorSpace>(
     extents: u32,
     put: Put,
 ) -> Cost
-    requires stands { StandsOver volume.now (P.SectorView.space _space.now) }
-    requires settled { IsTrue (P.SectorView.space _space.now).tells → IsSettled volume.now (P.SectorView.space _space.now).content }
+    requires serves { Serves volume.now (P.SectorView.space _space.now) }
     requires usual { are_usual volume.now.header.block_size put ≡ true }
     ensures exact { IsTrue (P.SectorView.space _space.now).tells → result ≡ cost_of (needs_put (free_in free volume.now.map) volume.now.header.block_size extents (data_as put)) (room_with (capacity_of volume.now) (free_in free volume.now.map) (volume_of (P.SectorView.space _space.now).content)) }
 {
@@ -135,8 +132,7 @@ fn weigh_fork<P: SectorSpace>(
     held: u32,
     put: Put,
 ) -> Option<Weight>
-    requires stands { StandsOver volume.now (P.SectorView.space space.now) }
-    requires settled { IsTrue (P.SectorView.space space.now).tells → IsSettled volume.now (P.SectorView.space space.now).content }
+    requires serves { Serves volume.now (P.SectorView.space space.now) }
     requires old { IsTrue (P.SectorView.space space.now).tells → put.old_size ≤ 2 ^ 48 }
     requires end { put.end ≤ 2 ^ 40 }
     requires extents { IsTrue (P.SectorView.space space.now).tells → extents ≡ min (length (file_extents (volume_of (P.SectorView.space space.now).content) put.id data_kind)) 4294967295 }
@@ -164,15 +160,11 @@ fn load_data_fork<P: SectorSpace>(
     space: &mut P,
     file: &FileRecord,
 ) -> Result<ExtentList, Trouble>
-    requires stands { StandsOver volume.old (P.SectorView.space space.old) }
-    requires settled { IsTrue (P.SectorView.space space.old).tells → IsSettled volume.old (P.SectorView.space space.old).content }
+    requires serves { Serves volume.old (P.SectorView.space space.old) }
     requires there { IsTrue (P.SectorView.space space.old).tells → HasFile (records_of (volume_of (P.SectorView.space space.old).content)) file.now }
     ensures list { IsTrue (P.SectorView.space space.old).tells → IfOk result (λ list. list ≡ extents_of (overflow_in_volume (volume_of (P.SectorView.space space.old).content)) file.now.fields.id data_kind file.now.data_fork) }
-    ensures reads { ReadsVolume volume.old volume.new (P.SectorView.space space.old) (P.SectorView.space space.new) }
-    ensures stands { StandsOver volume.new (P.SectorView.space space.new) }
-    ensures settled { IsTrue (P.SectorView.space space.old).tells → IsSettled volume.new (P.SectorView.space space.new).content }
-    ensures below { P.SectorView.follows space.old space.new }
-    ensures cause { HasTroubleCause (P.SectorView.space space.old).faults (P.SectorView.space space.new).faults result }
+    ensures looked { Looked P.SectorView.space P.SectorView.follows volume.old volume.new space.old space.new result }
+    ensures serves { Serves volume.new (P.SectorView.space space.new) }
 {
     load_extents(
         alloc,
@@ -193,18 +185,14 @@ fn weigh_file<P: SectorSpace>(
     file: &FileRecord,
     put: Put,
 ) -> Result<Option<Weight>, Trouble>
-    requires stands { StandsOver volume.old (P.SectorView.space space.old) }
-    requires settled { IsTrue (P.SectorView.space space.old).tells → IsSettled volume.old (P.SectorView.space space.old).content }
+    requires serves { Serves volume.old (P.SectorView.space space.old) }
     requires end { put.end ≤ 2 ^ 40 }
     requires there { IsTrue (P.SectorView.space space.old).tells → IsFileOfPut (volume_of (P.SectorView.space space.old).content) file.now put }
     ensures answer { IsTrue (P.SectorView.space space.old).tells → IfOk result (λ said. IfSome said (λ weighs. weighs ≡ data_weighed (capacity_of volume.old) (free_in blocks.Takable volume.old.map) (volume_of (P.SectorView.space space.old).content) (data_as put))) }
     ensures no_cut { IsTrue (P.SectorView.space space.old).tells → IfOk result (λ said. is_some said ≡ true → needs_cut (volume_of (P.SectorView.space space.old).content) (Some (data_as put)) ≡ false) }
     ensures waits { IsTrue (P.SectorView.space space.old).tells → IfOk result (λ said. is_some said ≡ false → needs_cut (volume_of (P.SectorView.space space.old).content) (Some (data_as put)) ≡ true) }
-    ensures reads { ReadsVolume volume.old volume.new (P.SectorView.space space.old) (P.SectorView.space space.new) }
-    ensures stands { StandsOver volume.new (P.SectorView.space space.new) }
-    ensures settled { IsTrue (P.SectorView.space space.old).tells → IsSettled volume.new (P.SectorView.space space.new).content }
-    ensures below { P.SectorView.follows space.old space.new }
-    ensures cause { HasTroubleCause (P.SectorView.space space.old).faults (P.SectorView.space space.new).faults result }
+    ensures looked { Looked P.SectorView.space P.SectorView.follows volume.old volume.new space.old space.new result }
+    ensures serves { Serves volume.new (P.SectorView.space space.new) }
 {
     let list = load_data_fork(volume, alloc, space, file)?;
     let extents = count_extents(&list);
@@ -218,16 +206,12 @@ fn file_of_put<P: SectorSpace>(
     space: &mut P,
     put: Put,
 ) -> Result<Option<FileRecord>, Trouble>
-    requires stands { StandsOver volume.old (P.SectorView.space space.old) }
-    requires settled { IsTrue (P.SectorView.space space.old).tells → IsSettled volume.old (P.SectorView.space space.old).content }
+    requires serves { Serves volume.old (P.SectorView.space space.old) }
     requires there { IsTrue (P.SectorView.space space.old).tells → (node : PlainNode) × Contains (tree_of (P.SectorView.space space.old).content).nodes node × (node.folder ≡ false) × (node.id ≡ put.id) × (length node.bytes ≡ put.old_size) }
     ensures found { IsTrue (P.SectorView.space space.old).tells → IfOk result (λ found. IfSome found (λ file. IsFileOfPut (volume_of (P.SectorView.space space.old).content) file put)) }
     ensures some { IsTrue (P.SectorView.space space.old).tells → IfOk result (λ found. is_some found ≡ true) }
-    ensures reads { ReadsVolume volume.old volume.new (P.SectorView.space space.old) (P.SectorView.space space.new) }
-    ensures stands { StandsOver volume.new (P.SectorView.space space.new) }
-    ensures settled { IsTrue (P.SectorView.space space.old).tells → IsSettled volume.new (P.SectorView.space space.new).content }
-    ensures below { P.SectorView.follows space.old space.new }
-    ensures cause { HasTroubleCause (P.SectorView.space space.old).faults (P.SectorView.space space.new).faults result }
+    ensures looked { Looked P.SectorView.space P.SectorView.follows volume.old volume.new space.old space.new result }
+    ensures serves { Serves volume.new (P.SectorView.space space.new) }
 {
     match volume.entry(alloc, space, put.id)? {
         Some(entry) => Ok(file_of_record(&entry.rec)),
@@ -242,18 +226,14 @@ pub(crate) fn weigh_put<P: SectorSpace>(
     space: &mut P,
     put: Put,
 ) -> Result<Option<Weight>, Trouble>
-    requires stands { StandsOver volume.old (P.SectorView.space space.old) }
-    requires settled { IsTrue (P.SectorView.space space.old).tells → IsSettled volume.old (P.SectorView.space space.old).content }
+    requires serves { Serves volume.old (P.SectorView.space space.old) }
     requires end { put.end ≤ 2 ^ 40 }
     requires there { IsTrue (P.SectorView.space space.old).tells → (node : PlainNode) × Contains (tree_of (P.SectorView.space space.old).content).nodes node × (node.folder ≡ false) × (node.id ≡ put.id) × (length node.bytes ≡ put.old_size) }
     ensures answer { IsTrue (P.SectorView.space space.old).tells → IfOk result (λ said. IfSome said (λ weighs. weighs ≡ data_weighed (capacity_of volume.old) (free_in blocks.Takable volume.old.map) (volume_of (P.SectorView.space space.old).content) (data_as put))) }
     ensures no_cut { IsTrue (P.SectorView.space space.old).tells → IfOk result (λ said. is_some said ≡ true → needs_cut (volume_of (P.SectorView.space space.old).content) (Some (data_as put)) ≡ false) }
     ensures waits { IsTrue (P.SectorView.space space.old).tells → IfOk result (λ said. is_some said ≡ false → needs_cut (volume_of (P.SectorView.space space.old).content) (Some (data_as put)) ≡ true) }
-    ensures reads { ReadsVolume volume.old volume.new (P.SectorView.space space.old) (P.SectorView.space space.new) }
-    ensures stands { StandsOver volume.new (P.SectorView.space space.new) }
-    ensures settled { IsTrue (P.SectorView.space space.old).tells → IsSettled volume.new (P.SectorView.space space.new).content }
-    ensures below { P.SectorView.follows space.old space.new }
-    ensures cause { HasTroubleCause (P.SectorView.space space.old).faults (P.SectorView.space space.new).faults result }
+    ensures looked { Looked P.SectorView.space P.SectorView.follows volume.old volume.new space.old space.new result }
+    ensures serves { Serves volume.new (P.SectorView.space space.new) }
 {
     match file_of_put(volume, alloc, space, put)? {
         Some(file) => weigh_file(volume, alloc, space, &file, put),

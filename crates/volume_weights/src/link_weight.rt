@@ -7,11 +7,10 @@ ghost use Rattle.hfs_model.specs.Step.{step_line};
 ghost use Rattle.hfs_volume.specs.Content.{volume_of};
 ghost use Rattle.hfs_volume.specs.TreeOf.{tree_of};
 ghost use Rattle.volume_weights.specs.Linking.{first_edits, link_weighed};
-ghost use Rattle.volume_base.specs.Looking.{ReadsVolume};
+ghost use Rattle.volume_base.specs.Frame.{Looked, Serves};
 ghost use Rattle.volume_base.specs.Refusing.{refusal_in};
 ghost use Rattle.volume_base.specs.Room.{capacity_of, free_in};
 ghost use Rattle.volume_base.specs.declared.room.FreeBlocks.TheVariants as blocks;
-ghost use Rattle.volume_base.specs.Standing.{IsSettled, StandsOver};
 ghost use Rattle.volume_base.specs.Weighing.{edits_weighed, weighed};
 
 use crate::lose_weight::node;
@@ -46,8 +45,7 @@ fn first_edits(volume: &Volume) -> Edits
 
 /// What the edits weigh by which a file gets its first link, or another one. `Memory` is answered for a folder, which gets none.
 fn weigh_link<P: SectorSpace>(volume: &Volume, space: &P, node: &Node) -> Result<Weight, Trouble>
-    requires stands { StandsOver volume.now (P.SectorView.space space.now) }
-    requires settled { IsTrue (P.SectorView.space space.now).tells → IsSettled volume.now (P.SectorView.space space.now).content }
+    requires serves { Serves volume.now (P.SectorView.space space.now) }
     ensures exact { IsTrue (P.SectorView.space space.now).tells
         → IfOk result (λ weighs. Some weighs ≡ link_weighed node.now (edits_weighed (capacity_of volume.now) (free_in blocks.Takable volume.now.map) (volume_of (P.SectorView.space space.now).content)) volume.now.private) }
     ensures cause { HasTroubleCause (P.SectorView.space space.now).faults (P.SectorView.space space.now).faults result }
@@ -78,18 +76,14 @@ fn weigh_ln_fine<P: SectorSpace>(
     from: &Path,
     to: &Path,
 ) -> Result<Weight, Trouble>
-    requires stands { StandsOver volume.old (P.SectorView.space space.old) }
-    requires settled { IsTrue (P.SectorView.space space.old).tells → IsSettled volume.old (P.SectorView.space space.old).content }
+    requires serves { Serves volume.old (P.SectorView.space space.old) }
     requires from_fits { FitsPath from.now }
     requires to_fits { FitsPath to.now }
     requires fine { IsTrue (P.SectorView.space space.old).tells → None ≡ refusal_in (step_line (tree_of (P.SectorView.space space.old).content) (Ok (command.Ln from.now to.now))).0 }
     ensures answer { IsTrue (P.SectorView.space space.old).tells
         → IfOk result (λ weighs. weighs ≡ weighed (capacity_of volume.old) (free_in blocks.Takable volume.old.map) (volume_of (P.SectorView.space space.old).content) (tree_of (P.SectorView.space space.old).content) (command.Ln from.now to.now)) }
-    ensures reads { ReadsVolume volume.old volume.new (P.SectorView.space space.old) (P.SectorView.space space.new) }
-    ensures stands { StandsOver volume.new (P.SectorView.space space.new) }
-    ensures settled { IsTrue (P.SectorView.space space.old).tells → IsSettled volume.new (P.SectorView.space space.new).content }
-    ensures below { P.SectorView.follows space.old space.new }
-    ensures cause { HasTroubleCause (P.SectorView.space space.old).faults (P.SectorView.space space.new).faults result }
+    ensures looked { Looked P.SectorView.space P.SectorView.follows volume.old volume.new space.old space.new result }
+    ensures serves { Serves volume.new (P.SectorView.space space.new) }
 {
     sound_has_plain_tree();
     match node(volume, alloc, space, from)? {
@@ -106,17 +100,13 @@ pub(crate) fn weigh_ln<P: SectorSpace>(
     from: &Path,
     to: &Path,
 ) -> Result<Weight, Trouble>
-    requires stands { StandsOver volume.old (P.SectorView.space space.old) }
-    requires settled { IsTrue (P.SectorView.space space.old).tells → IsSettled volume.old (P.SectorView.space space.old).content }
+    requires serves { Serves volume.old (P.SectorView.space space.old) }
     requires from_fits { FitsPath from.now }
     requires to_fits { FitsPath to.now }
     ensures answer { IsTrue (P.SectorView.space space.old).tells
         → IfOk result (λ weighs. weighs ≡ weighed (capacity_of volume.old) (free_in blocks.Takable volume.old.map) (volume_of (P.SectorView.space space.old).content) (tree_of (P.SectorView.space space.old).content) (command.Ln from.now to.now)) }
-    ensures reads { ReadsVolume volume.old volume.new (P.SectorView.space space.old) (P.SectorView.space space.new) }
-    ensures stands { StandsOver volume.new (P.SectorView.space space.new) }
-    ensures settled { IsTrue (P.SectorView.space space.old).tells → IsSettled volume.new (P.SectorView.space space.new).content }
-    ensures below { P.SectorView.follows space.old space.new }
-    ensures cause { HasTroubleCause (P.SectorView.space space.old).faults (P.SectorView.space space.new).faults result }
+    ensures looked { Looked P.SectorView.space P.SectorView.follows volume.old volume.new space.old space.new result }
+    ensures serves { Serves volume.new (P.SectorView.space space.new) }
 {
     match volume.refused_ln(alloc, space, from, to)? {
         Some(why) => Ok(Weight::Refused(why)),

@@ -1,16 +1,14 @@
 //! `weigh` of `mv`.
 ghost use Rattle.std.specs.Prelude.{◌≡◌, false, IsTrue, IfOk};
-ghost use Rattle.btree_edit.specs.Causes.{HasTroubleCause};
 ghost use Rattle.hfs_language.specs.Written.{FitsPath};
 ghost use Rattle.hfs_language.specs.declared.command.Command.TheVariants as command;
 ghost use Rattle.hfs_model.specs.Step.{is_private_path};
 ghost use Rattle.hfs_volume.specs.Content.{volume_of};
 ghost use Rattle.hfs_volume.specs.TreeOf.{tree_of};
-ghost use Rattle.volume_base.specs.Looking.{ReadsVolume};
+ghost use Rattle.volume_base.specs.Frame.{Looked, Serves};
 ghost use Rattle.volume_base.specs.Making.{path_to};
 ghost use Rattle.volume_base.specs.Room.{capacity_of, free_in};
 ghost use Rattle.volume_base.specs.declared.room.FreeBlocks.TheVariants as blocks;
-ghost use Rattle.volume_base.specs.Standing.{IsSettled, StandsOver};
 ghost use Rattle.volume_base.specs.Weighing.{weighed};
 
 use crate::weighing::weigh_edits;
@@ -33,8 +31,7 @@ fn weigh_mv_under<P: SectorSpace>(
     under: &[Units],
     name: &Units,
 ) -> Result<Weight, Trouble>
-    requires stands { StandsOver volume.old (P.SectorView.space space.old) }
-    requires settled { IsTrue (P.SectorView.space space.old).tells → IsSettled volume.old (P.SectorView.space space.old).content }
+    requires serves { Serves volume.old (P.SectorView.space space.old) }
     requires from_fits { FitsPath from.now }
     requires to_fits { FitsPath to.now }
     requires split { from.now ≡ path_to above.now old.now }
@@ -43,11 +40,8 @@ fn weigh_mv_under<P: SectorSpace>(
     requires goal_not_own { is_private_path to.now ≡ false }
     ensures answer { IsTrue (P.SectorView.space space.old).tells
         → IfOk result (λ weighs. weighs ≡ weighed (capacity_of volume.old) (free_in blocks.Takable volume.old.map) (volume_of (P.SectorView.space space.old).content) (tree_of (P.SectorView.space space.old).content) (command.Mv from.now to.now)) }
-    ensures reads { ReadsVolume volume.old volume.new (P.SectorView.space space.old) (P.SectorView.space space.new) }
-    ensures stands { StandsOver volume.new (P.SectorView.space space.new) }
-    ensures settled { IsTrue (P.SectorView.space space.old).tells → IsSettled volume.new (P.SectorView.space space.new).content }
-    ensures below { P.SectorView.follows space.old space.new }
-    ensures cause { HasTroubleCause (P.SectorView.space space.old).faults (P.SectorView.space space.new).faults result }
+    ensures looked { Looked P.SectorView.space P.SectorView.follows volume.old volume.new space.old space.new result }
+    ensures serves { Serves volume.new (P.SectorView.space space.new) }
 {
     sound_has_plain_tree();
     match volume.route(alloc, space, from.as_slice(), above, under, name)? {
@@ -75,17 +69,13 @@ pub(crate) fn weigh_mv<P: SectorSpace>(
     from: &Path,
     to: &Path,
 ) -> Result<Weight, Trouble>
-    requires stands { StandsOver volume.old (P.SectorView.space space.old) }
-    requires settled { IsTrue (P.SectorView.space space.old).tells → IsSettled volume.old (P.SectorView.space space.old).content }
+    requires serves { Serves volume.old (P.SectorView.space space.old) }
     requires from_fits { FitsPath from.now }
     requires to_fits { FitsPath to.now }
     ensures answer { IsTrue (P.SectorView.space space.old).tells
         → IfOk result (λ weighs. weighs ≡ weighed (capacity_of volume.old) (free_in blocks.Takable volume.old.map) (volume_of (P.SectorView.space space.old).content) (tree_of (P.SectorView.space space.old).content) (command.Mv from.now to.now)) }
-    ensures reads { ReadsVolume volume.old volume.new (P.SectorView.space space.old) (P.SectorView.space space.new) }
-    ensures stands { StandsOver volume.new (P.SectorView.space space.new) }
-    ensures settled { IsTrue (P.SectorView.space space.old).tells → IsSettled volume.new (P.SectorView.space space.new).content }
-    ensures below { P.SectorView.follows space.old space.new }
-    ensures cause { HasTroubleCause (P.SectorView.space space.old).faults (P.SectorView.space space.new).faults result }
+    ensures looked { Looked P.SectorView.space P.SectorView.follows volume.old volume.new space.old space.new result }
+    ensures serves { Serves volume.new (P.SectorView.space space.new) }
 {
     if is_private_path(from) {
         return Ok(Weight::Refused(Refusal::Private));

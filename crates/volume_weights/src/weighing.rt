@@ -1,9 +1,9 @@
 //! What the edits of a command cost a volume.
 ghost use Rattle.std.specs.Prelude.{◌≡◌, ◌<◌, IsTrue};
 ghost use Rattle.hfs_volume.specs.Content.{volume_of, has_attributes};
+ghost use Rattle.volume_base.specs.Frame.{Serves};
 ghost use Rattle.volume_base.specs.Room.{capacity_of, free_in};
 ghost use Rattle.volume_base.specs.declared.room.FreeBlocks.TheVariants as blocks;
-ghost use Rattle.volume_base.specs.Standing.{IsSettled, StandsOver};
 ghost use Rattle.volume_base.specs.Weighing.{edits_weighed, joined};
 
 use hfs_volume::Cost;
@@ -34,8 +34,7 @@ pub(crate) fn joined(all: Cost, takable: Cost) -> Weight
 
 /// What edits weigh: what all free blocks cost, and what those cost that may be taken.
 pub(crate) fn weigh_edits<P: SectorSpace>(volume: &Volume, space: &P, edits: Edits) -> Weight
-    requires stands { StandsOver volume.now (P.SectorView.space space.now) }
-    requires settled { IsTrue (P.SectorView.space space.now).tells → IsSettled volume.now (P.SectorView.space space.now).content }
+    requires serves { Serves volume.now (P.SectorView.space space.now) }
     requires tree { IsTrue (P.SectorView.space space.now).tells → 0 < edits.attributes → IsTrue (has_attributes volume.now.header) }
     ensures exact { IsTrue (P.SectorView.space space.now).tells → result ≡ edits_weighed (capacity_of volume.now) (free_in blocks.Takable volume.now.map) (volume_of (P.SectorView.space space.now).content) edits }
 {

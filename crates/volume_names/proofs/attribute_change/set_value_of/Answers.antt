@@ -1,6 +1,5 @@
-use Rattle.std.proofs.Common.{◌≡◌, ◌≤◌, true, false, ℕ, List, length, refl, sym, ◌∙◌, ap, subst, arith}
+use Rattle.std.proofs.Common.{◌≡◌, ◌≤◌, true, false, length, refl, sym, ◌∙◌, ap, subst, arith}
 use Rattle.std.specs.Prelude.{IsTrue, Option, IfSome}
-use Rattle.std.specs.List.{Contains}
 use Rattle.attributes.specs.Values.{SetsValue}
 use Rattle.cat_records.specs.Fits.{FitsRecord}
 use Rattle.catalog.specs.Pairs.{value_at}
@@ -13,27 +12,27 @@ use Rattle.hfs_volume.specs.TreeOf.{tree_of}
 use Rattle.volume_header.specs.declared.header.VolumeHeader.{VolumeHeader}
 use Rattle.volume_base.specs.Attributing.{ChangesOwned}
 use Rattle.volume_base.specs.Standing.{StandsOver, IsSettled}
-use Rattle.volume_base.specs.Touching.{Touches}
 use Rattle.volume_base.specs.declared.entries.Entry.{Entry}
-use Rattle.volume_base.proofs.Commanding.{touches_looks, touches_both}
 use Rattle.volume_base.proofs.FoundEntry.{entry_there, not_none, settled_spelled, ok_both}
 use Rattle.volume_base.proofs.MarkRoom.{load_still, mark_room_still}
 use Rattle.volume_base.proofs.OwnedChange.{settled_inline, value_set}
-use Rattle.volume_base.proofs.Still.{lists_still, own_still, settled_still}
+use Rattle.volume_base.proofs.Still.{lists_still, settled_still}
 use Rattle.volume_base.proofs.ToNode.{node_there}
+use Rattle.volume_base.proofs.Framed.{edits_spent}
+use Rattle.volume_base.proofs.Joined.{edits_both}
 use Rattle.volume_names.proofs.attribute_change.set_value_of.Goals as goal
 
 pub entry-requires-clause-spelled : goal.entry-requires-clause-spelled
-entry-requires-clause-spelled g c tells = settled_spelled c.args.volume.now (g.P.SectorView.space c.args.space.now).content (c.requires.settled tells)
+entry-requires-clause-spelled g c tells = settled_spelled c.args.volume.now (g.P.SectorView.space c.args.space.now).content (c.requires.serves.settled tells)
 
 pub put_value-requires-clause-has : goal.put_value-requires-clause-has
-put_value-requires-clause-has g c = subst (λ (h : VolumeHeader). IsTrue (has_attributes h)) (sym c.entry.ensures.reads.keeps.header) c.requires.has
+put_value-requires-clause-has g c = subst (λ (h : VolumeHeader). IsTrue (has_attributes h)) (sym c.entry.ensures.looked.reads.keeps.header) c.requires.has
 
 pub put_value-requires-clause-inline : goal.put_value-requires-clause-inline
-put_value-requires-clause-inline g c tells = settled_inline c.entry.new.self (g.P.SectorView.space c.entry.new.space).content (settled_still c.args.volume.now c.entry.new.self (g.P.SectorView.space c.args.space.now) (g.P.SectorView.space c.entry.new.space) c.entry.ensures.reads (sym c.entry.ensures.reads.looks.same.tells ∙ tells) (c.requires.settled (sym c.entry.ensures.reads.looks.same.tells ∙ tells)))
+put_value-requires-clause-inline g c tells = settled_inline c.entry.new.self (g.P.SectorView.space c.entry.new.space).content (settled_still c.args.volume.now c.entry.new.self (g.P.SectorView.space c.args.space.now) (g.P.SectorView.space c.entry.new.space) c.entry.ensures.looked.reads (sym c.entry.ensures.looked.reads.looks.same.tells ∙ tells) (c.requires.serves.settled (sym c.entry.ensures.looked.reads.looks.same.tells ∙ tells)))
 
 pub put_value-requires-clause-spelled : goal.put_value-requires-clause-spelled
-put_value-requires-clause-spelled g c tells = settled_spelled c.entry.new.self (g.P.SectorView.space c.entry.new.space).content (settled_still c.args.volume.now c.entry.new.self (g.P.SectorView.space c.args.space.now) (g.P.SectorView.space c.entry.new.space) c.entry.ensures.reads (sym c.entry.ensures.reads.looks.same.tells ∙ tells) (c.requires.settled (sym c.entry.ensures.reads.looks.same.tells ∙ tells)))
+put_value-requires-clause-spelled g c tells = settled_spelled c.entry.new.self (g.P.SectorView.space c.entry.new.space).content (settled_still c.args.volume.now c.entry.new.self (g.P.SectorView.space c.args.space.now) (g.P.SectorView.space c.entry.new.space) c.entry.ensures.looked.reads (sym c.entry.ensures.looked.reads.looks.same.tells ∙ tells) (c.requires.serves.settled (sym c.entry.ensures.looked.reads.looks.same.tells ∙ tells)))
 
 pub put_value-requires-clause-entry_name : goal.put_value-requires-clause-entry_name
 put_value-requires-clause-entry_name g c = subst (λ (o : Option Entry). IfSome o (λ entry. length entry.name ≤ 255)) c.in-Some.is c.in_ok-entry.ensures.name
@@ -43,66 +42,32 @@ put_value-requires-clause-fits g c = subst (λ (o : Option Entry). IfSome o (λ 
 
 pub put_value-requires-clause-there : goal.put_value-requires-clause-there
 put_value-requires-clause-there g c tells =
-    let there = c.requires.there (sym c.entry.ensures.reads.looks.same.tells ∙ tells) in
-    let it = entry_there c.args.volume.now (g.P.SectorView.space c.args.space.now).content (c.requires.stands.stands (sym c.entry.ensures.reads.looks.same.tells ∙ tells)).trees (c.requires.settled (sym c.entry.ensures.reads.looks.same.tells ∙ tells)) c.args.id there.0 there.1 there.2 c.in-Some.entry (sym c.in-Some.is ∙ c.in_ok-entry.ensures.found (sym c.entry.ensures.reads.looks.same.tells ∙ tells)) in
-    ap (λ (l : VolumeState). value_at l.catalog_pairs c.in-Some.entry.parent c.in-Some.entry.name) (lists_still c.args.volume.now c.entry.new.self (g.P.SectorView.space c.args.space.now) (g.P.SectorView.space c.entry.new.space) c.entry.ensures.reads (sym c.entry.ensures.reads.looks.same.tells ∙ tells)) ∙ it.value
+    let there = c.requires.there (sym c.entry.ensures.looked.reads.looks.same.tells ∙ tells) in
+    let it = entry_there c.args.volume.now (g.P.SectorView.space c.args.space.now).content (c.requires.serves.stands.stands (sym c.entry.ensures.looked.reads.looks.same.tells ∙ tells)).trees (c.requires.serves.settled (sym c.entry.ensures.looked.reads.looks.same.tells ∙ tells)) c.args.id there.0 there.1 there.2 c.in-Some.entry (sym c.in-Some.is ∙ c.in_ok-entry.ensures.found (sym c.entry.ensures.looked.reads.looks.same.tells ∙ tells)) in
+    ap (λ (l : VolumeState). value_at l.catalog_pairs c.in-Some.entry.parent c.in-Some.entry.name) (lists_still c.args.volume.now c.entry.new.self (g.P.SectorView.space c.args.space.now) (g.P.SectorView.space c.entry.new.space) c.entry.ensures.looked.reads (sym c.entry.ensures.looked.reads.looks.same.tells ∙ tells)) ∙ it.value
 
 pub put_value-requires-clause-room : goal.put_value-requires-clause-room
-put_value-requires-clause-room g c = mark_room_still 2 refl c.args.volume.now c.entry.new.self (g.P.SectorView.space c.args.space.now) (g.P.SectorView.space c.entry.new.space) c.entry.ensures.reads c.requires.room
+put_value-requires-clause-room g c = mark_room_still 2 refl c.args.volume.now c.entry.new.self (g.P.SectorView.space c.args.space.now) (g.P.SectorView.space c.entry.new.space) c.entry.ensures.looked.reads c.requires.room
 
 pub returns-in-Some-clause-does : goal.returns-in-Some-clause-does
 returns-in-Some-clause-does g c tells path node allowed number =
-    let later = (c.entry.ensures.reads.looks.same.tells ∙ tells) in
-    let it = entry_there c.args.volume.now (g.P.SectorView.space c.args.space.now).content (c.requires.stands.stands tells).trees (c.requires.settled tells) c.args.id node (node_there (tree_of (g.P.SectorView.space c.args.space.now).content) path node allowed) number c.in-Some.entry (sym c.in-Some.is ∙ c.in_ok-entry.ensures.found tells) in
-    let there = ap (λ (l : VolumeState). value_at l.catalog_pairs c.in-Some.entry.parent c.in-Some.entry.name) (lists_still c.args.volume.now c.entry.new.self (g.P.SectorView.space c.args.space.now) (g.P.SectorView.space c.entry.new.space) c.entry.ensures.reads tells) ∙ it.value in
+    let later = (c.entry.ensures.looked.reads.looks.same.tells ∙ tells) in
+    let it = entry_there c.args.volume.now (g.P.SectorView.space c.args.space.now).content (c.requires.serves.stands.stands tells).trees (c.requires.serves.settled tells) c.args.id node (node_there (tree_of (g.P.SectorView.space c.args.space.now).content) path node allowed) number c.in-Some.entry (sym c.in-Some.is ∙ c.in_ok-entry.ensures.found tells) in
+    let there = ap (λ (l : VolumeState). value_at l.catalog_pairs c.in-Some.entry.parent c.in-Some.entry.name) (lists_still c.args.volume.now c.entry.new.self (g.P.SectorView.space c.args.space.now) (g.P.SectorView.space c.entry.new.space) c.entry.ensures.looked.reads tells) ∙ it.value in
     ok_both (StandsOver c.put_value.new.volume (g.P.SectorView.space c.put_value.new.space)) (ChangesOwned (SetsValue c.args.id c.args.name.now c.args.value.now) true c.in-Some.entry c.entry.new.self c.put_value.new.volume (g.P.SectorView.space c.entry.new.space).content (g.P.SectorView.space c.put_value.new.space).content)
     (IsSettled c.put_value.new.volume (g.P.SectorView.space c.put_value.new.space).content × (tree_of (g.P.SectorView.space c.put_value.new.space).content ≡ (step (tree_of (g.P.SectorView.space c.args.space.now).content) (command.SetAttr path c.args.name.now c.args.value.now)).1) × SetsAttribute c.args.id c.args.name.now c.args.value.now (volume_of (g.P.SectorView.space c.args.space.now).content) (volume_of (g.P.SectorView.space c.put_value.new.space).content))
-    c.put_value.result c.put_value.ensures.stands (c.put_value.ensures.sets (c.entry.ensures.reads.looks.same.tells ∙ tells) it.kind)
-    (λ stands sets. value_set c.setattr_does_its_step.ensures c.soundness_has_two_halves.ensures c.entry.new.self c.put_value.new.volume (g.P.SectorView.space c.entry.new.space) (g.P.SectorView.space c.put_value.new.space) (settled_still c.args.volume.now c.entry.new.self (g.P.SectorView.space c.args.space.now) (g.P.SectorView.space c.entry.new.space) c.entry.ensures.reads tells (c.requires.settled tells)) c.entry.ensures.stands (c.entry.ensures.reads.looks.same.tells ∙ tells)
-    (c.put_value.ensures.touches (g.P.SectorView.space c.args.space.now).content).same.tells (subst (λ (h : VolumeHeader). IsTrue (has_attributes h)) (sym c.entry.ensures.reads.keeps.header) c.requires.has) c.in-Some.entry there it.kind c.args.id it.number
-    c.args.name.now c.args.value.now c.requires.long c.requires.some (g.P.SectorView.space c.args.space.now).content (c.entry.ensures.reads.looks.content tells) path node allowed (number ∙ sym it.number) stands sets)
+    c.put_value.result c.put_value.ensures.edits.ran.stands (c.put_value.ensures.sets (c.entry.ensures.looked.reads.looks.same.tells ∙ tells) it.kind)
+    (λ stands sets. value_set c.setattr_does_its_step.ensures c.soundness_has_two_halves.ensures c.entry.new.self c.put_value.new.volume (g.P.SectorView.space c.entry.new.space) (g.P.SectorView.space c.put_value.new.space) (settled_still c.args.volume.now c.entry.new.self (g.P.SectorView.space c.args.space.now) (g.P.SectorView.space c.entry.new.space) c.entry.ensures.looked.reads tells (c.requires.serves.settled tells)) c.entry.ensures.looked.stands (c.entry.ensures.looked.reads.looks.same.tells ∙ tells)
+    (c.put_value.ensures.edits.ran.touches (g.P.SectorView.space c.args.space.now).content).same.tells (subst (λ (h : VolumeHeader). IsTrue (has_attributes h)) (sym c.entry.ensures.looked.reads.keeps.header) c.requires.has) c.in-Some.entry there it.kind c.args.id it.number
+    c.args.name.now c.args.value.now c.requires.long c.requires.some (g.P.SectorView.space c.args.space.now).content (c.entry.ensures.looked.reads.looks.content tells) path node allowed (number ∙ sym it.number) stands sets)
 
-pub returns-in-Some-clause-touches : goal.returns-in-Some-clause-touches
-returns-in-Some-clause-touches g c committed =
-    touches_both committed _ (g.P.SectorView.space c.args.space.now) (g.P.SectorView.space c.entry.new.space) (g.P.SectorView.space c.put_value.new.space) (touches_looks committed _ (g.P.SectorView.space c.args.space.now) (g.P.SectorView.space c.entry.new.space) c.entry.ensures.reads.looks)
-    (subst (λ (l : List ℕ). Touches committed (λ s. Contains l s) (g.P.SectorView.space c.entry.new.space) (g.P.SectorView.space c.put_value.new.space)) (own_still c.args.volume.now c.entry.new.self (g.P.SectorView.space c.args.space.now) (g.P.SectorView.space c.entry.new.space) c.entry.ensures.reads) (c.put_value.ensures.touches committed))
-
-pub returns-in-Some-clause-below : goal.returns-in-Some-clause-below
-returns-in-Some-clause-below g c = g.met.P.SectorView.follows_trans c.args.space.now c.entry.new.space c.put_value.new.space c.entry.ensures.below c.put_value.ensures.below
-
-pub returns-in-Some-clause-spent : goal.returns-in-Some-clause-spent
-returns-in-Some-clause-spent g c tells = omega (arith, c.entry.ensures.reads.looks.spare, c.put_value.ensures.spent (c.entry.ensures.reads.looks.same.tells ∙ tells), load_still 2 refl c.args.volume.now c.entry.new.self (g.P.SectorView.space c.args.space.now) (g.P.SectorView.space c.entry.new.space) c.entry.ensures.reads tells)
+pub returns-in-Some-clause-edits : goal.returns-in-Some-clause-edits
+returns-in-Some-clause-edits g c =
+    edits_spent (edits_both g.met.P.SectorView.follows_trans c.entry.ensures.looked.edits c.put_value.ensures.edits) (λ tells. omega (arith, c.entry.ensures.looked.reads.looks.spare, c.put_value.ensures.edits.ran.spent (c.entry.ensures.looked.reads.looks.same.tells ∙ tells), load_still 2 refl c.args.volume.now c.entry.new.self (g.P.SectorView.space c.args.space.now) (g.P.SectorView.space c.entry.new.space) c.entry.ensures.looked.reads tells))
 
 pub returns-in-None-clause-does : goal.returns-in-None-clause-does
 returns-in-None-clause-does g c tells path node allowed number =
-    absurd (not_none c.args.volume.now (g.P.SectorView.space c.args.space.now).content (c.requires.stands.stands tells).trees (c.requires.settled tells) c.args.id node (node_there (tree_of (g.P.SectorView.space c.args.space.now).content) path node allowed) number (sym c.in-None.is ∙ c.in_ok-entry.ensures.found tells))
-
-pub returns-in-None-clause-touches : goal.returns-in-None-clause-touches
-returns-in-None-clause-touches g c committed = touches_looks committed _ (g.P.SectorView.space c.args.space.now) (g.P.SectorView.space c.entry.new.space) c.entry.ensures.reads.looks
-
-pub returns-in-None-clause-spent : goal.returns-in-None-clause-spent
-returns-in-None-clause-spent g c tells = omega (arith, c.entry.ensures.reads.looks.spare)
-
-pub returns-in-None-clause-service : goal.returns-in-None-clause-service
-returns-in-None-clause-service g c = c.entry.ensures.stands.service
-
-pub returns-in_err-entry-clause-touches : goal.returns-in_err-entry-clause-touches
-returns-in_err-entry-clause-touches g c committed = touches_looks committed _ (g.P.SectorView.space c.args.space.now) (g.P.SectorView.space c.entry.new.space) c.entry.ensures.reads.looks
-
-pub returns-in_err-entry-clause-spent : goal.returns-in_err-entry-clause-spent
-returns-in_err-entry-clause-spent g c tells = omega (arith, c.entry.ensures.reads.looks.spare)
-
-pub returns-in_err-entry-clause-service : goal.returns-in_err-entry-clause-service
-returns-in_err-entry-clause-service g c = c.entry.ensures.stands.service
+    absurd (not_none c.args.volume.now (g.P.SectorView.space c.args.space.now).content (c.requires.serves.stands.stands tells).trees (c.requires.serves.settled tells) c.args.id node (node_there (tree_of (g.P.SectorView.space c.args.space.now).content) path node allowed) number (sym c.in-None.is ∙ c.in_ok-entry.ensures.found tells))
 
 pub returns-in-Some-clause-header : goal.returns-in-Some-clause-header
-returns-in-Some-clause-header g c = c.put_value.ensures.header ∙ c.entry.ensures.reads.keeps.header
-
-pub returns-in-Some-clause-map : goal.returns-in-Some-clause-map
-returns-in-Some-clause-map g c = c.put_value.ensures.map ∙ c.entry.ensures.reads.keeps.map
-
-pub returns-in-Some-clause-capacity : goal.returns-in-Some-clause-capacity
-returns-in-Some-clause-capacity g c = c.put_value.ensures.capacity ∙ c.entry.ensures.reads.keeps.capacity
-
-pub returns-in-Some-clause-shrunk : goal.returns-in-Some-clause-shrunk
-returns-in-Some-clause-shrunk g c = c.put_value.ensures.shrunk ∙ c.entry.ensures.reads.keeps.shrunk
+returns-in-Some-clause-header g c = c.put_value.ensures.header ∙ c.entry.ensures.looked.reads.keeps.header

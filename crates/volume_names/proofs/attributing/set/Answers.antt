@@ -1,6 +1,7 @@
 use Rattle.std.proofs.Common.{subst}
 use Rattle.attributes.specs.Values.{AreInline}
-use Rattle.volume_base.proofs.AttributesEdited.{attributes_open, pairs_where, serves_edited, stands_again, values_set, touches_attributes}
+use Rattle.volume_base.proofs.AttributesEdited.{attributes_open, pairs_where, values_set}
+use Rattle.volume_base.proofs.TreeEdited.{attributes_edits}
 use Rattle.volume_names.proofs.attributing.set.Goals as goal
 
 pub set_value-requires-clause-desk : goal.set_value-requires-clause-desk
@@ -18,16 +19,10 @@ set_value-requires-clause-holds g c tells = (c.requires.stands.stands tells).tre
 pub set_value-requires-clause-inline : goal.set_value-requires-clause-inline
 set_value-requires-clause-inline g c tells = subst AreInline (pairs_where c.args.volume.now (g.P.SectorView.space c.args.space.now).content c.requires.has) (c.requires.inline tells)
 
-pub returns-clause-stands : goal.returns-clause-stands
-returns-clause-stands g c = stands_again c.args.volume.now (g.P.SectorView.space c.args.space.now) (g.P.SectorView.space c.set_value.new.space) (record { file = c.set_value.new.tree; desk = c.set_value.new.desk }) c.set_value.result c.requires.has c.requires.stands c.set_value.ensures.frame c.set_value.ensures.desk c.set_value.ensures.holds
-
-pub returns-clause-service : goal.returns-clause-service
-returns-clause-service g c = serves_edited c.args.volume.now (g.P.SectorView.space c.args.space.now) (g.P.SectorView.space c.set_value.new.space) (record { file = c.set_value.new.tree; desk = c.set_value.new.desk }) c.set_value.ensures.frame c.requires.stands.service c.set_value.ensures.desk
-
-pub returns-clause-touches : goal.returns-clause-touches
-returns-clause-touches g c committed = touches_attributes c.args.volume.now c.requires.has committed (g.P.SectorView.space c.args.space.now) (g.P.SectorView.space c.set_value.new.space) c.set_value.ensures.frame.space
-
 pub returns-clause-sets : goal.returns-clause-sets
 returns-clause-sets g c tells =
     values_set c.args.volume.now (g.P.SectorView.space c.args.space.now) (g.P.SectorView.space c.set_value.new.space) (record { file = c.set_value.new.tree; desk = c.set_value.new.desk }) c.requires.has (c.requires.stands.stands tells) tells c.set_value.ensures.frame
     c.args.id c.args.name.now c.args.value.now c.requires.long c.set_value.result c.set_value.ensures.answer (c.set_value.ensures.holds tells) (c.set_value.ensures.sorted tells) (c.set_value.ensures.set tells)
+
+pub returns-clause-edits : goal.returns-clause-edits
+returns-clause-edits g c = attributes_edits c.requires.has c.set_value.ensures.below c.set_value.ensures.cause c.requires.stands c.set_value.ensures.frame c.set_value.ensures.desk c.set_value.ensures.holds

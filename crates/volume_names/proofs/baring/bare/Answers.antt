@@ -1,8 +1,9 @@
 use Rattle.std.proofs.Common.{◌∙◌, ap, subst}
 use Rattle.attributes.specs.Owned.{names_of}
 use Rattle.attributes.specs.Values.{AreInline}
-use Rattle.volume_base.proofs.AttributesEdited.{attributes_open, pairs_where, serves_edited, stands_again, touches_attributes}
+use Rattle.volume_base.proofs.AttributesEdited.{attributes_open, pairs_where}
 use Rattle.volume_names.proofs.Bared.{bares_all}
+use Rattle.volume_base.proofs.TreeEdited.{attributes_edits}
 use Rattle.volume_names.proofs.baring.bare.Goals as goal
 
 pub drop_owned-requires-clause-desk : goal.drop_owned-requires-clause-desk
@@ -23,16 +24,10 @@ drop_owned-requires-clause-inline g c tells = subst AreInline (pairs_where c.arg
 pub drop_owned-requires-clause-listed : goal.drop_owned-requires-clause-listed
 drop_owned-requires-clause-listed g c tells = c.requires.listed tells ∙ ap (names_of c.args.id) (pairs_where c.args.volume.now (g.P.SectorView.space c.args.space.now).content c.requires.has)
 
-pub returns-clause-stands : goal.returns-clause-stands
-returns-clause-stands g c = stands_again c.args.volume.now (g.P.SectorView.space c.args.space.now) (g.P.SectorView.space c.drop_owned.new.space) (record { file = c.drop_owned.new.tree; desk = c.drop_owned.new.desk }) c.drop_owned.result c.requires.has c.requires.stands c.drop_owned.ensures.frame c.drop_owned.ensures.desk c.drop_owned.ensures.holds
-
-pub returns-clause-service : goal.returns-clause-service
-returns-clause-service g c = serves_edited c.args.volume.now (g.P.SectorView.space c.args.space.now) (g.P.SectorView.space c.drop_owned.new.space) (record { file = c.drop_owned.new.tree; desk = c.drop_owned.new.desk }) c.drop_owned.ensures.frame c.requires.stands.service c.drop_owned.ensures.desk
-
-pub returns-clause-touches : goal.returns-clause-touches
-returns-clause-touches g c committed = touches_attributes c.args.volume.now c.requires.has committed (g.P.SectorView.space c.args.space.now) (g.P.SectorView.space c.drop_owned.new.space) c.drop_owned.ensures.frame.space
-
 pub returns-clause-bares : goal.returns-clause-bares
 returns-clause-bares g c tells =
     bares_all c.args.volume.now (g.P.SectorView.space c.args.space.now) (g.P.SectorView.space c.drop_owned.new.space) (record { file = c.drop_owned.new.tree; desk = c.drop_owned.new.desk }) c.args.id c.drop_owned.result c.requires.has (c.requires.stands.stands tells) tells c.drop_owned.ensures.frame
     (c.drop_owned.ensures.holds tells) (c.drop_owned.ensures.sorted tells) (c.drop_owned.ensures.dropped tells)
+
+pub returns-clause-edits : goal.returns-clause-edits
+returns-clause-edits g c = attributes_edits c.requires.has c.drop_owned.ensures.below c.drop_owned.ensures.cause c.requires.stands c.drop_owned.ensures.frame c.drop_owned.ensures.desk c.drop_owned.ensures.holds

@@ -20,7 +20,7 @@ returns-in-Some-clause-does g c tells from to entry linking =
     × LinksAnew entry (free_place c.args.way.now.folder c.args.name.now) (g.P.SectorView.space c.args.space.now).content (g.P.SectorView.space c.link_first.new.space).content)
     c.link_first.result
     (c.link_first.ensures.does tells from to entry linking)
-    (first_anew c.args.volume.now (g.P.SectorView.space c.args.space.now) (c.requires.settled tells) c.in-Some.private c.in-Some.is from to entry (free_place c.args.way.now.folder c.args.name.now) c.link_first.new.volume (g.P.SectorView.space c.link_first.new.space).content)
+    (first_anew c.args.volume.now (g.P.SectorView.space c.args.space.now) (c.requires.serves.settled tells) c.in-Some.private c.in-Some.is from to entry (free_place c.args.way.now.folder c.args.name.now) c.link_first.new.volume (g.P.SectorView.space c.link_first.new.space).content)
 
 pub returns-in-Some-clause-loads : goal.returns-in-Some-clause-loads
 returns-in-Some-clause-loads g c tells from to entry linking = c.link_first.ensures.loads tells from to entry linking

@@ -1,7 +1,6 @@
 use Rattle.volume_base.proofs.FoundEntry.{node_still}
 use Rattle.std.proofs.Common.{◌≡◌, ℕ, List, sym, ◌∙◌, ap, subst, arith}
 use Rattle.std.specs.Prelude.{OnOk}
-use Rattle.std.specs.List.{Contains}
 use Rattle.sector_disk.specs.Lists.{Content}
 use Rattle.btree_node.specs.declared.store.TreeShape.{TreeShape}
 use Rattle.hfs_language.specs.declared.command.Command.TheVariants as command
@@ -16,120 +15,75 @@ use Rattle.volume_base.specs.Linking.{IsLinking}
 use Rattle.volume_base.specs.Losing.{IsOnlyName}
 use Rattle.volume_base.specs.Making.{free_place}
 use Rattle.volume_base.specs.Standing.{IsSettled}
-use Rattle.volume_base.specs.Touching.{Touches}
 use Rattle.volume_header.specs.declared.header.VolumeHeader.{VolumeHeader}
-use Rattle.volume_base.proofs.Besides.{blocks_both, blocks_none, blocks_read}
-use Rattle.volume_base.proofs.Commanding.{touches_both, touches_looks, touches_none}
 use Rattle.volume_base.proofs.Replaced.{node_large}
-use Rattle.volume_base.proofs.Still.{lists_still, own_still}
+use Rattle.volume_base.proofs.Still.{lists_still}
 use Rattle.volume_names.proofs.EditsLeft.{ready_still, ready_beside}
+use Rattle.volume_base.proofs.Framed.{edits_none, edits_spent}
+use Rattle.volume_base.proofs.Joined.{edits_both}
 use Rattle.volume_names.proofs.first_links.link_ready.Goals as goal
 
-pub link_under-requires-clause-settled : goal.link_under-requires-clause-settled
-link_under-requires-clause-settled g c tells = c.free_number.ensures.settled (sym c.free_number.ensures.reads.looks.same.tells ∙ tells)
-
 pub link_under-requires-clause-private : goal.link_under-requires-clause-private
-link_under-requires-clause-private g c = c.free_number.ensures.reads.keeps.private ∙ c.requires.private
+link_under-requires-clause-private g c = c.free_number.ensures.looked.reads.keeps.private ∙ c.requires.private
 
 pub link_under-requires-clause-only : goal.link_under-requires-clause-only
 link_under-requires-clause-only g c tells =
-    let before = sym c.free_number.ensures.reads.looks.same.tells ∙ tells in
-    subst (λ (l : VolumeState). IsOnlyName (record { parent = c.args.way.now.parent; name = c.args.old.now }) l.catalog_pairs) (sym (lists_still c.args.volume.now c.free_number.new.volume (g.P.SectorView.space c.args.space.now) (g.P.SectorView.space c.free_number.new.space) c.free_number.ensures.reads before)) (c.requires.only before)
+    let before = sym c.free_number.ensures.looked.reads.looks.same.tells ∙ tells in
+    subst (λ (l : VolumeState). IsOnlyName (record { parent = c.args.way.now.parent; name = c.args.old.now }) l.catalog_pairs) (sym (lists_still c.args.volume.now c.free_number.new.volume (g.P.SectorView.space c.args.space.now) (g.P.SectorView.space c.free_number.new.space) c.free_number.ensures.looked.reads before)) (c.requires.only before)
 
 pub link_under-requires-clause-links : goal.link_under-requires-clause-links
 link_under-requires-clause-links g c tells =
-    let before = sym c.free_number.ensures.reads.looks.same.tells ∙ tells in
-    subst (λ (k : Content). (from to : List (List ℕ)) × (at : PlainEntry) × IsLinking (tree_of k) from to at c.args.way.now.parent c.args.old.now c.args.way.now.id c.args.way.now.folder c.args.name.now) (sym (c.free_number.ensures.reads.looks.content before)) (c.requires.links before)
+    let before = sym c.free_number.ensures.looked.reads.looks.same.tells ∙ tells in
+    subst (λ (k : Content). (from to : List (List ℕ)) × (at : PlainEntry) × IsLinking (tree_of k) from to at c.args.way.now.parent c.args.old.now c.args.way.now.id c.args.way.now.folder c.args.name.now) (sym (c.free_number.ensures.looked.reads.looks.content before)) (c.requires.links before)
 
 pub returns-clause-does : goal.returns-clause-does
 returns-clause-does g c tells from to entry linking =
     subst (λ (k : Content). OnOk c.link_under.result (IsSettled c.link_under.new.volume (g.P.SectorView.space c.link_under.new.space).content × (tree_of (g.P.SectorView.space c.link_under.new.space).content ≡ (step (tree_of k) (command.Ln from to)).1)
-    × LinksFirst entry (free_place c.args.way.now.folder c.args.name.now) (volume_of k) (volume_of (g.P.SectorView.space c.link_under.new.space).content))) (c.free_number.ensures.reads.looks.content tells)
-    (c.link_under.ensures.does (c.free_number.ensures.reads.looks.same.tells ∙ tells) from to entry (subst (λ (k : Content). IsLinking (tree_of k) from to entry c.args.way.now.parent c.args.old.now c.args.way.now.id c.args.way.now.folder c.args.name.now) (sym (c.free_number.ensures.reads.looks.content tells)) linking))
+    × LinksFirst entry (free_place c.args.way.now.folder c.args.name.now) (volume_of k) (volume_of (g.P.SectorView.space c.link_under.new.space).content))) (c.free_number.ensures.looked.reads.looks.content tells)
+    (c.link_under.ensures.does (c.free_number.ensures.looked.reads.looks.same.tells ∙ tells) from to entry (subst (λ (k : Content). IsLinking (tree_of k) from to entry c.args.way.now.parent c.args.old.now c.args.way.now.id c.args.way.now.folder c.args.name.now) (sym (c.free_number.ensures.looked.reads.looks.content tells)) linking))
 
-pub returns-clause-touches : goal.returns-clause-touches
-returns-clause-touches g c committed =
-    touches_both committed _ (g.P.SectorView.space c.args.space.now) (g.P.SectorView.space c.free_number.new.space) (g.P.SectorView.space c.link_under.new.space) (touches_looks committed _ (g.P.SectorView.space c.args.space.now) (g.P.SectorView.space c.free_number.new.space) c.free_number.ensures.reads.looks)
-    (subst (λ (l : List ℕ). Touches committed (λ s. Contains l s) (g.P.SectorView.space c.free_number.new.space) (g.P.SectorView.space c.link_under.new.space)) (own_still c.args.volume.now c.free_number.new.volume (g.P.SectorView.space c.args.space.now) (g.P.SectorView.space c.free_number.new.space) c.free_number.ensures.reads) (c.link_under.ensures.touches committed))
-
-pub returns-clause-below : goal.returns-clause-below
-returns-clause-below g c = g.met.P.SectorView.follows_trans c.args.space.now c.free_number.new.space c.link_under.new.space c.free_number.ensures.below c.link_under.ensures.below
-
-pub returns-clause-blocks : goal.returns-clause-blocks
-returns-clause-blocks g c = blocks_both c.args.volume.now c.free_number.new.volume c.link_under.new.volume (blocks_read c.args.volume.now c.free_number.new.volume (g.P.SectorView.space c.args.space.now) (g.P.SectorView.space c.free_number.new.space) c.free_number.ensures.reads) c.link_under.ensures.blocks
-
-pub returns-in_err-number-clause-touches : goal.returns-in_err-number-clause-touches
-returns-in_err-number-clause-touches g c committed = touches_looks committed _ (g.P.SectorView.space c.args.space.now) (g.P.SectorView.space c.free_number.new.space) c.free_number.ensures.reads.looks
-
-pub returns-in_err-number-clause-service : goal.returns-in_err-number-clause-service
-returns-in_err-number-clause-service g c = c.free_number.ensures.stands.service
-
-pub returns-in_err-number-clause-blocks : goal.returns-in_err-number-clause-blocks
-returns-in_err-number-clause-blocks g c = blocks_read c.args.volume.now c.free_number.new.volume (g.P.SectorView.space c.args.space.now) (g.P.SectorView.space c.free_number.new.space) c.free_number.ensures.reads
-
-pub returns-in_err-node-clause-touches : goal.returns-in_err-node-clause-touches
-returns-in_err-node-clause-touches g c committed = touches_looks committed _ (g.P.SectorView.space c.args.space.now) (g.P.SectorView.space c.free_number.new.space) c.free_number.ensures.reads.looks
-
-pub returns-in_err-node-clause-service : goal.returns-in_err-node-clause-service
-returns-in_err-node-clause-service g c = c.free_number.ensures.stands.service
-
-pub returns-in_err-node-clause-blocks : goal.returns-in_err-node-clause-blocks
-returns-in_err-node-clause-blocks g c = blocks_read c.args.volume.now c.free_number.new.volume (g.P.SectorView.space c.args.space.now) (g.P.SectorView.space c.free_number.new.space) c.free_number.ensures.reads
-
-pub returns-then-not-has_sector-clause-touches : goal.returns-then-not-has_sector-clause-touches
-returns-then-not-has_sector-clause-touches g c committed = touches_looks committed _ (g.P.SectorView.space c.args.space.now) (g.P.SectorView.space c.free_number.new.space) c.free_number.ensures.reads.looks
-
-pub returns-then-not-has_sector-clause-service : goal.returns-then-not-has_sector-clause-service
-returns-then-not-has_sector-clause-service g c = c.free_number.ensures.stands.service
-
-pub returns-then-not-has_sector-clause-blocks : goal.returns-then-not-has_sector-clause-blocks
-returns-then-not-has_sector-clause-blocks g c = blocks_read c.args.volume.now c.free_number.new.volume (g.P.SectorView.space c.args.space.now) (g.P.SectorView.space c.free_number.new.space) c.free_number.ensures.reads
+pub returns-clause-edits : goal.returns-clause-edits
+returns-clause-edits g c = edits_spent (edits_both g.met.P.SectorView.follows_trans c.free_number.ensures.looked.edits c.link_under.ensures.edits) (λ tells. omega arith)
 
 pub returns-then-shape-lt4096-clause-does : goal.returns-then-shape-lt4096-clause-does
 returns-then-shape-lt4096-clause-does g c tells from to entry linking =
-    absurd (omega (arith, c.if-shape-lt4096.true, ap (λ (s : TreeShape). s.node_size) c.shape.ensures, node_large c.args.volume.now (g.P.SectorView.space c.args.space.now) c.requires.stands tells))
+    absurd (omega (arith, c.if-shape-lt4096.true, ap (λ (s : TreeShape). s.node_size) c.shape.ensures, node_large c.args.volume.now (g.P.SectorView.space c.args.space.now) c.requires.serves.stands tells))
 
-pub returns-then-shape-lt4096-clause-touches : goal.returns-then-shape-lt4096-clause-touches
-returns-then-shape-lt4096-clause-touches g c committed = touches_none committed _ (g.P.SectorView.space c.args.space.now)
-
-pub returns-then-shape-lt4096-clause-service : goal.returns-then-shape-lt4096-clause-service
-returns-then-shape-lt4096-clause-service g c = c.requires.stands.service
-
-pub returns-then-shape-lt4096-clause-blocks : goal.returns-then-shape-lt4096-clause-blocks
-returns-then-shape-lt4096-clause-blocks g c = blocks_none c.args.volume.now
+pub returns-then-shape-lt4096-clause-edits : goal.returns-then-shape-lt4096-clause-edits
+returns-then-shape-lt4096-clause-edits g c = edits_none _ g.met.P.SectorView.follows_refl c.requires.serves.stands
 
 pub link_under-requires-clause-size : goal.link_under-requires-clause-size
-link_under-requires-clause-size g c = omega (arith, c.if-shape-lt4096.false, ap (λ (s : TreeShape). s.node_size) c.shape.ensures, ap (λ (s : TreeShape). s.node_size) c.free_number.ensures.reads.keeps.catalog.file.shape)
+link_under-requires-clause-size g c = omega (arith, c.if-shape-lt4096.false, ap (λ (s : TreeShape). s.node_size) c.shape.ensures, ap (λ (s : TreeShape). s.node_size) c.free_number.ensures.looked.reads.keeps.catalog.file.shape)
 
 pub link_under-requires-clause-free : goal.link_under-requires-clause-free
 link_under-requires-clause-free g c tells =
-    let before = sym c.free_number.ensures.reads.looks.same.tells ∙ tells in
-    ap (λ (l : VolumeState). record_at (placed_in l.catalog_pairs) c.args.private (node_name c.in_ok-number.number)) (lists_still c.args.volume.now c.free_number.new.volume (g.P.SectorView.space c.args.space.now) (g.P.SectorView.space c.free_number.new.space) c.free_number.ensures.reads before) ∙ c.in_ok-number.ensures.free before
+    let before = sym c.free_number.ensures.looked.reads.looks.same.tells ∙ tells in
+    ap (λ (l : VolumeState). record_at (placed_in l.catalog_pairs) c.args.private (node_name c.in_ok-number.number)) (lists_still c.args.volume.now c.free_number.new.volume (g.P.SectorView.space c.args.space.now) (g.P.SectorView.space c.free_number.new.space) c.free_number.ensures.looked.reads before) ∙ c.in_ok-number.ensures.free before
 
 pub link_under-requires-clause-room : goal.link_under-requires-clause-room
 link_under-requires-clause-room g c = record {
   some = omega (arith, c.spare.ensures, c.has_sector.ensures.fits c.if-not-has_sector.false);
-  ids = λ tells. omega (arith, c.requires.ids (sym c.free_number.ensures.reads.looks.same.tells ∙ tells), ap (λ (h : VolumeHeader). h.next_catalog_id) c.free_number.ensures.reads.keeps.header);
-  left = ready_still c.args.volume.now c.free_number.new.volume (g.P.SectorView.space c.args.space.now) (g.P.SectorView.space c.free_number.new.space) (λ tells. node_large c.args.volume.now (g.P.SectorView.space c.args.space.now) c.requires.stands tells) c.free_number.ensures.reads c.requires.left;
+  ids = λ tells. omega (arith, c.requires.ids (sym c.free_number.ensures.looked.reads.looks.same.tells ∙ tells), ap (λ (h : VolumeHeader). h.next_catalog_id) c.free_number.ensures.looked.reads.keeps.header);
+  left = ready_still c.args.volume.now c.free_number.new.volume (g.P.SectorView.space c.args.space.now) (g.P.SectorView.space c.free_number.new.space) (λ tells. node_large c.args.volume.now (g.P.SectorView.space c.args.space.now) c.requires.serves.stands tells) c.free_number.ensures.looked.reads c.requires.left;
 }
 
 pub returns-clause-leaves : goal.returns-clause-leaves
 returns-clause-leaves g c tells beside had =
     omega (
       arith,
-      c.link_under.ensures.leaves (c.free_number.ensures.reads.looks.same.tells ∙ tells) beside (ready_beside beside c.args.volume.now c.free_number.new.volume (g.P.SectorView.space c.args.space.now) (g.P.SectorView.space c.free_number.new.space) (λ told. node_large c.args.volume.now (g.P.SectorView.space c.args.space.now) c.requires.stands told) c.free_number.ensures.reads had),
-      node_still c.args.volume.now c.free_number.new.volume (g.P.SectorView.space c.args.space.now) (g.P.SectorView.space c.free_number.new.space) c.free_number.ensures.reads,
+      c.link_under.ensures.leaves (c.free_number.ensures.looked.reads.looks.same.tells ∙ tells) beside (ready_beside beside c.args.volume.now c.free_number.new.volume (g.P.SectorView.space c.args.space.now) (g.P.SectorView.space c.free_number.new.space) (λ told. node_large c.args.volume.now (g.P.SectorView.space c.args.space.now) c.requires.serves.stands told) c.free_number.ensures.looked.reads had),
+      node_still c.args.volume.now c.free_number.new.volume (g.P.SectorView.space c.args.space.now) (g.P.SectorView.space c.free_number.new.space) c.free_number.ensures.looked.reads,
     )
 
 pub returns-in_err-number-clause-leaves : goal.returns-in_err-number-clause-leaves
-returns-in_err-number-clause-leaves g c tells beside had = omega (arith, (had.told tells).0, c.free_number.ensures.reads.looks.spare)
+returns-in_err-number-clause-leaves g c tells beside had = omega (arith, (had.told tells).0, c.free_number.ensures.looked.reads.looks.spare)
 
 pub returns-in_err-node-clause-leaves : goal.returns-in_err-node-clause-leaves
-returns-in_err-node-clause-leaves g c tells beside had = omega (arith, (had.told tells).0, c.free_number.ensures.reads.looks.spare)
+returns-in_err-node-clause-leaves g c tells beside had = omega (arith, (had.told tells).0, c.free_number.ensures.looked.reads.looks.spare)
 
 pub returns-then-not-has_sector-clause-leaves : goal.returns-then-not-has_sector-clause-leaves
-returns-then-not-has_sector-clause-leaves g c tells beside had = omega (arith, (had.told tells).0, c.free_number.ensures.reads.looks.spare)
+returns-then-not-has_sector-clause-leaves g c tells beside had = omega (arith, (had.told tells).0, c.free_number.ensures.looked.reads.looks.spare)
 
 pub returns-then-shape-lt4096-clause-leaves : goal.returns-then-shape-lt4096-clause-leaves
 returns-then-shape-lt4096-clause-leaves g c tells beside had =
-    absurd (omega (arith, c.if-shape-lt4096.true, ap (λ (s : TreeShape). s.node_size) c.shape.ensures, node_large c.args.volume.now (g.P.SectorView.space c.args.space.now) c.requires.stands tells))
+    absurd (omega (arith, c.if-shape-lt4096.true, ap (λ (s : TreeShape). s.node_size) c.shape.ensures, node_large c.args.volume.now (g.P.SectorView.space c.args.space.now) c.requires.serves.stands tells))

@@ -1,5 +1,4 @@
-use Rattle.std.proofs.Common.{◌≡◌, ◌^◌, ℕ, List, sym, ◌∙◌, subst, ap, arith, ◌/◌}
-use Rattle.std.specs.List.{Contains}
+use Rattle.std.proofs.Common.{◌≡◌, ◌^◌, sym, ◌∙◌, ap, arith, ◌/◌}
 use Rattle.std.proofs.lemmas.Bool.{lt-ltb}
 use Rattle.hfs_language.specs.declared.command.Command.TheVariants as command
 use Rattle.hfs_model.specs.Step.{step}
@@ -9,109 +8,78 @@ use Rattle.hfs_volume.specs.TreeOf.{tree_of}
 use Rattle.volume_base.specs.Changing.{TouchesFolder}
 use Rattle.volume_base.specs.Making.{free_place}
 use Rattle.volume_base.specs.Standing.{IsSettled, StandsOver}
-use Rattle.volume_base.specs.Touching.{Touches}
-use Rattle.volume_base.proofs.Besides.{blocks_both}
-use Rattle.volume_base.proofs.Commanding.{touches_both}
 use Rattle.volume_names.proofs.FirstBoth.{first_done, goal_said, private_linked, shared_filled, threads_filled, threads_linked, threads_said}
 use Rattle.volume_base.proofs.FoundEntry.{ok_both}
 use Rattle.volume_names.proofs.EditsLeft.{first_update}
+use Rattle.volume_base.proofs.Framed.{edits_err, edits_spent}
+use Rattle.volume_base.proofs.Joined.{edits_both}
 use Rattle.volume_names.proofs.first_links.link_under.Goals as goal
 
 pub touch-requires-clause-threads : goal.touch-requires-clause-threads
 touch-requires-clause-threads g c tells =
-    let before = sym (c.share.ensures.touches (g.P.SectorView.space c.args.space.now).content).same.tells ∙ tells in
+    let before = sym (c.share.ensures.edits.ran.touches (g.P.SectorView.space c.args.space.now).content).same.tells ∙ tells in
     let links = c.requires.links before in
-    threads_linked c.args.volume.now (g.P.SectorView.space c.args.space.now) (c.requires.settled before) (c.requires.stands.stands before) links.0 links.1 links.2 c.args.way.now.parent c.args.old.now c.args.way.now.id c.args.way.now.folder c.args.name.now links.3 (c.requires.only before) c.args.private c.requires.private (c.requires.room.ids before) c.args.number (lt-ltb c.args.number (2 ^ 32) c.ranges.number.fits) (c.requires.free before) c.args.created c.share.new.volume (g.P.SectorView.space c.share.new.space).content (c.in_ok-share.ensures.both before)
+    threads_linked c.args.volume.now (g.P.SectorView.space c.args.space.now) (c.requires.serves.settled before) (c.requires.serves.stands.stands before) links.0 links.1 links.2 c.args.way.now.parent c.args.old.now c.args.way.now.id c.args.way.now.folder c.args.name.now links.3 (c.requires.only before) c.args.private c.requires.private (c.requires.room.ids before) c.args.number (lt-ltb c.args.number (2 ^ 32) c.ranges.number.fits) (c.requires.free before) c.args.created c.share.new.volume (g.P.SectorView.space c.share.new.space).content (c.in_ok-share.ensures.both before)
 
 pub touch-requires-clause-there : goal.touch-requires-clause-there
 touch-requires-clause-there g c tells =
-    let before = sym (c.share.ensures.touches (g.P.SectorView.space c.args.space.now).content).same.tells ∙ tells in
+    let before = sym (c.share.ensures.edits.ran.touches (g.P.SectorView.space c.args.space.now).content).same.tells ∙ tells in
     let links = c.requires.links before in
-    private_linked c.args.volume.now (g.P.SectorView.space c.args.space.now) (c.requires.settled before) (c.requires.stands.stands before) links.0 links.1 links.2 c.args.way.now.parent c.args.old.now c.args.way.now.id c.args.way.now.folder c.args.name.now links.3 (c.requires.only before) c.args.private c.requires.private (c.requires.room.ids before) c.args.number (lt-ltb c.args.number (2 ^ 32) c.ranges.number.fits) (c.requires.free before) c.args.created c.share.new.volume (g.P.SectorView.space c.share.new.space).content (c.in_ok-share.ensures.both before)
+    private_linked c.args.volume.now (g.P.SectorView.space c.args.space.now) (c.requires.serves.settled before) (c.requires.serves.stands.stands before) links.0 links.1 links.2 c.args.way.now.parent c.args.old.now c.args.way.now.id c.args.way.now.folder c.args.name.now links.3 (c.requires.only before) c.args.private c.requires.private (c.requires.room.ids before) c.args.number (lt-ltb c.args.number (2 ^ 32) c.ranges.number.fits) (c.requires.free before) c.args.created c.share.new.volume (g.P.SectorView.space c.share.new.space).content (c.in_ok-share.ensures.both before)
 
 pub say_two-requires-clause-threads : goal.say_two-requires-clause-threads
 say_two-requires-clause-threads g c tells =
-    let middle = sym (c.touch.ensures.touches (g.P.SectorView.space c.args.space.now).content).same.tells ∙ tells in
-    let before = sym (c.share.ensures.touches (g.P.SectorView.space c.args.space.now).content).same.tells ∙ middle in
+    let middle = sym (c.touch.ensures.edits.ran.touches (g.P.SectorView.space c.args.space.now).content).same.tells ∙ tells in
+    let before = sym (c.share.ensures.edits.ran.touches (g.P.SectorView.space c.args.space.now).content).same.tells ∙ middle in
     let links = c.requires.links before in
-    threads_filled c.args.volume.now (g.P.SectorView.space c.args.space.now) (c.requires.settled before) (c.requires.stands.stands before) links.0 links.1 links.2 c.args.way.now.parent c.args.old.now c.args.way.now.id c.args.way.now.folder c.args.name.now links.3 (c.requires.only before) c.args.private c.requires.private (c.requires.room.ids before) c.args.number (lt-ltb c.args.number (2 ^ 32) c.ranges.number.fits) (c.requires.free before) c.args.created c.share.new.volume (g.P.SectorView.space c.share.new.space).content (c.in_ok-share.ensures.both before) c.touch.new.self (g.P.SectorView.space c.touch.new.space).content (c.in_ok-touch.ensures.counts middle)
+    threads_filled c.args.volume.now (g.P.SectorView.space c.args.space.now) (c.requires.serves.settled before) (c.requires.serves.stands.stands before) links.0 links.1 links.2 c.args.way.now.parent c.args.old.now c.args.way.now.id c.args.way.now.folder c.args.name.now links.3 (c.requires.only before) c.args.private c.requires.private (c.requires.room.ids before) c.args.number (lt-ltb c.args.number (2 ^ 32) c.ranges.number.fits) (c.requires.free before) c.args.created c.share.new.volume (g.P.SectorView.space c.share.new.space).content (c.in_ok-share.ensures.both before) c.touch.new.self (g.P.SectorView.space c.touch.new.space).content (c.in_ok-touch.ensures.counts middle)
 
 pub say_two-requires-clause-there : goal.say_two-requires-clause-there
 say_two-requires-clause-there g c tells =
-    let middle = sym (c.touch.ensures.touches (g.P.SectorView.space c.args.space.now).content).same.tells ∙ tells in
-    let before = sym (c.share.ensures.touches (g.P.SectorView.space c.args.space.now).content).same.tells ∙ middle in
+    let middle = sym (c.touch.ensures.edits.ran.touches (g.P.SectorView.space c.args.space.now).content).same.tells ∙ tells in
+    let before = sym (c.share.ensures.edits.ran.touches (g.P.SectorView.space c.args.space.now).content).same.tells ∙ middle in
     let links = c.requires.links before in
-    shared_filled c.args.volume.now (g.P.SectorView.space c.args.space.now) (c.requires.settled before) (c.requires.stands.stands before) links.0 links.1 links.2 c.args.way.now.parent c.args.old.now c.args.way.now.id c.args.way.now.folder c.args.name.now links.3 (c.requires.only before) c.args.private c.requires.private (c.requires.room.ids before) c.args.number (lt-ltb c.args.number (2 ^ 32) c.ranges.number.fits) (c.requires.free before) c.args.created c.share.new.volume (g.P.SectorView.space c.share.new.space).content (c.in_ok-share.ensures.both before) c.touch.new.self (g.P.SectorView.space c.touch.new.space).content (c.in_ok-touch.ensures.counts middle)
+    shared_filled c.args.volume.now (g.P.SectorView.space c.args.space.now) (c.requires.serves.settled before) (c.requires.serves.stands.stands before) links.0 links.1 links.2 c.args.way.now.parent c.args.old.now c.args.way.now.id c.args.way.now.folder c.args.name.now links.3 (c.requires.only before) c.args.private c.requires.private (c.requires.room.ids before) c.args.number (lt-ltb c.args.number (2 ^ 32) c.ranges.number.fits) (c.requires.free before) c.args.created c.share.new.volume (g.P.SectorView.space c.share.new.space).content (c.in_ok-share.ensures.both before) c.touch.new.self (g.P.SectorView.space c.touch.new.space).content (c.in_ok-touch.ensures.counts middle)
 
 pub touch-requires-2-clause-threads : goal.touch-requires-2-clause-threads
 touch-requires-2-clause-threads g c tells =
-    let later = sym (c.say_two.ensures.touches (g.P.SectorView.space c.args.space.now).content).same.tells ∙ tells in
-    let middle = sym (c.touch.ensures.touches (g.P.SectorView.space c.args.space.now).content).same.tells ∙ later in
-    let before = sym (c.share.ensures.touches (g.P.SectorView.space c.args.space.now).content).same.tells ∙ middle in
+    let later = sym (c.say_two.ensures.edits.ran.touches (g.P.SectorView.space c.args.space.now).content).same.tells ∙ tells in
+    let middle = sym (c.touch.ensures.edits.ran.touches (g.P.SectorView.space c.args.space.now).content).same.tells ∙ later in
+    let before = sym (c.share.ensures.edits.ran.touches (g.P.SectorView.space c.args.space.now).content).same.tells ∙ middle in
     let links = c.requires.links before in
-    threads_said c.args.volume.now (g.P.SectorView.space c.args.space.now) (c.requires.settled before) (c.requires.stands.stands before) links.0 links.1 links.2 c.args.way.now.parent c.args.old.now c.args.way.now.id c.args.way.now.folder c.args.name.now links.3 (c.requires.only before) c.args.private c.requires.private (c.requires.room.ids before) c.args.number (lt-ltb c.args.number (2 ^ 32) c.ranges.number.fits) (c.requires.free before) c.args.created c.share.new.volume (g.P.SectorView.space c.share.new.space).content (c.in_ok-share.ensures.both before) c.touch.new.self (g.P.SectorView.space c.touch.new.space).content (c.in_ok-touch.ensures.counts middle) c.say_two.new.volume (g.P.SectorView.space c.say_two.new.space).content (c.in_ok-say_two.ensures.says later)
+    threads_said c.args.volume.now (g.P.SectorView.space c.args.space.now) (c.requires.serves.settled before) (c.requires.serves.stands.stands before) links.0 links.1 links.2 c.args.way.now.parent c.args.old.now c.args.way.now.id c.args.way.now.folder c.args.name.now links.3 (c.requires.only before) c.args.private c.requires.private (c.requires.room.ids before) c.args.number (lt-ltb c.args.number (2 ^ 32) c.ranges.number.fits) (c.requires.free before) c.args.created c.share.new.volume (g.P.SectorView.space c.share.new.space).content (c.in_ok-share.ensures.both before) c.touch.new.self (g.P.SectorView.space c.touch.new.space).content (c.in_ok-touch.ensures.counts middle) c.say_two.new.volume (g.P.SectorView.space c.say_two.new.space).content (c.in_ok-say_two.ensures.says later)
 
 pub touch-requires-2-clause-there : goal.touch-requires-2-clause-there
 touch-requires-2-clause-there g c tells =
-    let later = sym (c.say_two.ensures.touches (g.P.SectorView.space c.args.space.now).content).same.tells ∙ tells in
-    let middle = sym (c.touch.ensures.touches (g.P.SectorView.space c.args.space.now).content).same.tells ∙ later in
-    let before = sym (c.share.ensures.touches (g.P.SectorView.space c.args.space.now).content).same.tells ∙ middle in
+    let later = sym (c.say_two.ensures.edits.ran.touches (g.P.SectorView.space c.args.space.now).content).same.tells ∙ tells in
+    let middle = sym (c.touch.ensures.edits.ran.touches (g.P.SectorView.space c.args.space.now).content).same.tells ∙ later in
+    let before = sym (c.share.ensures.edits.ran.touches (g.P.SectorView.space c.args.space.now).content).same.tells ∙ middle in
     let links = c.requires.links before in
-    goal_said c.args.volume.now (g.P.SectorView.space c.args.space.now) (c.requires.settled before) (c.requires.stands.stands before) links.0 links.1 links.2 c.args.way.now.parent c.args.old.now c.args.way.now.id c.args.way.now.folder c.args.name.now links.3 (c.requires.only before) c.args.private c.requires.private (c.requires.room.ids before) c.args.number (lt-ltb c.args.number (2 ^ 32) c.ranges.number.fits) (c.requires.free before) c.args.created c.share.new.volume (g.P.SectorView.space c.share.new.space).content (c.in_ok-share.ensures.both before) c.touch.new.self (g.P.SectorView.space c.touch.new.space).content (c.in_ok-touch.ensures.counts middle) c.say_two.new.volume (g.P.SectorView.space c.say_two.new.space).content (c.in_ok-say_two.ensures.says later)
+    goal_said c.args.volume.now (g.P.SectorView.space c.args.space.now) (c.requires.serves.settled before) (c.requires.serves.stands.stands before) links.0 links.1 links.2 c.args.way.now.parent c.args.old.now c.args.way.now.id c.args.way.now.folder c.args.name.now links.3 (c.requires.only before) c.args.private c.requires.private (c.requires.room.ids before) c.args.number (lt-ltb c.args.number (2 ^ 32) c.ranges.number.fits) (c.requires.free before) c.args.created c.share.new.volume (g.P.SectorView.space c.share.new.space).content (c.in_ok-share.ensures.both before) c.touch.new.self (g.P.SectorView.space c.touch.new.space).content (c.in_ok-touch.ensures.counts middle) c.say_two.new.volume (g.P.SectorView.space c.say_two.new.space).content (c.in_ok-say_two.ensures.says later)
 
 pub returns-clause-does : goal.returns-clause-does
 returns-clause-does g c tells from to entry linking =
-    let middle = (c.share.ensures.touches (g.P.SectorView.space c.args.space.now).content).same.tells ∙ tells in
-    let later = (c.touch.ensures.touches (g.P.SectorView.space c.args.space.now).content).same.tells ∙ middle in
-    let last = (c.say_two.ensures.touches (g.P.SectorView.space c.args.space.now).content).same.tells ∙ later in
-    let end = (c.touch-2.ensures.touches (g.P.SectorView.space c.args.space.now).content).same.tells ∙ last in
+    let middle = (c.share.ensures.edits.ran.touches (g.P.SectorView.space c.args.space.now).content).same.tells ∙ tells in
+    let later = (c.touch.ensures.edits.ran.touches (g.P.SectorView.space c.args.space.now).content).same.tells ∙ middle in
+    let last = (c.say_two.ensures.edits.ran.touches (g.P.SectorView.space c.args.space.now).content).same.tells ∙ later in
+    let end = (c.touch-2.ensures.edits.ran.touches (g.P.SectorView.space c.args.space.now).content).same.tells ∙ last in
     ok_both (StandsOver c.touch-2.new.self (g.P.SectorView.space c.touch-2.new.space)) (TouchesFolder c.args.way.now.folder 1 0 c.say_two.new.volume c.touch-2.new.self (g.P.SectorView.space c.say_two.new.space).content (g.P.SectorView.space c.touch-2.new.space).content)
     (IsSettled c.touch-2.new.self (g.P.SectorView.space c.touch-2.new.space).content × (tree_of (g.P.SectorView.space c.touch-2.new.space).content ≡ (step (tree_of (g.P.SectorView.space c.args.space.now).content) (command.Ln from to)).1)
     × LinksFirst entry (free_place c.args.way.now.folder c.args.name.now) (volume_of (g.P.SectorView.space c.args.space.now).content) (volume_of (g.P.SectorView.space c.touch-2.new.space).content))
-    c.touch-2.result c.touch-2.ensures.stands (c.touch-2.ensures.counts last)
-    (λ stands t. first_done c.args.volume.now (g.P.SectorView.space c.args.space.now) (c.requires.settled tells) (c.requires.stands.stands tells) from to entry c.args.way.now.parent c.args.old.now c.args.way.now.id c.args.way.now.folder c.args.name.now linking (c.requires.only tells) c.args.private c.requires.private (c.requires.room.ids tells) c.args.number (lt-ltb c.args.number (2 ^ 32) c.ranges.number.fits) (c.requires.free tells) c.args.created c.share.new.volume (g.P.SectorView.space c.share.new.space).content (c.in_ok-share.ensures.both tells) c.touch.new.self (g.P.SectorView.space c.touch.new.space).content (c.in_ok-touch.ensures.counts middle) c.say_two.new.volume (g.P.SectorView.space c.say_two.new.space).content (c.in_ok-say_two.ensures.says later) c.touch-2.new.self (g.P.SectorView.space c.touch-2.new.space) t (stands.stands end) c.ln_does_its_step.ensures)
+    c.touch-2.result c.touch-2.ensures.edits.ran.stands (c.touch-2.ensures.counts last)
+    (λ stands t. first_done c.args.volume.now (g.P.SectorView.space c.args.space.now) (c.requires.serves.settled tells) (c.requires.serves.stands.stands tells) from to entry c.args.way.now.parent c.args.old.now c.args.way.now.id c.args.way.now.folder c.args.name.now linking (c.requires.only tells) c.args.private c.requires.private (c.requires.room.ids tells) c.args.number (lt-ltb c.args.number (2 ^ 32) c.ranges.number.fits) (c.requires.free tells) c.args.created c.share.new.volume (g.P.SectorView.space c.share.new.space).content (c.in_ok-share.ensures.both tells) c.touch.new.self (g.P.SectorView.space c.touch.new.space).content (c.in_ok-touch.ensures.counts middle) c.say_two.new.volume (g.P.SectorView.space c.say_two.new.space).content (c.in_ok-say_two.ensures.says later) c.touch-2.new.self (g.P.SectorView.space c.touch-2.new.space) t (stands.stands end) c.ln_does_its_step.ensures)
 
-pub returns-clause-touches : goal.returns-clause-touches
-returns-clause-touches g c committed =
-    touches_both committed _ (g.P.SectorView.space c.args.space.now) (g.P.SectorView.space c.say_two.new.space) (g.P.SectorView.space c.touch-2.new.space)
-    (touches_both committed _ (g.P.SectorView.space c.args.space.now) (g.P.SectorView.space c.touch.new.space) (g.P.SectorView.space c.say_two.new.space)
-    (touches_both committed _ (g.P.SectorView.space c.args.space.now) (g.P.SectorView.space c.share.new.space) (g.P.SectorView.space c.touch.new.space)
-    (c.share.ensures.touches committed)
-    (subst (λ (l : List ℕ). Touches committed (λ s. Contains l s) (g.P.SectorView.space c.share.new.space) (g.P.SectorView.space c.touch.new.space)) (c.share.ensures.own) (c.touch.ensures.touches committed)))
-    (subst (λ (l : List ℕ). Touches committed (λ s. Contains l s) (g.P.SectorView.space c.touch.new.space) (g.P.SectorView.space c.say_two.new.space)) (c.touch.ensures.own ∙ c.share.ensures.own) (c.say_two.ensures.touches committed)))
-    (subst (λ (l : List ℕ). Touches committed (λ s. Contains l s) (g.P.SectorView.space c.say_two.new.space) (g.P.SectorView.space c.touch-2.new.space)) (c.say_two.ensures.own ∙ c.touch.ensures.own ∙ c.share.ensures.own) (c.touch-2.ensures.touches committed))
+pub returns-clause-edits : goal.returns-clause-edits
+returns-clause-edits g c =
+    edits_spent (edits_both g.met.P.SectorView.follows_trans c.share.ensures.edits (edits_both g.met.P.SectorView.follows_trans c.touch.ensures.edits (edits_both g.met.P.SectorView.follows_trans c.say_two.ensures.edits c.touch-2.ensures.edits))) (λ tells. omega arith)
 
-pub returns-clause-below : goal.returns-clause-below
-returns-clause-below g c = g.met.P.SectorView.follows_trans c.args.space.now c.say_two.new.space c.touch-2.new.space (g.met.P.SectorView.follows_trans c.args.space.now c.touch.new.space c.say_two.new.space (g.met.P.SectorView.follows_trans c.args.space.now c.share.new.space c.touch.new.space (c.share.ensures.below) c.touch.ensures.below) c.say_two.ensures.below) c.touch-2.ensures.below
+pub returns-in_err-touch-clause-edits : goal.returns-in_err-touch-clause-edits
+returns-in_err-touch-clause-edits g c =
+    edits_err c.from_residual-in_err-touch.ensures.1 (edits_spent (edits_both g.met.P.SectorView.follows_trans c.share.ensures.edits c.in_err-touch.ensures.edits) (λ tells. omega arith))
 
-pub returns-clause-blocks : goal.returns-clause-blocks
-returns-clause-blocks g c = blocks_both c.args.volume.now c.say_two.new.volume c.touch-2.new.self (blocks_both c.args.volume.now c.touch.new.self c.say_two.new.volume (blocks_both c.args.volume.now c.share.new.volume c.touch.new.self (c.share.ensures.blocks) c.touch.ensures.blocks) c.say_two.ensures.blocks) c.touch-2.ensures.blocks
-
-pub returns-in_err-touch-clause-touches : goal.returns-in_err-touch-clause-touches
-returns-in_err-touch-clause-touches g c committed =
-    touches_both committed _ (g.P.SectorView.space c.args.space.now) (g.P.SectorView.space c.share.new.space) (g.P.SectorView.space c.touch.new.space)
-    (c.share.ensures.touches committed)
-    (subst (λ (l : List ℕ). Touches committed (λ s. Contains l s) (g.P.SectorView.space c.share.new.space) (g.P.SectorView.space c.touch.new.space)) (c.share.ensures.own) (c.touch.ensures.touches committed))
-
-pub returns-in_err-touch-clause-below : goal.returns-in_err-touch-clause-below
-returns-in_err-touch-clause-below g c = g.met.P.SectorView.follows_trans c.args.space.now c.share.new.space c.touch.new.space (c.share.ensures.below) c.touch.ensures.below
-
-pub returns-in_err-touch-clause-blocks : goal.returns-in_err-touch-clause-blocks
-returns-in_err-touch-clause-blocks g c = blocks_both c.args.volume.now c.share.new.volume c.touch.new.self (c.share.ensures.blocks) c.touch.ensures.blocks
-
-pub returns-in_err-say_two-clause-touches : goal.returns-in_err-say_two-clause-touches
-returns-in_err-say_two-clause-touches g c committed =
-    touches_both committed _ (g.P.SectorView.space c.args.space.now) (g.P.SectorView.space c.touch.new.space) (g.P.SectorView.space c.say_two.new.space)
-    (touches_both committed _ (g.P.SectorView.space c.args.space.now) (g.P.SectorView.space c.share.new.space) (g.P.SectorView.space c.touch.new.space)
-    (c.share.ensures.touches committed)
-    (subst (λ (l : List ℕ). Touches committed (λ s. Contains l s) (g.P.SectorView.space c.share.new.space) (g.P.SectorView.space c.touch.new.space)) (c.share.ensures.own) (c.touch.ensures.touches committed)))
-    (subst (λ (l : List ℕ). Touches committed (λ s. Contains l s) (g.P.SectorView.space c.touch.new.space) (g.P.SectorView.space c.say_two.new.space)) (c.touch.ensures.own ∙ c.share.ensures.own) (c.say_two.ensures.touches committed))
-
-pub returns-in_err-say_two-clause-below : goal.returns-in_err-say_two-clause-below
-returns-in_err-say_two-clause-below g c = g.met.P.SectorView.follows_trans c.args.space.now c.touch.new.space c.say_two.new.space (g.met.P.SectorView.follows_trans c.args.space.now c.share.new.space c.touch.new.space (c.share.ensures.below) c.touch.ensures.below) c.say_two.ensures.below
-
-pub returns-in_err-say_two-clause-blocks : goal.returns-in_err-say_two-clause-blocks
-returns-in_err-say_two-clause-blocks g c = blocks_both c.args.volume.now c.touch.new.self c.say_two.new.volume (blocks_both c.args.volume.now c.share.new.volume c.touch.new.self (c.share.ensures.blocks) c.touch.ensures.blocks) c.say_two.ensures.blocks
+pub returns-in_err-say_two-clause-edits : goal.returns-in_err-say_two-clause-edits
+returns-in_err-say_two-clause-edits g c =
+    edits_err c.from_residual-in_err-say_two.ensures.1 (edits_spent (edits_both g.met.P.SectorView.follows_trans c.share.ensures.edits (edits_both g.met.P.SectorView.follows_trans c.touch.ensures.edits c.in_err-say_two.ensures.edits)) (λ tells. omega arith))
 
 pub touch-requires-clause-room : goal.touch-requires-clause-room
 touch-requires-clause-room g c = first_update 2 c.share.new.volume (g.P.SectorView.space c.share.new.space) c.in_ok-share.ensures.room
@@ -124,16 +92,16 @@ touch-requires-2-clause-room g c = first_update 0 c.say_two.new.volume (g.P.Sect
 
 pub returns-clause-leaves : goal.returns-clause-leaves
 returns-clause-leaves g c tells beside had =
-    let middle = (c.share.ensures.touches (g.P.SectorView.space c.args.space.now).content).same.tells ∙ tells in
-    let later = (c.touch.ensures.touches (g.P.SectorView.space c.args.space.now).content).same.tells ∙ middle in
-    let last = (c.say_two.ensures.touches (g.P.SectorView.space c.args.space.now).content).same.tells ∙ later in
+    let middle = (c.share.ensures.edits.ran.touches (g.P.SectorView.space c.args.space.now).content).same.tells ∙ tells in
+    let later = (c.touch.ensures.edits.ran.touches (g.P.SectorView.space c.args.space.now).content).same.tells ∙ middle in
+    let last = (c.say_two.ensures.edits.ran.touches (g.P.SectorView.space c.args.space.now).content).same.tells ∙ later in
     let says = c.in_ok-say_two.ensures.says later in
     omega (
       arith,
       c.share.ensures.beside beside had tells,
-      c.touch.ensures.spent middle,
-      c.say_two.ensures.spent later,
-      c.touch-2.ensures.spent last,
+      c.touch.ensures.edits.ran.spent middle,
+      c.say_two.ensures.edits.ran.spent later,
+      c.touch-2.ensures.edits.ran.spent last,
       ap (λ n. n / 512) c.in_ok-share.ensures.size,
       ap (λ n. n / 512) c.touch.ensures.size,
       ap (λ n. n / 512) says.1.changes.nodes.1,
@@ -141,21 +109,21 @@ returns-clause-leaves g c tells beside had =
 
 pub returns-in_err-say_two-clause-leaves : goal.returns-in_err-say_two-clause-leaves
 returns-in_err-say_two-clause-leaves g c tells beside had =
-    let middle = (c.share.ensures.touches (g.P.SectorView.space c.args.space.now).content).same.tells ∙ tells in
-    let later = (c.touch.ensures.touches (g.P.SectorView.space c.args.space.now).content).same.tells ∙ middle in
+    let middle = (c.share.ensures.edits.ran.touches (g.P.SectorView.space c.args.space.now).content).same.tells ∙ tells in
+    let later = (c.touch.ensures.edits.ran.touches (g.P.SectorView.space c.args.space.now).content).same.tells ∙ middle in
     omega (
       arith,
       c.share.ensures.beside beside had tells,
-      c.touch.ensures.spent middle,
-      c.say_two.ensures.spent later,
+      c.touch.ensures.edits.ran.spent middle,
+      c.say_two.ensures.edits.ran.spent later,
       ap (λ n. n / 512) c.in_ok-share.ensures.size,
       ap (λ n. n / 512) c.touch.ensures.size,
     )
 
 pub returns-in_err-touch-clause-leaves : goal.returns-in_err-touch-clause-leaves
 returns-in_err-touch-clause-leaves g c tells beside had =
-    let middle = (c.share.ensures.touches (g.P.SectorView.space c.args.space.now).content).same.tells ∙ tells in
-    omega (arith, c.share.ensures.beside beside had tells, c.touch.ensures.spent middle, ap (λ n. n / 512) c.in_ok-share.ensures.size)
+    let middle = (c.share.ensures.edits.ran.touches (g.P.SectorView.space c.args.space.now).content).same.tells ∙ tells in
+    omega (arith, c.share.ensures.beside beside had tells, c.touch.ensures.edits.ran.spent middle, ap (λ n. n / 512) c.in_ok-share.ensures.size)
 
 pub returns-in_err-share-clause-leaves : goal.returns-in_err-share-clause-leaves
 returns-in_err-share-clause-leaves g c tells beside had = omega (arith, c.share.ensures.beside beside had tells)

@@ -4,7 +4,7 @@ use Rattle.volume_base.proofs.Fitted.{bare_fits}
 use Rattle.volume_names.proofs.fitting.fits_bare.Goals as goal
 
 pub returns-clause-room : goal.returns-clause-room
-returns-clause-room g c fits = bare_fits c.a_load_says_enough.ensures c.a_load_is_of_parts.ensures c.args.volume.now (g.P.SectorView.space c.args.space.now) c.requires.settled c.args.many (λ tells. sym (c.can_edit.ensures tells) ∙ fits)
+returns-clause-room g c fits = bare_fits c.a_load_says_enough.ensures c.a_load_is_of_parts.ensures c.args.volume.now (g.P.SectorView.space c.args.space.now) c.requires.serves.settled c.args.many (λ tells. sym (c.can_edit.ensures tells) ∙ fits)
 
 pub can_edit-requires-clause-tree : goal.can_edit-requires-clause-tree
 can_edit-requires-clause-tree g c tells some = sym c.has_tree.ensures ∙ c.if-not-has_tree.false

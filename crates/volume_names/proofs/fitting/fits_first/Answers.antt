@@ -6,10 +6,10 @@ use Rattle.volume_names.proofs.fitting.fits_first.Goals as goal
 
 pub returns-clause-load : goal.returns-clause-load
 returns-clause-load g c fits =
-    load_fits c.a_load_says_enough.ensures c.a_load_is_of_parts.ensures c.args.volume.now (g.P.SectorView.space c.args.space.now) c.requires.settled (record { ids = 3; catalog = 9; attributes = 0; updates = 4 }) _ refl (λ tells. omega arith) (λ tells. sym (c.can_edit.ensures tells) ∙ fits)
+    load_fits c.a_load_says_enough.ensures c.a_load_is_of_parts.ensures c.args.volume.now (g.P.SectorView.space c.args.space.now) c.requires.serves.settled (record { ids = 3; catalog = 9; attributes = 0; updates = 4 }) _ refl (λ tells. omega arith) (λ tells. sym (c.can_edit.ensures tells) ∙ fits)
 
 pub returns-clause-met : goal.returns-clause-met
 returns-clause-met g c tells met = c.can_edit.ensures tells ∙ met
 
 pub returns-clause-ids : goal.returns-clause-ids
-returns-clause-ids g c fits tells = omega (arith, ids_pass c.a_load_says_enough.ensures c.a_load_is_of_parts.ensures c.args.volume.now (g.P.SectorView.space c.args.space.now) c.requires.settled (edits 3 9 0 4) tells (sym (c.can_edit.ensures tells) ∙ fits))
+returns-clause-ids g c fits tells = omega (arith, ids_pass c.a_load_says_enough.ensures c.a_load_is_of_parts.ensures c.args.volume.now (g.P.SectorView.space c.args.space.now) c.requires.serves.settled (edits 3 9 0 4) tells (sym (c.can_edit.ensures tells) ∙ fits))

@@ -5,13 +5,13 @@ use Rattle.volume_base.proofs.Fitted.{make_fits, ids_pass, some_pass}
 use Rattle.volume_names.proofs.fitting.fits_make.Goals as goal
 
 pub returns-clause-room : goal.returns-clause-room
-returns-clause-room g c fits = make_fits c.a_load_says_enough.ensures c.a_load_is_of_parts.ensures c.args.volume.now (g.P.SectorView.space c.args.space.now) c.requires.settled (λ tells. sym (c.can_edit.ensures tells) ∙ fits) (c.leaves_id.ensures.fits c.if-not-leaves_id.false) (omega (arith, c.spare.ensures, c.has_sector.ensures.fits c.if-not-has_sector.false))
+returns-clause-room g c fits = make_fits c.a_load_says_enough.ensures c.a_load_is_of_parts.ensures c.args.volume.now (g.P.SectorView.space c.args.space.now) c.requires.serves.settled (λ tells. sym (c.can_edit.ensures tells) ∙ fits) (c.leaves_id.ensures.fits c.if-not-leaves_id.false) (omega (arith, c.spare.ensures, c.has_sector.ensures.fits c.if-not-has_sector.false))
 
 pub returns-clause-met : goal.returns-clause-met
 returns-clause-met g c tells met = c.can_edit.ensures tells ∙ met
 
 pub returns-then-not-leaves_id-clause-met : goal.returns-then-not-leaves_id-clause-met
-returns-then-not-leaves_id-clause-met g c tells met = absurd (true≢false (sym (c.leaves_id.ensures.sure (omega (arith, ids_pass c.a_load_says_enough.ensures c.a_load_is_of_parts.ensures c.args.volume.now (g.P.SectorView.space c.args.space.now) c.requires.settled (edits 1 2 0 1) tells met))) ∙ c.if-not-leaves_id.true))
+returns-then-not-leaves_id-clause-met g c tells met = absurd (true≢false (sym (c.leaves_id.ensures.sure (omega (arith, ids_pass c.a_load_says_enough.ensures c.a_load_is_of_parts.ensures c.args.volume.now (g.P.SectorView.space c.args.space.now) c.requires.serves.settled (edits 1 2 0 1) tells met))) ∙ c.if-not-leaves_id.true))
 
 pub returns-then-not-has_sector-clause-met : goal.returns-then-not-has_sector-clause-met
-returns-then-not-has_sector-clause-met g c tells met = absurd (true≢false (sym (c.has_sector.ensures.sure (omega (arith, c.spare.ensures, some_pass c.a_load_says_enough.ensures c.a_load_is_of_parts.ensures c.args.volume.now (g.P.SectorView.space c.args.space.now) c.requires.settled (edits 1 2 0 1) tells met))) ∙ c.if-not-has_sector.true))
+returns-then-not-has_sector-clause-met g c tells met = absurd (true≢false (sym (c.has_sector.ensures.sure (omega (arith, c.spare.ensures, some_pass c.a_load_says_enough.ensures c.a_load_is_of_parts.ensures c.args.volume.now (g.P.SectorView.space c.args.space.now) c.requires.serves.settled (edits 1 2 0 1) tells met))) ∙ c.if-not-has_sector.true))

@@ -4,7 +4,7 @@ use Rattle.volume_base.proofs.Fitted.{set_fits, mark_alone, update_passes}
 use Rattle.volume_names.proofs.fitting.fits_setattr.Goals as goal
 
 pub returns-clause-room : goal.returns-clause-room
-returns-clause-room g c fits = set_fits c.a_load_says_enough.ensures c.a_load_is_of_parts.ensures c.args.volume.now (g.P.SectorView.space c.args.space.now) c.requires.settled (λ tells. sym (c.can_edit.ensures tells) ∙ fits)
+returns-clause-room g c fits = set_fits c.a_load_says_enough.ensures c.a_load_is_of_parts.ensures c.args.volume.now (g.P.SectorView.space c.args.space.now) c.requires.serves.settled (λ tells. sym (c.can_edit.ensures tells) ∙ fits)
 
 pub can_edit-requires-clause-tree : goal.can_edit-requires-clause-tree
 can_edit-requires-clause-tree g c tells some = sym c.has_tree.ensures ∙ c.if-not-has_tree.false
@@ -16,4 +16,4 @@ pub returns-clause-met : goal.returns-clause-met
 returns-clause-met g c tells met = c.can_edit.ensures tells ∙ met
 
 pub returns-then-not-has_tree-clause-met : goal.returns-then-not-has_tree-clause-met
-returns-then-not-has_tree-clause-met g c tells met = c.fits_update.ensures.met (update_passes c.a_load_says_enough.ensures c.a_load_is_of_parts.ensures c.args.volume.now (g.P.SectorView.space c.args.space.now) c.requires.settled (edits 0 0 2 1) tells (omega arith) met)
+returns-then-not-has_tree-clause-met g c tells met = c.fits_update.ensures.met (update_passes c.a_load_says_enough.ensures c.a_load_is_of_parts.ensures c.args.volume.now (g.P.SectorView.space c.args.space.now) c.requires.serves.settled (edits 0 0 2 1) tells (omega arith) met)

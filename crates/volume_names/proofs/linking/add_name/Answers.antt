@@ -1,20 +1,17 @@
-use Rattle.std.proofs.Common.{[], ℕ, List, sym, ◌∙◌, ap, subst, arith}
-use Rattle.std.specs.List.{Contains}
+use Rattle.std.proofs.Common.{[], List, sym, ◌∙◌, ap, subst, arith}
 use Rattle.btree_node.specs.Levels.{Pair}
 use Rattle.btree_edit.specs.Edits.{EditRoom, TakesAtMost}
 use Rattle.btree_file.specs.Standing.{numbers_of}
 use Rattle.btree_file.specs.State.{state_of}
 use Rattle.hfs_volume.specs.Records.{id_in, placed_in, record_at}
-use Rattle.volume_base.specs.Touching.{Touches}
 use Rattle.volume_base.specs.declared.volume.Tree.{Tree}
 use Rattle.volume_base.specs.declared.volume.Volume.{Volume}
-use Rattle.volume_base.proofs.Added.{own_added, own_drawn, pairs_drawn}
-use Rattle.volume_base.proofs.Commanding.{touches_both}
+use Rattle.volume_base.proofs.Added.{pairs_drawn}
 use Rattle.volume_names.proofs.Made.{counts_fit, unused}
 use Rattle.volume_base.proofs.MakeRoom.{room_behind, room_for_entry, spent_entry}
 use Rattle.volume_names.proofs.NameAdded.{adds_name}
-use Rattle.volume_base.proofs.Touched.{touches_header}
-use Rattle.volume_base.proofs.Besides.{blocks_both, blocks_edit, blocks_header}
+use Rattle.volume_base.proofs.Framed.{edits_err, edits_ok, edits_spent}
+use Rattle.volume_base.proofs.Joined.{edits_both, edits_header}
 use Rattle.volume_names.proofs.linking.add_name.Goals as goal
 
 pub add-requires-clause-size : goal.add-requires-clause-size
@@ -24,7 +21,7 @@ pub add-requires-clause-unused : goal.add-requires-clause-unused
 add-requires-clause-unused g c tells =
     let before = sym c.draw.ensures.within.same.tells ∙ tells in
     ap (λ (l : List Pair). record_at (placed_in l) (id_in c.link_record-rec.result) []) (pairs_drawn c.args.volume.now c.draw.new.volume (g.P.SectorView.space c.args.space.now) (g.P.SectorView.space c.draw.new.space) c.draw.ensures.rest (c.draw.ensures.put (sym c.draw.ensures.within.same.tells ∙ tells)))
-    ∙ unused c.args.volume.now (g.P.SectorView.space c.args.space.now) (c.requires.settled (sym c.draw.ensures.within.same.tells ∙ tells)) c.link_record-rec.result c.link_record-rec.ensures.id
+    ∙ unused c.args.volume.now (g.P.SectorView.space c.args.space.now) (c.requires.serves.settled (sym c.draw.ensures.within.same.tells ∙ tells)) c.link_record-rec.result c.link_record-rec.ensures.id
 
 pub add-requires-clause-room : goal.add-requires-clause-room
 add-requires-clause-room g c names tells =
@@ -33,10 +30,10 @@ add-requires-clause-room g c names tells =
 
 pub returns-clause-adds : goal.returns-clause-adds
 returns-clause-adds g c tells =
-    let fits = counts_fit c.args.volume.now (g.P.SectorView.space c.args.space.now) (c.requires.settled tells) c.requires.room.ids in
+    let fits = counts_fit c.args.volume.now (g.P.SectorView.space c.args.space.now) (c.requires.serves.settled tells) c.requires.room.ids in
     let later = c.draw.ensures.within.same.tells ∙ tells in
     adds_name c.args.volume.now c.draw.new.volume (g.P.SectorView.space c.args.space.now) (g.P.SectorView.space c.draw.new.space) c.draw.ensures.rest (c.draw.ensures.put tells) c.add.new.volume (g.P.SectorView.space c.add.new.space)
-    (c.draw.ensures.stands.stands (c.draw.ensures.within.same.tells ∙ tells)) (c.draw.ensures.within.same.tells ∙ tells) (c.in_ok-add.ensures.stands.stands (c.add.ensures.frame.space.same.tells ∙ c.draw.ensures.within.same.tells ∙ tells)) c.add.ensures.frame c.add.ensures.rest
+    (c.draw.ensures.stands.stands (c.draw.ensures.within.same.tells ∙ tells)) (c.draw.ensures.within.same.tells ∙ tells) (c.in_ok-add.ensures.edits.ran.stands.stands (c.add.ensures.frame.space.same.tells ∙ c.draw.ensures.within.same.tells ∙ tells)) c.add.ensures.frame c.add.ensures.rest
     c.args.folder c.args.name.now c.args.reference c.args.created c.link_record-rec.result c.in_ok-add.field-0 c.link_record-rec.ensures.same (c.draw.ensures.header c.requires.room.ids fits.0 fits.1)
     (c.requires.free tells)
     (c.in_ok-add.ensures.answer (c.draw.ensures.within.same.tells ∙ tells)) (c.in_ok-add.ensures.added (c.draw.ensures.within.same.tells ∙ tells))
@@ -48,44 +45,14 @@ returns-clause-room g c =
     (subst (λ (t : Tree). TakesAtMost 2 516 (state_of [] t.file (g.P.SectorView.space c.draw.new.space)) (state_of [] c.add.new.volume.catalog.file (g.P.SectorView.space c.add.new.space))) (ap (λ (x : Volume). x.catalog) c.draw.ensures.rest) (c.add.ensures.takes []))
     c.add.ensures.frame.space.same.tells
 
-pub returns-clause-own : goal.returns-clause-own
-returns-clause-own g c = own_added c.args.volume.now c.draw.new.volume c.add.new.volume (g.P.SectorView.space c.draw.new.space) (g.P.SectorView.space c.add.new.space) c.draw.ensures.rest c.add.ensures.frame c.add.ensures.rest
-
-pub returns-in_err-add-clause-own : goal.returns-in_err-add-clause-own
-returns-in_err-add-clause-own g c = own_added c.args.volume.now c.draw.new.volume c.add.new.volume (g.P.SectorView.space c.draw.new.space) (g.P.SectorView.space c.add.new.space) c.draw.ensures.rest c.add.ensures.frame c.add.ensures.rest
-
-pub returns-clause-touches : goal.returns-clause-touches
-returns-clause-touches g c committed =
-    touches_both committed _ (g.P.SectorView.space c.args.space.now) (g.P.SectorView.space c.draw.new.space) (g.P.SectorView.space c.add.new.space)
-    (touches_header c.args.volume.now committed (g.P.SectorView.space c.args.space.now) (g.P.SectorView.space c.draw.new.space) c.draw.ensures.within)
-    (subst (λ (l : List ℕ). Touches committed (λ s. Contains l s) (g.P.SectorView.space c.draw.new.space) (g.P.SectorView.space c.add.new.space)) (own_drawn c.args.volume.now c.draw.new.volume c.add.new.volume (g.P.SectorView.space c.draw.new.space) (g.P.SectorView.space c.add.new.space) c.draw.ensures.rest c.add.ensures.frame c.add.ensures.rest) (c.add.ensures.touches committed))
-
-pub returns-in_err-add-clause-touches : goal.returns-in_err-add-clause-touches
-returns-in_err-add-clause-touches g c committed =
-    touches_both committed _ (g.P.SectorView.space c.args.space.now) (g.P.SectorView.space c.draw.new.space) (g.P.SectorView.space c.add.new.space)
-    (touches_header c.args.volume.now committed (g.P.SectorView.space c.args.space.now) (g.P.SectorView.space c.draw.new.space) c.draw.ensures.within)
-    (subst (λ (l : List ℕ). Touches committed (λ s. Contains l s) (g.P.SectorView.space c.draw.new.space) (g.P.SectorView.space c.add.new.space)) (own_drawn c.args.volume.now c.draw.new.volume c.add.new.volume (g.P.SectorView.space c.draw.new.space) (g.P.SectorView.space c.add.new.space) c.draw.ensures.rest c.add.ensures.frame c.add.ensures.rest) (c.add.ensures.touches committed))
-
-pub returns-clause-below : goal.returns-clause-below
-returns-clause-below g c = g.met.P.SectorView.follows_trans c.args.space.now c.draw.new.space c.add.new.space c.draw.ensures.below c.add.ensures.below
-
-pub returns-in_err-add-clause-below : goal.returns-in_err-add-clause-below
-returns-in_err-add-clause-below g c = g.met.P.SectorView.follows_trans c.args.space.now c.draw.new.space c.add.new.space c.draw.ensures.below c.add.ensures.below
-
-pub returns-clause-blocks : goal.returns-clause-blocks
-returns-clause-blocks g c = blocks_both c.args.volume.now c.draw.new.volume c.add.new.volume (blocks_header c.args.volume.now c.draw.new.volume c.draw.ensures.rest) (blocks_edit c.draw.new.volume c.add.new.volume c.add.ensures.rest)
-
-pub returns-in_err-add-clause-blocks : goal.returns-in_err-add-clause-blocks
-returns-in_err-add-clause-blocks g c = blocks_both c.args.volume.now c.draw.new.volume c.add.new.volume (blocks_header c.args.volume.now c.draw.new.volume c.draw.ensures.rest) (blocks_edit c.draw.new.volume c.add.new.volume c.add.ensures.rest)
-
-pub returns-clause-spent : goal.returns-clause-spent
-returns-clause-spent g c tells =
-    spent_entry c.edits_have_room.ensures c.edits_take_their_load.ensures c.args.volume.now c.add.new.volume (g.P.SectorView.space c.args.space.now) (g.P.SectorView.space c.draw.new.space) (g.P.SectorView.space c.add.new.space) c.requires.room c.requires.size
+pub returns-clause-edits : goal.returns-clause-edits
+returns-clause-edits g c =
+    edits_ok (edits_spent (edits_both g.met.P.SectorView.follows_trans (edits_header c.draw.ensures.below c.draw.ensures.stands c.draw.ensures.rest c.draw.ensures.within c.draw.ensures.spent c.draw.ensures.faults) c.in_ok-add.ensures.edits) (λ tells. spent_entry c.edits_have_room.ensures c.edits_take_their_load.ensures c.args.volume.now c.add.new.volume (g.P.SectorView.space c.args.space.now) (g.P.SectorView.space c.draw.new.space) (g.P.SectorView.space c.add.new.space) c.requires.room c.requires.size
     c.draw.ensures.within.same.tells c.draw.ensures.spent
-    (subst (λ (t : Tree). TakesAtMost 2 516 (state_of [] t.file (g.P.SectorView.space c.draw.new.space)) (state_of [] c.add.new.volume.catalog.file (g.P.SectorView.space c.add.new.space))) (ap (λ (x : Volume). x.catalog) c.draw.ensures.rest) (c.add.ensures.takes [])) tells
+    (subst (λ (t : Tree). TakesAtMost 2 516 (state_of [] t.file (g.P.SectorView.space c.draw.new.space)) (state_of [] c.add.new.volume.catalog.file (g.P.SectorView.space c.add.new.space))) (ap (λ (x : Volume). x.catalog) c.draw.ensures.rest) (c.add.ensures.takes [])) tells))
 
-pub returns-in_err-add-clause-spent : goal.returns-in_err-add-clause-spent
-returns-in_err-add-clause-spent g c tells =
-    spent_entry c.edits_have_room.ensures c.edits_take_their_load.ensures c.args.volume.now c.add.new.volume (g.P.SectorView.space c.args.space.now) (g.P.SectorView.space c.draw.new.space) (g.P.SectorView.space c.add.new.space) c.requires.room c.requires.size
+pub returns-in_err-add-clause-edits : goal.returns-in_err-add-clause-edits
+returns-in_err-add-clause-edits g c =
+    edits_err c.from_residual-in_err-add.ensures.1 (edits_spent (edits_both g.met.P.SectorView.follows_trans (edits_header c.draw.ensures.below c.draw.ensures.stands c.draw.ensures.rest c.draw.ensures.within c.draw.ensures.spent c.draw.ensures.faults) c.in_err-add.ensures.edits) (λ tells. spent_entry c.edits_have_room.ensures c.edits_take_their_load.ensures c.args.volume.now c.add.new.volume (g.P.SectorView.space c.args.space.now) (g.P.SectorView.space c.draw.new.space) (g.P.SectorView.space c.add.new.space) c.requires.room c.requires.size
     c.draw.ensures.within.same.tells c.draw.ensures.spent
-    (subst (λ (t : Tree). TakesAtMost 2 516 (state_of [] t.file (g.P.SectorView.space c.draw.new.space)) (state_of [] c.add.new.volume.catalog.file (g.P.SectorView.space c.add.new.space))) (ap (λ (x : Volume). x.catalog) c.draw.ensures.rest) (c.add.ensures.takes [])) tells
+    (subst (λ (t : Tree). TakesAtMost 2 516 (state_of [] t.file (g.P.SectorView.space c.draw.new.space)) (state_of [] c.add.new.volume.catalog.file (g.P.SectorView.space c.add.new.space))) (ap (λ (x : Volume). x.catalog) c.draw.ensures.rest) (c.add.ensures.takes [])) tells))

@@ -1,5 +1,4 @@
-use Rattle.std.proofs.Common.{◌≡◌, ◌*◌, ℕ, List, sym, ◌∙◌, ap, subst, arith, inl, inr}
-use Rattle.std.specs.List.{Contains}
+use Rattle.std.proofs.Common.{◌≡◌, ◌*◌, sym, ◌∙◌, ap, arith, inl, inr}
 use Rattle.hfs_language.specs.declared.command.Command.TheVariants as command
 use Rattle.hfs_model.specs.Step.{step}
 use Rattle.hfs_volume.specs.TreeOf.{tree_of}
@@ -7,32 +6,31 @@ use Rattle.volume_base.specs.Changing.{catalog_node}
 use Rattle.volume_names.specs.Losing.{Buries, Loses}
 use Rattle.volume_names.proofs.EditsLeft.{left_as}
 use Rattle.volume_base.specs.Standing.{IsSettled}
-use Rattle.volume_base.specs.Touching.{Touches}
-use Rattle.volume_base.proofs.Besides.{blocks_both, blocks_none}
-use Rattle.volume_base.proofs.Commanding.{touches_both, touches_none}
 use Rattle.volume_base.proofs.FoundEntry.{ok_so}
 use Rattle.volume_names.proofs.PrivateLoss.{loss_then, lost_both, only_then}
 use Rattle.volume_names.proofs.LossLoads.{load_aside, rest_aside}
+use Rattle.volume_base.proofs.Framed.{edits_none, edits_spent}
+use Rattle.volume_base.proofs.Joined.{edits_both}
 use Rattle.volume_names.proofs.losing.bury_first.Goals as goal
 
-pub bury-requires-clause-settled : goal.bury-requires-clause-settled
-bury-requires-clause-settled g c tells = (c.in_ok-open_private.ensures.opens (sym (c.open_private.ensures.touches (g.P.SectorView.space c.args.space.now).content).same.tells ∙ tells)).settled
+pub bury-requires-clause-serves : goal.bury-requires-clause-serves
+bury-requires-clause-serves g c = record { stands = search; settled = λ tells. (c.in_ok-open_private.ensures.opens (sym (c.open_private.ensures.edits.ran.touches (g.P.SectorView.space c.args.space.now).content).same.tells ∙ tells)).settled }
 
 pub bury-requires-clause-only : goal.bury-requires-clause-only
 bury-requires-clause-only g c tells =
-    let before = sym (c.open_private.ensures.touches (g.P.SectorView.space c.args.space.now).content).same.tells ∙ tells in
+    let before = sym (c.open_private.ensures.edits.ran.touches (g.P.SectorView.space c.args.space.now).content).same.tells ∙ tells in
     let loses = c.requires.loses before in
-    only_then c.header_may_change.ensures c.args.volume.now (g.P.SectorView.space c.args.space.now) (c.requires.settled before) (c.requires.stands.stands before).trees loses.0 loses.1 c.args.at.now loses.2 (c.requires.only before) c.open_private.new.volume (g.P.SectorView.space c.open_private.new.space).content (c.in_ok-open_private.ensures.opens before)
+    only_then c.header_may_change.ensures c.args.volume.now (g.P.SectorView.space c.args.space.now) (c.requires.serves.settled before) (c.requires.serves.stands.stands before).trees loses.0 loses.1 c.args.at.now loses.2 (c.requires.only before) c.open_private.new.volume (g.P.SectorView.space c.open_private.new.space).content (c.in_ok-open_private.ensures.opens before)
 
 pub bury-requires-clause-loses : goal.bury-requires-clause-loses
 bury-requires-clause-loses g c tells =
-    let before = sym (c.open_private.ensures.touches (g.P.SectorView.space c.args.space.now).content).same.tells ∙ tells in
+    let before = sym (c.open_private.ensures.edits.ran.touches (g.P.SectorView.space c.args.space.now).content).same.tells ∙ tells in
     let loses = c.requires.loses before in
-    (loses.0, loses.1, loss_then c.header_may_change.ensures c.args.volume.now (g.P.SectorView.space c.args.space.now) (c.requires.settled before) (c.requires.stands.stands before).trees loses.0 loses.1 c.args.at.now loses.2 (c.requires.only before) c.open_private.new.volume (g.P.SectorView.space c.open_private.new.space).content (c.in_ok-open_private.ensures.opens before))
+    (loses.0, loses.1, loss_then c.header_may_change.ensures c.args.volume.now (g.P.SectorView.space c.args.space.now) (c.requires.serves.settled before) (c.requires.serves.stands.stands before).trees loses.0 loses.1 c.args.at.now loses.2 (c.requires.only before) c.open_private.new.volume (g.P.SectorView.space c.open_private.new.space).content (c.in_ok-open_private.ensures.opens before))
 
 pub returns-in-Some-clause-does : goal.returns-in-Some-clause-does
 returns-in-Some-clause-does g c tells path entry loss =
-    let later = (c.open_private.ensures.touches (g.P.SectorView.space c.args.space.now).content).same.tells ∙ tells in
+    let later = (c.open_private.ensures.edits.ran.touches (g.P.SectorView.space c.args.space.now).content).same.tells ∙ tells in
     ok_so
     (IsSettled c.bury.new.volume (g.P.SectorView.space c.bury.new.space).content × (tree_of (g.P.SectorView.space c.bury.new.space).content ≡ (step (tree_of (g.P.SectorView.space c.open_private.new.space).content) (command.Rm path)).1)
     × Buries entry (g.P.SectorView.space c.open_private.new.space).content (g.P.SectorView.space c.bury.new.space).content)
@@ -40,38 +38,24 @@ returns-in-Some-clause-does g c tells path entry loss =
     × Loses entry (g.P.SectorView.space c.args.space.now).content (g.P.SectorView.space c.bury.new.space).content)
     c.bury.result
     (c.bury.ensures.does later path entry
-    (loss_then c.header_may_change.ensures c.args.volume.now (g.P.SectorView.space c.args.space.now) (c.requires.settled tells) (c.requires.stands.stands tells).trees path entry c.args.at.now loss (c.requires.only tells) c.open_private.new.volume (g.P.SectorView.space c.open_private.new.space).content (c.in_ok-open_private.ensures.opens tells)))
-    (λ lost. lost_both c.header_may_change.ensures c.args.volume.now (g.P.SectorView.space c.args.space.now) (c.requires.settled tells) (c.requires.stands.stands tells).trees path entry c.args.at.now loss (c.requires.only tells) c.open_private.new.volume (g.P.SectorView.space c.open_private.new.space).content (c.in_ok-open_private.ensures.opens tells)
+    (loss_then c.header_may_change.ensures c.args.volume.now (g.P.SectorView.space c.args.space.now) (c.requires.serves.settled tells) (c.requires.serves.stands.stands tells).trees path entry c.args.at.now loss (c.requires.only tells) c.open_private.new.volume (g.P.SectorView.space c.open_private.new.space).content (c.in_ok-open_private.ensures.opens tells)))
+    (λ lost. lost_both c.header_may_change.ensures c.args.volume.now (g.P.SectorView.space c.args.space.now) (c.requires.serves.settled tells) (c.requires.serves.stands.stands tells).trees path entry c.args.at.now loss (c.requires.only tells) c.open_private.new.volume (g.P.SectorView.space c.open_private.new.space).content (c.in_ok-open_private.ensures.opens tells)
     c.bury.new.volume (g.P.SectorView.space c.bury.new.space).content lost c.rm_does_its_step.ensures)
 
-pub returns-in-Some-clause-touches : goal.returns-in-Some-clause-touches
-returns-in-Some-clause-touches g c committed =
-    touches_both committed _ (g.P.SectorView.space c.args.space.now) (g.P.SectorView.space c.open_private.new.space) (g.P.SectorView.space c.bury.new.space) (c.open_private.ensures.touches committed)
-    (subst (λ (l : List ℕ). Touches committed (λ s. Contains l s) (g.P.SectorView.space c.open_private.new.space) (g.P.SectorView.space c.bury.new.space)) c.open_private.ensures.own (c.bury.ensures.touches committed))
-
-pub returns-in-Some-clause-below : goal.returns-in-Some-clause-below
-returns-in-Some-clause-below g c = g.met.P.SectorView.follows_trans c.args.space.now c.open_private.new.space c.bury.new.space c.open_private.ensures.below c.bury.ensures.below
-
-pub returns-in-Some-clause-blocks : goal.returns-in-Some-clause-blocks
-returns-in-Some-clause-blocks g c = blocks_both c.args.volume.now c.open_private.new.volume c.bury.new.volume c.open_private.ensures.blocks c.bury.ensures.blocks
+pub returns-in-Some-clause-edits : goal.returns-in-Some-clause-edits
+returns-in-Some-clause-edits g c = edits_spent (edits_both g.met.P.SectorView.follows_trans c.open_private.ensures.edits c.bury.ensures.edits) (λ tells. omega arith)
 
 pub bury-requires-clause-left : goal.bury-requires-clause-left
 bury-requires-clause-left g c =
-    left_as c.open_private.new.volume (g.P.SectorView.space c.open_private.new.space) 3 _ _ (λ tells. ap (λ n. 2 * n) (sym (c.in_ok-open_private.ensures.nodes (sym (c.open_private.ensures.touches (g.P.SectorView.space c.args.space.now).content).same.tells ∙ tells))))
+    left_as c.open_private.new.volume (g.P.SectorView.space c.open_private.new.space) 3 _ _ (λ tells. ap (λ n. 2 * n) (sym (c.in_ok-open_private.ensures.nodes (sym (c.open_private.ensures.edits.ran.touches (g.P.SectorView.space c.args.space.now).content).same.tells ∙ tells))))
     (c.in_ok-open_private.ensures.left 3 (2 * catalog_node c.args.volume.now) (c.fits_aside.ensures.load c.if-not-fits_aside.false))
 
-pub returns-then-not-fits_aside-clause-touches : goal.returns-then-not-fits_aside-clause-touches
-returns-then-not-fits_aside-clause-touches g c committed = touches_none committed _ (g.P.SectorView.space c.args.space.now)
-
-pub returns-then-not-fits_aside-clause-service : goal.returns-then-not-fits_aside-clause-service
-returns-then-not-fits_aside-clause-service g c = c.requires.stands.service
-
-pub returns-then-not-fits_aside-clause-blocks : goal.returns-then-not-fits_aside-clause-blocks
-returns-then-not-fits_aside-clause-blocks g c = blocks_none c.args.volume.now
+pub returns-then-not-fits_aside-clause-edits : goal.returns-then-not-fits_aside-clause-edits
+returns-then-not-fits_aside-clause-edits g c = edits_none _ g.met.P.SectorView.follows_refl c.requires.serves.stands
 
 pub returns-in-Some-clause-spends : goal.returns-in-Some-clause-spends
 returns-in-Some-clause-spends g c tells =
-    let later = (c.open_private.ensures.touches (g.P.SectorView.space c.args.space.now).content).same.tells ∙ tells in
+    let later = (c.open_private.ensures.edits.ran.touches (g.P.SectorView.space c.args.space.now).content).same.tells ∙ tells in
     let load = load_aside c.args.volume.now (g.P.SectorView.space c.args.space.now) (c.fits_aside.ensures.load c.if-not-fits_aside.false) in
     let left = c.bury.ensures.leaves later (rest_aside c.args.volume.now (g.P.SectorView.space c.args.space.now)) (c.in_ok-open_private.ensures.left 3 (rest_aside c.args.volume.now (g.P.SectorView.space c.args.space.now)) load) in
     inr (record { grown = load.grown tells; spent = omega (arith, left, load.load tells, c.in_ok-open_private.ensures.nodes tells) })

@@ -1,18 +1,15 @@
-use Rattle.std.proofs.Common.{[], ◌*◌, ℕ, List, sym, ◌∙◌, subst, arith, ◌/◌, ap}
-use Rattle.std.specs.List.{Contains}
+use Rattle.std.proofs.Common.{[], ◌*◌, sym, ◌∙◌, arith, ◌/◌, ap}
 use Rattle.volume_base.specs.Changing.{HasRoomToUpdate, HasRoomToUpdates, TouchesFolder, catalog_node}
 use Rattle.volume_names.specs.Losing.{Hides}
-use Rattle.volume_base.specs.Touching.{Touches}
-use Rattle.volume_base.proofs.Added.{own_edited}
 use Rattle.volume_names.proofs.Buried.{private_after, puts_aside, threads_aside}
-use Rattle.volume_base.proofs.Commanding.{touches_both}
 use Rattle.volume_base.proofs.FoundEntry.{ok_so, ok_true, settled_threads}
 use Rattle.volume_names.proofs.EditsLeft.{first_update, node_aside, room_aside, spare_edited, spent_aside, updates_aside}
-use Rattle.volume_base.proofs.Besides.{blocks_both, blocks_edit}
+use Rattle.volume_base.proofs.Framed.{edits_err, edits_spent}
+use Rattle.volume_base.proofs.Joined.{edits_both}
 use Rattle.volume_names.proofs.losing.hide.Goals as goal
 
 pub set_aside-requires-clause-threads : goal.set_aside-requires-clause-threads
-set_aside-requires-clause-threads g c tells = settled_threads c.args.volume.now (g.P.SectorView.space c.args.space.now).content (c.requires.settled tells)
+set_aside-requires-clause-threads g c tells = settled_threads c.args.volume.now (g.P.SectorView.space c.args.space.now).content (c.requires.serves.settled tells)
 
 pub set_aside-requires-clause-file : goal.set_aside-requires-clause-file
 set_aside-requires-clause-file g c tells = (c.requires.only tells).names
@@ -22,62 +19,44 @@ set_aside-requires-clause-room g c names = room_aside (2 * catalog_node c.args.v
 
 pub touch-requires-clause-threads : goal.touch-requires-clause-threads
 touch-requires-clause-threads g c tells =
-    threads_aside c.args.volume.now (g.P.SectorView.space c.args.space.now) (c.requires.settled (sym c.set_aside.ensures.frame.space.same.tells ∙ tells)) (c.requires.stands.stands (sym c.set_aside.ensures.frame.space.same.tells ∙ tells)) (c.requires.loses (sym c.set_aside.ensures.frame.space.same.tells ∙ tells)).0 (c.requires.loses (sym c.set_aside.ensures.frame.space.same.tells ∙ tells)).1 c.args.at.now (c.requires.loses (sym c.set_aside.ensures.frame.space.same.tells ∙ tells)).2 (c.requires.only (sym c.set_aside.ensures.frame.space.same.tells ∙ tells)) c.args.private c.requires.private c.requires.stands.service.fits.next_catalog_id c.set_aside.new.volume (g.P.SectorView.space c.set_aside.new.space).content
-    (puts_aside c.args.volume.now c.set_aside.new.volume (g.P.SectorView.space c.args.space.now) (g.P.SectorView.space c.set_aside.new.space) c.args.private c.args.at.now (c.requires.stands.stands (sym c.set_aside.ensures.frame.space.same.tells ∙ tells)) (sym c.set_aside.ensures.frame.space.same.tells ∙ tells) c.set_aside.ensures.frame c.set_aside.ensures.rest (c.in_ok-set_aside.ensures.stands.stands (c.set_aside.ensures.frame.space.same.tells ∙ (sym c.set_aside.ensures.frame.space.same.tells ∙ tells))) (c.in_ok-set_aside.ensures.moved (sym c.set_aside.ensures.frame.space.same.tells ∙ tells))) (c.in_ok-set_aside.ensures.stands.stands (c.set_aside.ensures.frame.space.same.tells ∙ (sym c.set_aside.ensures.frame.space.same.tells ∙ tells))).trees
+    threads_aside c.args.volume.now (g.P.SectorView.space c.args.space.now) (c.requires.serves.settled (sym c.set_aside.ensures.frame.space.same.tells ∙ tells)) (c.requires.serves.stands.stands (sym c.set_aside.ensures.frame.space.same.tells ∙ tells)) (c.requires.loses (sym c.set_aside.ensures.frame.space.same.tells ∙ tells)).0 (c.requires.loses (sym c.set_aside.ensures.frame.space.same.tells ∙ tells)).1 c.args.at.now (c.requires.loses (sym c.set_aside.ensures.frame.space.same.tells ∙ tells)).2 (c.requires.only (sym c.set_aside.ensures.frame.space.same.tells ∙ tells)) c.args.private c.requires.private c.requires.serves.stands.service.fits.next_catalog_id c.set_aside.new.volume (g.P.SectorView.space c.set_aside.new.space).content
+    (puts_aside c.args.volume.now c.set_aside.new.volume (g.P.SectorView.space c.args.space.now) (g.P.SectorView.space c.set_aside.new.space) c.args.private c.args.at.now (c.requires.serves.stands.stands (sym c.set_aside.ensures.frame.space.same.tells ∙ tells)) (sym c.set_aside.ensures.frame.space.same.tells ∙ tells) c.set_aside.ensures.frame c.set_aside.ensures.rest (c.in_ok-set_aside.ensures.edits.ran.stands.stands (c.set_aside.ensures.frame.space.same.tells ∙ (sym c.set_aside.ensures.frame.space.same.tells ∙ tells))) (c.in_ok-set_aside.ensures.moved (sym c.set_aside.ensures.frame.space.same.tells ∙ tells))) (c.in_ok-set_aside.ensures.edits.ran.stands.stands (c.set_aside.ensures.frame.space.same.tells ∙ (sym c.set_aside.ensures.frame.space.same.tells ∙ tells))).trees
 
 pub touch-requires-clause-there : goal.touch-requires-clause-there
 touch-requires-clause-there g c tells =
-    private_after c.args.volume.now (g.P.SectorView.space c.args.space.now) (c.requires.settled (sym c.set_aside.ensures.frame.space.same.tells ∙ tells)) (c.requires.stands.stands (sym c.set_aside.ensures.frame.space.same.tells ∙ tells)) (c.requires.loses (sym c.set_aside.ensures.frame.space.same.tells ∙ tells)).0 (c.requires.loses (sym c.set_aside.ensures.frame.space.same.tells ∙ tells)).1 c.args.at.now (c.requires.loses (sym c.set_aside.ensures.frame.space.same.tells ∙ tells)).2 (c.requires.only (sym c.set_aside.ensures.frame.space.same.tells ∙ tells)) c.args.private c.requires.private c.requires.stands.service.fits.next_catalog_id c.set_aside.new.volume (g.P.SectorView.space c.set_aside.new.space).content
-    (puts_aside c.args.volume.now c.set_aside.new.volume (g.P.SectorView.space c.args.space.now) (g.P.SectorView.space c.set_aside.new.space) c.args.private c.args.at.now (c.requires.stands.stands (sym c.set_aside.ensures.frame.space.same.tells ∙ tells)) (sym c.set_aside.ensures.frame.space.same.tells ∙ tells) c.set_aside.ensures.frame c.set_aside.ensures.rest (c.in_ok-set_aside.ensures.stands.stands (c.set_aside.ensures.frame.space.same.tells ∙ (sym c.set_aside.ensures.frame.space.same.tells ∙ tells))) (c.in_ok-set_aside.ensures.moved (sym c.set_aside.ensures.frame.space.same.tells ∙ tells))) (c.in_ok-set_aside.ensures.stands.stands (c.set_aside.ensures.frame.space.same.tells ∙ (sym c.set_aside.ensures.frame.space.same.tells ∙ tells))).trees
+    private_after c.args.volume.now (g.P.SectorView.space c.args.space.now) (c.requires.serves.settled (sym c.set_aside.ensures.frame.space.same.tells ∙ tells)) (c.requires.serves.stands.stands (sym c.set_aside.ensures.frame.space.same.tells ∙ tells)) (c.requires.loses (sym c.set_aside.ensures.frame.space.same.tells ∙ tells)).0 (c.requires.loses (sym c.set_aside.ensures.frame.space.same.tells ∙ tells)).1 c.args.at.now (c.requires.loses (sym c.set_aside.ensures.frame.space.same.tells ∙ tells)).2 (c.requires.only (sym c.set_aside.ensures.frame.space.same.tells ∙ tells)) c.args.private c.requires.private c.requires.serves.stands.service.fits.next_catalog_id c.set_aside.new.volume (g.P.SectorView.space c.set_aside.new.space).content
+    (puts_aside c.args.volume.now c.set_aside.new.volume (g.P.SectorView.space c.args.space.now) (g.P.SectorView.space c.set_aside.new.space) c.args.private c.args.at.now (c.requires.serves.stands.stands (sym c.set_aside.ensures.frame.space.same.tells ∙ tells)) (sym c.set_aside.ensures.frame.space.same.tells ∙ tells) c.set_aside.ensures.frame c.set_aside.ensures.rest (c.in_ok-set_aside.ensures.edits.ran.stands.stands (c.set_aside.ensures.frame.space.same.tells ∙ (sym c.set_aside.ensures.frame.space.same.tells ∙ tells))) (c.in_ok-set_aside.ensures.moved (sym c.set_aside.ensures.frame.space.same.tells ∙ tells))) (c.in_ok-set_aside.ensures.edits.ran.stands.stands (c.set_aside.ensures.frame.space.same.tells ∙ (sym c.set_aside.ensures.frame.space.same.tells ∙ tells))).trees
 
 pub returns-clause-hides : goal.returns-clause-hides
 returns-clause-hides g c tells =
     ok_so (TouchesFolder c.args.private 1 0 c.set_aside.new.volume c.touch.new.self (g.P.SectorView.space c.set_aside.new.space).content (g.P.SectorView.space c.touch.new.space).content)
     (Hides c.args.private c.args.at.now c.args.volume.now c.touch.new.self (g.P.SectorView.space c.args.space.now).content (g.P.SectorView.space c.touch.new.space).content)
     c.touch.result (c.touch.ensures.counts (c.set_aside.ensures.frame.space.same.tells ∙ tells))
-    (λ t. record { middle = c.set_aside.new.volume; content = (g.P.SectorView.space c.set_aside.new.space).content; holds = (c.in_ok-set_aside.ensures.stands.stands (c.set_aside.ensures.frame.space.same.tells ∙ tells)).trees; moves = (puts_aside c.args.volume.now c.set_aside.new.volume (g.P.SectorView.space c.args.space.now) (g.P.SectorView.space c.set_aside.new.space) c.args.private c.args.at.now (c.requires.stands.stands (tells)) (tells) c.set_aside.ensures.frame c.set_aside.ensures.rest (c.in_ok-set_aside.ensures.stands.stands (c.set_aside.ensures.frame.space.same.tells ∙ (tells))) (c.in_ok-set_aside.ensures.moved (tells))); gains = t })
+    (λ t. record { middle = c.set_aside.new.volume; content = (g.P.SectorView.space c.set_aside.new.space).content; holds = (c.in_ok-set_aside.ensures.edits.ran.stands.stands (c.set_aside.ensures.frame.space.same.tells ∙ tells)).trees; moves = (puts_aside c.args.volume.now c.set_aside.new.volume (g.P.SectorView.space c.args.space.now) (g.P.SectorView.space c.set_aside.new.space) c.args.private c.args.at.now (c.requires.serves.stands.stands (tells)) (tells) c.set_aside.ensures.frame c.set_aside.ensures.rest (c.in_ok-set_aside.ensures.edits.ran.stands.stands (c.set_aside.ensures.frame.space.same.tells ∙ (tells))) (c.in_ok-set_aside.ensures.moved (tells))); gains = t })
 
-pub returns-clause-touches : goal.returns-clause-touches
-returns-clause-touches g c committed =
-    touches_both committed _ (g.P.SectorView.space c.args.space.now) (g.P.SectorView.space c.set_aside.new.space) (g.P.SectorView.space c.touch.new.space) (c.set_aside.ensures.touches committed)
-    (subst (λ (l : List ℕ). Touches committed (λ s. Contains l s) (g.P.SectorView.space c.set_aside.new.space) (g.P.SectorView.space c.touch.new.space)) (own_edited c.args.volume.now c.set_aside.new.volume (g.P.SectorView.space c.args.space.now) (g.P.SectorView.space c.set_aside.new.space) c.set_aside.ensures.frame c.set_aside.ensures.rest) (c.touch.ensures.touches committed))
+pub returns-clause-edits : goal.returns-clause-edits
+returns-clause-edits g c =
+    edits_spent (edits_both g.met.P.SectorView.follows_trans c.set_aside.ensures.edits c.touch.ensures.edits) (λ tells. omega (arith, spent_aside c.edits_take_their_load.ensures (2 * catalog_node c.args.volume.now) c.args.volume.now c.set_aside.new.volume (g.P.SectorView.space c.args.space.now) (g.P.SectorView.space c.set_aside.new.space) c.requires.left c.requires.size (c.set_aside.ensures.takes []) tells, c.touch.ensures.edits.ran.spent (c.set_aside.ensures.frame.space.same.tells ∙ tells), node_aside (2 * catalog_node c.args.volume.now) c.args.volume.now c.set_aside.new.volume (g.P.SectorView.space c.args.space.now) (g.P.SectorView.space c.set_aside.new.space) c.requires.left c.requires.size (c.set_aside.ensures.takes []) tells))
 
-pub returns-clause-below : goal.returns-clause-below
-returns-clause-below g c = g.met.P.SectorView.follows_trans c.args.space.now c.set_aside.new.space c.touch.new.space c.set_aside.ensures.below c.touch.ensures.below
-
-pub returns-clause-spent : goal.returns-clause-spent
-returns-clause-spent g c tells = omega (arith, spent_aside c.edits_take_their_load.ensures (2 * catalog_node c.args.volume.now) c.args.volume.now c.set_aside.new.volume (g.P.SectorView.space c.args.space.now) (g.P.SectorView.space c.set_aside.new.space) c.requires.left c.requires.size (c.set_aside.ensures.takes []) tells, c.touch.ensures.spent (c.set_aside.ensures.frame.space.same.tells ∙ tells), node_aside (2 * catalog_node c.args.volume.now) c.args.volume.now c.set_aside.new.volume (g.P.SectorView.space c.args.space.now) (g.P.SectorView.space c.set_aside.new.space) c.requires.left c.requires.size (c.set_aside.ensures.takes []) tells)
-
-pub returns-in_err-set_aside-clause-spent : goal.returns-in_err-set_aside-clause-spent
-returns-in_err-set_aside-clause-spent g c tells = omega (arith, spent_aside c.edits_take_their_load.ensures (2 * catalog_node c.args.volume.now) c.args.volume.now c.set_aside.new.volume (g.P.SectorView.space c.args.space.now) (g.P.SectorView.space c.set_aside.new.space) c.requires.left c.requires.size (c.set_aside.ensures.takes []) tells)
+pub returns-in_err-set_aside-clause-edits : goal.returns-in_err-set_aside-clause-edits
+returns-in_err-set_aside-clause-edits g c =
+    edits_err c.from_residual-in_err-set_aside.ensures.1 (edits_spent c.in_err-set_aside.ensures.edits (λ tells. omega (arith, spent_aside c.edits_take_their_load.ensures (2 * catalog_node c.args.volume.now) c.args.volume.now c.set_aside.new.volume (g.P.SectorView.space c.args.space.now) (g.P.SectorView.space c.set_aside.new.space) c.requires.left c.requires.size (c.set_aside.ensures.takes []) tells)))
 
 pub returns-clause-size : goal.returns-clause-size
 returns-clause-size g c = ok_true c.touch.result (c.touch.ensures.size ∙ c.set_aside.ensures.frame.file.node_size)
 
-pub returns-clause-own : goal.returns-clause-own
-returns-clause-own g c = c.touch.ensures.own ∙ own_edited c.args.volume.now c.set_aside.new.volume (g.P.SectorView.space c.args.space.now) (g.P.SectorView.space c.set_aside.new.space) c.set_aside.ensures.frame c.set_aside.ensures.rest
-
-pub returns-in_err-set_aside-clause-own : goal.returns-in_err-set_aside-clause-own
-returns-in_err-set_aside-clause-own g c = own_edited c.args.volume.now c.set_aside.new.volume (g.P.SectorView.space c.args.space.now) (g.P.SectorView.space c.set_aside.new.space) c.set_aside.ensures.frame c.set_aside.ensures.rest
-
-pub returns-clause-blocks : goal.returns-clause-blocks
-returns-clause-blocks g c = blocks_both c.args.volume.now c.set_aside.new.volume c.touch.new.self (blocks_edit c.args.volume.now c.set_aside.new.volume c.set_aside.ensures.rest) c.touch.ensures.blocks
-
-pub returns-in_err-set_aside-clause-blocks : goal.returns-in_err-set_aside-clause-blocks
-returns-in_err-set_aside-clause-blocks g c = blocks_edit c.args.volume.now c.set_aside.new.volume c.set_aside.ensures.rest
-
 pub touch-requires-clause-room : goal.touch-requires-clause-room
-touch-requires-clause-room g c = first_update 1 c.set_aside.new.volume (g.P.SectorView.space c.set_aside.new.space) (updates_aside 2 c.args.volume.now c.set_aside.new.volume (g.P.SectorView.space c.args.space.now) (g.P.SectorView.space c.set_aside.new.space) c.requires.size c.set_aside.ensures.frame.space.same.tells c.set_aside.ensures.frame.file.node_size (c.in_ok-set_aside.ensures.edits []) c.requires.left)
+touch-requires-clause-room g c = first_update 1 c.set_aside.new.volume (g.P.SectorView.space c.set_aside.new.space) (updates_aside 2 c.args.volume.now c.set_aside.new.volume (g.P.SectorView.space c.args.space.now) (g.P.SectorView.space c.set_aside.new.space) c.requires.size c.set_aside.ensures.frame.space.same.tells c.set_aside.ensures.frame.file.node_size (c.in_ok-set_aside.ensures.takes_edits []) c.requires.left)
 
 pub returns-clause-room : goal.returns-clause-room
 returns-clause-room g c =
     ok_so (HasRoomToUpdates 1 c.touch.new.self (g.P.SectorView.space c.touch.new.space)) (HasRoomToUpdate c.touch.new.self (g.P.SectorView.space c.touch.new.space)) c.touch.result
-    (c.touch.ensures.room 1 (updates_aside 2 c.args.volume.now c.set_aside.new.volume (g.P.SectorView.space c.args.space.now) (g.P.SectorView.space c.set_aside.new.space) c.requires.size c.set_aside.ensures.frame.space.same.tells c.set_aside.ensures.frame.file.node_size (c.in_ok-set_aside.ensures.edits []) c.requires.left))
+    (c.touch.ensures.room 1 (updates_aside 2 c.args.volume.now c.set_aside.new.volume (g.P.SectorView.space c.args.space.now) (g.P.SectorView.space c.set_aside.new.space) c.requires.size c.set_aside.ensures.frame.space.same.tells c.set_aside.ensures.frame.file.node_size (c.in_ok-set_aside.ensures.takes_edits []) c.requires.left))
     (first_update 0 c.touch.new.self (g.P.SectorView.space c.touch.new.space))
 
 pub returns-clause-leaves : goal.returns-clause-leaves
 returns-clause-leaves g c tells beside had =
-    omega (arith, spare_edited 3 0 beside c.args.volume.now c.set_aside.new.volume (g.P.SectorView.space c.args.space.now) (g.P.SectorView.space c.set_aside.new.space) (λ told. c.requires.size) (c.set_aside.ensures.takes []) had tells, c.touch.ensures.spent (c.set_aside.ensures.frame.space.same.tells ∙ tells), ap (λ n. n / 512) c.set_aside.ensures.frame.file.node_size)
+    omega (arith, spare_edited 3 0 beside c.args.volume.now c.set_aside.new.volume (g.P.SectorView.space c.args.space.now) (g.P.SectorView.space c.set_aside.new.space) (λ told. c.requires.size) (c.set_aside.ensures.takes []) had tells, c.touch.ensures.edits.ran.spent (c.set_aside.ensures.frame.space.same.tells ∙ tells), ap (λ n. n / 512) c.set_aside.ensures.frame.file.node_size)
 
 pub returns-in_err-set_aside-clause-leaves : goal.returns-in_err-set_aside-clause-leaves
 returns-in_err-set_aside-clause-leaves g c tells beside had = omega (arith, spare_edited 3 0 beside c.args.volume.now c.set_aside.new.volume (g.P.SectorView.space c.args.space.now) (g.P.SectorView.space c.set_aside.new.space) (λ told. c.requires.size) (c.set_aside.ensures.takes []) had tells)

@@ -40,7 +40,7 @@ returns-in_ok-place-in-Some-clause-does g c tells entry loss =
     × LosesName entry (g.P.SectorView.space c.args.space.now).content (g.P.SectorView.space c.bury.new.space).content)
     c.bury.result
     (c.bury.ensures.does tells c.args.path.now entry (subst (λ (p : EntryAt). IsLoss (tree_of (g.P.SectorView.space c.args.space.now).content) c.args.path.now entry p) (sym c.in_ok-place-in-Some.ensures) loss))
-    (λ lost. (lost.0, lost.1, inl (loses_there entry (g.P.SectorView.space c.args.space.now).content (g.P.SectorView.space c.bury.new.space).content (c.requires.settled tells).sound lost.2)))
+    (λ lost. (lost.0, lost.1, inl (loses_there entry (g.P.SectorView.space c.args.space.now).content (g.P.SectorView.space c.bury.new.space).content (c.requires.serves.settled tells).sound lost.2)))
 
 pub bury_first-requires-clause-some : goal.bury_first-requires-clause-some
 bury_first-requires-clause-some g c = omega (arith, c.requires.some, ap (λ (p : EntryAt). length p.name) c.in_ok-place-in-None.ensures)
@@ -77,7 +77,7 @@ pub lose_link-requires-clause-room : goal.lose_link-requires-clause-room
 lose_link-requires-clause-room g c = c.requires.room.drops
 
 pub bury-requires-clause-left : goal.bury-requires-clause-left
-bury-requires-clause-left g c = left_of_move c.edits_have_room.ensures c.args.volume.now (g.P.SectorView.space c.args.space.now) (λ tells. node_large c.args.volume.now (g.P.SectorView.space c.args.space.now) c.requires.stands tells) (c.fits_move.ensures.room c.if-not-fits_move.false)
+bury-requires-clause-left g c = left_of_move c.edits_have_room.ensures c.args.volume.now (g.P.SectorView.space c.args.space.now) (λ tells. node_large c.args.volume.now (g.P.SectorView.space c.args.space.now) c.requires.serves.stands tells) (c.fits_move.ensures.room c.if-not-fits_move.false)
 
 pub returns-then-at-clause-does : goal.returns-then-at-clause-does
 returns-then-at-clause-does g c tells entry loss =
@@ -91,7 +91,7 @@ returns-then-at-clause-does g c tells entry loss =
 pub returns-in_ok-place-in-Some-clause-spends : goal.returns-in_ok-place-in-Some-clause-spends
 returns-in_ok-place-in-Some-clause-spends g c tells entry loss =
     inr (subst (λ (link : Bool). SpendsLoss link entry.id c.args.volume.now (g.P.SectorView.space c.args.space.now) (g.P.SectorView.space c.bury.new.space)) (sym c.if-at.false)
-    (inl (ap (λ (o : Option ℕ). is_some o) c.in-Some.is, record { grown = ((c.fits_move.ensures.room c.if-not-fits_move.false).told tells).2; spent = omega (arith, c.bury.ensures.spent tells) })))
+    (inl (ap (λ (o : Option ℕ). is_some o) c.in-Some.is, record { grown = ((c.fits_move.ensures.room c.if-not-fits_move.false).told tells).2; spent = omega (arith, c.bury.ensures.edits.ran.spent tells) })))
 
 pub returns-in_ok-place-in-None-clause-spends : goal.returns-in_ok-place-in-None-clause-spends
 returns-in_ok-place-in-None-clause-spends g c tells entry loss =

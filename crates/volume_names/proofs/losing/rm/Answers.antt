@@ -6,11 +6,10 @@ use Rattle.hfs_language.specs.declared.reply.Reply.{Reply}
 use Rattle.hfs_language.specs.declared.reply.Reply.TheVariants as reply
 use Rattle.hfs_model.specs.Step.{is_private_path, step_line}
 use Rattle.hfs_volume.specs.TreeOf.{tree_of}
-use Rattle.volume_base.proofs.Commanding.{touches_none}
 use Rattle.volume_base.proofs.Lost.{private_line, root_line}
 use Rattle.volume_names.specs.Losing.{HasLost}
-use Rattle.volume_base.proofs.Besides.{blocks_none}
 use Rattle.volume_names.specs.LinkLoads.{PutsItsLoad}
+use Rattle.volume_base.proofs.Framed.{edits_none}
 use Rattle.volume_names.proofs.losing.rm.Goals as goal
 
 pub rm_under-requires-clause-fits : goal.rm_under-requires-clause-fits
@@ -36,11 +35,8 @@ returns-in-None-clause-tree g c tells = (root_line (tree_of (g.P.SectorView.spac
 pub returns-in-None-clause-refused : goal.returns-in-None-clause-refused
 returns-in-None-clause-refused g c tells is = refl
 
-pub returns-in-None-clause-touches : goal.returns-in-None-clause-touches
-returns-in-None-clause-touches g c committed = touches_none committed _ (g.P.SectorView.space c.args.space.now)
-
-pub returns-in-None-clause-service : goal.returns-in-None-clause-service
-returns-in-None-clause-service g c = c.requires.stands.service
+pub returns-in-None-clause-edits : goal.returns-in-None-clause-edits
+returns-in-None-clause-edits g c = edits_none _ g.met.P.SectorView.follows_refl c.requires.serves.stands
 
 pub returns-then-is_private_path-clause-reply : goal.returns-then-is_private_path-clause-reply
 returns-then-is_private_path-clause-reply g c tells = (private_line (tree_of (g.P.SectorView.space c.args.space.now).content) c.args.path.now (sym c.is_private_path.ensures ∙ c.if-is_private_path.true)).0
@@ -51,11 +47,8 @@ returns-then-is_private_path-clause-tree g c tells = (private_line (tree_of (g.P
 pub returns-then-is_private_path-clause-refused : goal.returns-then-is_private_path-clause-refused
 returns-then-is_private_path-clause-refused g c tells is = refl
 
-pub returns-then-is_private_path-clause-touches : goal.returns-then-is_private_path-clause-touches
-returns-then-is_private_path-clause-touches g c committed = touches_none committed _ (g.P.SectorView.space c.args.space.now)
-
-pub returns-then-is_private_path-clause-service : goal.returns-then-is_private_path-clause-service
-returns-then-is_private_path-clause-service g c = c.requires.stands.service
+pub returns-then-is_private_path-clause-edits : goal.returns-then-is_private_path-clause-edits
+returns-then-is_private_path-clause-edits g c = edits_none _ g.met.P.SectorView.follows_refl c.requires.serves.stands
 
 pub returns-in-Some-clause-lists : goal.returns-in-Some-clause-lists
 returns-in-Some-clause-lists g c tells =
@@ -67,12 +60,6 @@ returns-in-None-clause-lists g c tells is = absurd (cc is)
 
 pub returns-then-is_private_path-clause-lists : goal.returns-then-is_private_path-clause-lists
 returns-then-is_private_path-clause-lists g c tells is = absurd (cc is)
-
-pub returns-in-None-clause-blocks : goal.returns-in-None-clause-blocks
-returns-in-None-clause-blocks g c = blocks_none c.args.volume.now
-
-pub returns-then-is_private_path-clause-blocks : goal.returns-then-is_private_path-clause-blocks
-returns-then-is_private_path-clause-blocks g c = blocks_none c.args.volume.now
 
 pub rm_under-requires-clause-split : goal.rm_under-requires-clause-split
 rm_under-requires-clause-split g c = sym c.as_slice.ensures ∙ c.in-Some.ensures.cases.0

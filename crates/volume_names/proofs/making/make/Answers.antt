@@ -7,9 +7,8 @@ use Rattle.hfs_volume.specs.TreeOf.{tree_of}
 use Rattle.volume_runs.specs.Told.{of_made}
 use Rattle.volume_base.specs.Lists.{lists_of}
 use Rattle.volume_base.specs.Making.{making}
-use Rattle.volume_base.proofs.Besides.{blocks_none}
-use Rattle.volume_base.proofs.Commanding.{touches_none}
 use Rattle.volume_names.specs.Making.{HasNew, Makes}
+use Rattle.volume_base.proofs.Framed.{edits_none}
 use Rattle.volume_names.proofs.making.make.Goals as goal
 
 pub make_under-requires-clause-fits : goal.make_under-requires-clause-fits
@@ -35,11 +34,5 @@ returns-in-Some-clause-entry g c tells =
     subst (λ (p : List (List ℕ)). OnOk c.make_under.result (HasNew c.args.folder p c.args.volume.now.header (lists_of c.make_under.new.volume (g.P.SectorView.space c.make_under.new.space).content).catalog_pairs))
     (sym c.in-Some.ensures.cases.0 ∙ c.as_slice.ensures) (c.make_under.ensures.entry tells)
 
-pub returns-in-None-clause-touches : goal.returns-in-None-clause-touches
-returns-in-None-clause-touches g c committed = touches_none committed _ (g.P.SectorView.space c.args.space.now)
-
-pub returns-in-None-clause-service : goal.returns-in-None-clause-service
-returns-in-None-clause-service g c = c.requires.stands.service
-
-pub returns-in-None-clause-blocks : goal.returns-in-None-clause-blocks
-returns-in-None-clause-blocks g c = blocks_none c.args.volume.now
+pub returns-in-None-clause-edits : goal.returns-in-None-clause-edits
+returns-in-None-clause-edits g c = edits_none _ g.met.P.SectorView.follows_refl c.requires.serves.stands

@@ -1,6 +1,5 @@
-use Rattle.std.proofs.Common.{◌≡◌, ℕ, List, [], ◌∷◌, sym, ◌∙◌, ap, subst, arith}
+use Rattle.std.proofs.Common.{◌≡◌, [], ◌∷◌, sym, ◌∙◌, ap, subst, arith}
 use Rattle.std.specs.Prelude.{Some}
-use Rattle.std.specs.List.{Contains}
 use Rattle.sector_disk.specs.Lists.{Content}
 use Rattle.catalog.specs.Pairs.{value_at}
 use Rattle.volume_header.specs.declared.header.VolumeHeader.{VolumeHeader}
@@ -13,22 +12,17 @@ use Rattle.hfs_volume.specs.TreeOf.{tree_of}
 use Rattle.volume_runs.specs.Told.{of_made}
 use Rattle.volume_base.specs.Lists.{lists_of}
 use Rattle.volume_base.specs.Making.{IsSite, free_place, new_value}
-use Rattle.volume_base.specs.Touching.{Touches}
 use Rattle.volume_base.specs.Watching.{change_of}
-use Rattle.volume_base.proofs.Besides.{blocks_both, blocks_read}
-use Rattle.volume_base.proofs.Commanding.{touches_both, touches_looks}
 use Rattle.volume_base.proofs.MakeRoom.{load_still, make_room_still}
 use Rattle.volume_base.proofs.Noticed.{next_is}
 use Rattle.volume_base.proofs.Sited.{fits_above, fits_name, some_name}
-use Rattle.volume_base.proofs.Still.{own_still}
 use Rattle.volume_names.proofs.Fine.{fine_site, fine_told, fine_tree}
+use Rattle.volume_base.proofs.Framed.{edits_err, edits_ok, edits_spent}
+use Rattle.volume_base.proofs.Joined.{edits_both, edits_serves}
 use Rattle.volume_names.proofs.making.make_under.Goals as goal
 
 pub folder-requires-clause-fits : goal.folder-requires-clause-fits
 folder-requires-clause-fits g c = fits_above c.args.above.now c.args.name.now c.requires.fits
-
-pub make_in-requires-clause-settled : goal.make_in-requires-clause-settled
-make_in-requires-clause-settled g c tells = c.folder.ensures.settled (sym c.folder.ensures.reads.looks.same.tells ∙ tells)
 
 pub make_in-requires-clause-some : goal.make_in-requires-clause-some
 make_in-requires-clause-some g c = (fits_name c.args.above.now c.args.name.now c.requires.fits).some
@@ -38,107 +32,54 @@ make_in-requires-clause-name g c = (fits_name c.args.above.now c.args.name.now c
 
 pub make_in-requires-clause-site : goal.make_in-requires-clause-site
 make_in-requires-clause-site g c tells =
-    let before = sym c.folder.ensures.reads.looks.same.tells ∙ tells in
-    subst (λ (k : Content). IsSite (tree_of k) c.in-Ok.id c.args.name.now) (sym (c.folder.ensures.reads.looks.content before))
-    (fine_site c.sound_has_plain_tree.ensures c.args.volume.now (g.P.SectorView.space c.args.space.now).content (c.requires.stands.stands before).trees (c.requires.settled before) c.args.above.now c.args.name.now c.requires.fits c.args.folder (c.requires.fine before) c.in-Ok.id (sym (c.in_ok-id.ensures.found before) ∙ c.in-Ok.is))
+    let before = sym c.folder.ensures.looked.reads.looks.same.tells ∙ tells in
+    subst (λ (k : Content). IsSite (tree_of k) c.in-Ok.id c.args.name.now) (sym (c.folder.ensures.looked.reads.looks.content before))
+    (fine_site c.sound_has_plain_tree.ensures c.args.volume.now (g.P.SectorView.space c.args.space.now).content (c.requires.serves.stands.stands before).trees (c.requires.serves.settled before) c.args.above.now c.args.name.now c.requires.fits c.args.folder (c.requires.fine before) c.in-Ok.id (sym (c.in_ok-id.ensures.found before) ∙ c.in-Ok.is))
 
 pub make_in-requires-clause-room : goal.make_in-requires-clause-room
-make_in-requires-clause-room g c = make_room_still c.args.volume.now c.folder.new.self (g.P.SectorView.space c.args.space.now) (g.P.SectorView.space c.folder.new.space) c.folder.ensures.reads c.requires.room
+make_in-requires-clause-room g c = make_room_still c.args.volume.now c.folder.new.self (g.P.SectorView.space c.args.space.now) (g.P.SectorView.space c.folder.new.space) c.folder.ensures.looked.reads c.requires.room
 
 pub returns-in_ok-one_change-in-Ok-clause-told : goal.returns-in_ok-one_change-in-Ok-clause-told
 returns-in_ok-one_change-in-Ok-clause-told g c tells =
-    let next : c.args.volume.now.header.next_catalog_id ≡ (tree_of (g.P.SectorView.space c.args.space.now).content).next_id = sym (next_is c.args.volume.now (g.P.SectorView.space c.args.space.now).content (c.requires.settled tells)) in
+    let next : c.args.volume.now.header.next_catalog_id ≡ (tree_of (g.P.SectorView.space c.args.space.now).content).next_id = sym (next_is c.args.volume.now (g.P.SectorView.space c.args.space.now).content (c.requires.serves.settled tells)) in
     c.in_ok-one_change-in-Ok.ensures ∙ ap (λ n. change_of c.args.line change.Made n c.in-Ok.id c.args.name.now ∷ []) next
-    ∙ ap (of_made c.args.line (tree_of (g.P.SectorView.space c.args.space.now).content)) (sym (fine_told c.sound_has_plain_tree.ensures c.args.volume.now (g.P.SectorView.space c.args.space.now).content (c.requires.stands.stands tells).trees (c.requires.settled tells) c.args.above.now c.args.name.now c.requires.fits c.args.folder (c.requires.fine tells) c.in-Ok.id (sym (c.in_ok-id.ensures.found tells) ∙ c.in-Ok.is)))
+    ∙ ap (of_made c.args.line (tree_of (g.P.SectorView.space c.args.space.now).content)) (sym (fine_told c.sound_has_plain_tree.ensures c.args.volume.now (g.P.SectorView.space c.args.space.now).content (c.requires.serves.stands.stands tells).trees (c.requires.serves.settled tells) c.args.above.now c.args.name.now c.requires.fits c.args.folder (c.requires.fine tells) c.in-Ok.id (sym (c.in_ok-id.ensures.found tells) ∙ c.in-Ok.is)))
 
 pub returns-in_ok-one_change-in-Ok-clause-tree : goal.returns-in_ok-one_change-in-Ok-clause-tree
 returns-in_ok-one_change-in-Ok-clause-tree g c tells =
-    (c.in_ok-make_in-in-Ok.ensures.does (c.folder.ensures.reads.looks.same.tells ∙ tells)).1
-    ∙ ap (λ (k : Content). made c.args.folder (free_place c.in-Ok.id c.args.name.now) (tree_of k)) (c.folder.ensures.reads.looks.content tells)
-    ∙ fine_tree c.sound_has_plain_tree.ensures c.args.volume.now (g.P.SectorView.space c.args.space.now).content (c.requires.stands.stands tells).trees (c.requires.settled tells) c.args.above.now c.args.name.now c.requires.fits c.args.folder (c.requires.fine tells) c.in-Ok.id (sym (c.in_ok-id.ensures.found tells) ∙ c.in-Ok.is)
+    (c.in_ok-make_in-in-Ok.ensures.does (c.folder.ensures.looked.reads.looks.same.tells ∙ tells)).1
+    ∙ ap (λ (k : Content). made c.args.folder (free_place c.in-Ok.id c.args.name.now) (tree_of k)) (c.folder.ensures.looked.reads.looks.content tells)
+    ∙ fine_tree c.sound_has_plain_tree.ensures c.args.volume.now (g.P.SectorView.space c.args.space.now).content (c.requires.serves.stands.stands tells).trees (c.requires.serves.settled tells) c.args.above.now c.args.name.now c.requires.fits c.args.folder (c.requires.fine tells) c.in-Ok.id (sym (c.in_ok-id.ensures.found tells) ∙ c.in-Ok.is)
 
-pub returns-in_ok-one_change-in-Ok-clause-settled : goal.returns-in_ok-one_change-in-Ok-clause-settled
-returns-in_ok-one_change-in-Ok-clause-settled g c tells = (c.in_ok-make_in-in-Ok.ensures.does (c.folder.ensures.reads.looks.same.tells ∙ tells)).0
+pub returns-in_ok-one_change-in-Ok-clause-edits : goal.returns-in_ok-one_change-in-Ok-clause-edits
+returns-in_ok-one_change-in-Ok-clause-edits g c =
+    edits_ok (edits_spent (edits_both g.met.P.SectorView.follows_trans c.folder.ensures.looked.edits c.in_ok-one_change-in-Ok.ensures.edits) (λ tells. omega (arith, c.folder.ensures.looked.reads.looks.spare, c.make_in.ensures.edits.ran.spent (c.folder.ensures.looked.reads.looks.same.tells ∙ tells), load_still c.args.volume.now c.folder.new.self (g.P.SectorView.space c.args.space.now) (g.P.SectorView.space c.folder.new.space) c.folder.ensures.looked.reads tells)))
+
+pub returns-in_ok-one_change-in-Ok-clause-serves : goal.returns-in_ok-one_change-in-Ok-clause-serves
+returns-in_ok-one_change-in-Ok-clause-serves g c =
+    edits_serves (returns-in_ok-one_change-in-Ok-clause-edits g c) (λ tells. (c.in_ok-make_in-in-Ok.ensures.does (c.folder.ensures.looked.reads.looks.same.tells ∙ tells)).0)
 
 pub returns-in_ok-one_change-in-Ok-clause-lists : goal.returns-in_ok-one_change-in-Ok-clause-lists
 returns-in_ok-one_change-in-Ok-clause-lists g c tells = record {
   place = free_place c.in-Ok.id c.args.name.now;
-  allowed = fine_told c.sound_has_plain_tree.ensures c.args.volume.now (g.P.SectorView.space c.args.space.now).content (c.requires.stands.stands tells).trees (c.requires.settled tells) c.args.above.now c.args.name.now c.requires.fits c.args.folder (c.requires.fine tells) c.in-Ok.id (sym (c.in_ok-id.ensures.found tells) ∙ c.in-Ok.is);
+  allowed = fine_told c.sound_has_plain_tree.ensures c.args.volume.now (g.P.SectorView.space c.args.space.now).content (c.requires.serves.stands.stands tells).trees (c.requires.serves.settled tells) c.args.above.now c.args.name.now c.requires.fits c.args.folder (c.requires.fine tells) c.in-Ok.id (sym (c.in_ok-id.ensures.found tells) ∙ c.in-Ok.is);
   named = some_name c.args.name.now (fits_name c.args.above.now c.args.name.now c.requires.fits).some;
-  makes = subst (λ (k : Content). MakesEntry c.args.folder (free_place c.in-Ok.id c.args.name.now) (volume_of k) (volume_of (g.P.SectorView.space c.make_in.new.space).content)) (c.folder.ensures.reads.looks.content tells)
-      (c.in_ok-make_in-in-Ok.ensures.does (c.folder.ensures.reads.looks.same.tells ∙ tells)).3;
+  makes = subst (λ (k : Content). MakesEntry c.args.folder (free_place c.in-Ok.id c.args.name.now) (volume_of k) (volume_of (g.P.SectorView.space c.make_in.new.space).content)) (c.folder.ensures.looked.reads.looks.content tells)
+      (c.in_ok-make_in-in-Ok.ensures.does (c.folder.ensures.looked.reads.looks.same.tells ∙ tells)).3;
 }
 
-pub returns-in_ok-one_change-in-Ok-clause-touches : goal.returns-in_ok-one_change-in-Ok-clause-touches
-returns-in_ok-one_change-in-Ok-clause-touches g c committed =
-    touches_both committed _ (g.P.SectorView.space c.args.space.now) (g.P.SectorView.space c.folder.new.space) (g.P.SectorView.space c.make_in.new.space) (touches_looks committed _ (g.P.SectorView.space c.args.space.now) (g.P.SectorView.space c.folder.new.space) c.folder.ensures.reads.looks)
-    (subst (λ (l : List ℕ). Touches committed (λ s. Contains l s) (g.P.SectorView.space c.folder.new.space) (g.P.SectorView.space c.make_in.new.space)) (own_still c.args.volume.now c.folder.new.self (g.P.SectorView.space c.args.space.now) (g.P.SectorView.space c.folder.new.space) c.folder.ensures.reads) (c.make_in.ensures.touches committed))
+pub returns-in_err-one_change-in-Ok-clause-edits : goal.returns-in_err-one_change-in-Ok-clause-edits
+returns-in_err-one_change-in-Ok-clause-edits g c =
+    edits_err c.from_residual-in_err-one_change-in-Ok.ensures.1 (edits_spent (edits_both g.met.P.SectorView.follows_trans c.folder.ensures.looked.edits c.in_err-one_change-in-Ok.ensures.edits) (λ tells. omega (arith, c.folder.ensures.looked.reads.looks.spare, c.make_in.ensures.edits.ran.spent (c.folder.ensures.looked.reads.looks.same.tells ∙ tells), load_still c.args.volume.now c.folder.new.self (g.P.SectorView.space c.args.space.now) (g.P.SectorView.space c.folder.new.space) c.folder.ensures.looked.reads tells)))
 
-pub returns-in_ok-one_change-in-Ok-clause-below : goal.returns-in_ok-one_change-in-Ok-clause-below
-returns-in_ok-one_change-in-Ok-clause-below g c = g.met.P.SectorView.follows_trans c.args.space.now c.folder.new.space c.make_in.new.space c.folder.ensures.below c.make_in.ensures.below
-
-pub returns-in_ok-one_change-in-Ok-clause-spent : goal.returns-in_ok-one_change-in-Ok-clause-spent
-returns-in_ok-one_change-in-Ok-clause-spent g c tells = omega (arith, c.folder.ensures.reads.looks.spare, c.make_in.ensures.spent (c.folder.ensures.reads.looks.same.tells ∙ tells), load_still c.args.volume.now c.folder.new.self (g.P.SectorView.space c.args.space.now) (g.P.SectorView.space c.folder.new.space) c.folder.ensures.reads tells)
-
-pub returns-in_ok-one_change-in-Ok-clause-blocks : goal.returns-in_ok-one_change-in-Ok-clause-blocks
-returns-in_ok-one_change-in-Ok-clause-blocks g c = blocks_both c.args.volume.now c.folder.new.self c.make_in.new.volume (blocks_read c.args.volume.now c.folder.new.self (g.P.SectorView.space c.args.space.now) (g.P.SectorView.space c.folder.new.space) c.folder.ensures.reads) c.make_in.ensures.blocks
-
-pub returns-in_err-one_change-in-Ok-clause-touches : goal.returns-in_err-one_change-in-Ok-clause-touches
-returns-in_err-one_change-in-Ok-clause-touches g c committed =
-    touches_both committed _ (g.P.SectorView.space c.args.space.now) (g.P.SectorView.space c.folder.new.space) (g.P.SectorView.space c.make_in.new.space) (touches_looks committed _ (g.P.SectorView.space c.args.space.now) (g.P.SectorView.space c.folder.new.space) c.folder.ensures.reads.looks)
-    (subst (λ (l : List ℕ). Touches committed (λ s. Contains l s) (g.P.SectorView.space c.folder.new.space) (g.P.SectorView.space c.make_in.new.space)) (own_still c.args.volume.now c.folder.new.self (g.P.SectorView.space c.args.space.now) (g.P.SectorView.space c.folder.new.space) c.folder.ensures.reads) (c.make_in.ensures.touches committed))
-
-pub returns-in_err-one_change-in-Ok-clause-below : goal.returns-in_err-one_change-in-Ok-clause-below
-returns-in_err-one_change-in-Ok-clause-below g c = g.met.P.SectorView.follows_trans c.args.space.now c.folder.new.space c.make_in.new.space c.folder.ensures.below c.make_in.ensures.below
-
-pub returns-in_err-one_change-in-Ok-clause-spent : goal.returns-in_err-one_change-in-Ok-clause-spent
-returns-in_err-one_change-in-Ok-clause-spent g c tells = omega (arith, c.folder.ensures.reads.looks.spare, c.make_in.ensures.spent (c.folder.ensures.reads.looks.same.tells ∙ tells), load_still c.args.volume.now c.folder.new.self (g.P.SectorView.space c.args.space.now) (g.P.SectorView.space c.folder.new.space) c.folder.ensures.reads tells)
-
-pub returns-in_err-one_change-in-Ok-clause-blocks : goal.returns-in_err-one_change-in-Ok-clause-blocks
-returns-in_err-one_change-in-Ok-clause-blocks g c = blocks_both c.args.volume.now c.folder.new.self c.make_in.new.volume (blocks_read c.args.volume.now c.folder.new.self (g.P.SectorView.space c.args.space.now) (g.P.SectorView.space c.folder.new.space) c.folder.ensures.reads) c.make_in.ensures.blocks
-
-pub returns-in_err-make_in-in-Ok-clause-touches : goal.returns-in_err-make_in-in-Ok-clause-touches
-returns-in_err-make_in-in-Ok-clause-touches g c committed =
-    touches_both committed _ (g.P.SectorView.space c.args.space.now) (g.P.SectorView.space c.folder.new.space) (g.P.SectorView.space c.make_in.new.space) (touches_looks committed _ (g.P.SectorView.space c.args.space.now) (g.P.SectorView.space c.folder.new.space) c.folder.ensures.reads.looks)
-    (subst (λ (l : List ℕ). Touches committed (λ s. Contains l s) (g.P.SectorView.space c.folder.new.space) (g.P.SectorView.space c.make_in.new.space)) (own_still c.args.volume.now c.folder.new.self (g.P.SectorView.space c.args.space.now) (g.P.SectorView.space c.folder.new.space) c.folder.ensures.reads) (c.make_in.ensures.touches committed))
-
-pub returns-in_err-make_in-in-Ok-clause-below : goal.returns-in_err-make_in-in-Ok-clause-below
-returns-in_err-make_in-in-Ok-clause-below g c = g.met.P.SectorView.follows_trans c.args.space.now c.folder.new.space c.make_in.new.space c.folder.ensures.below c.make_in.ensures.below
-
-pub returns-in_err-make_in-in-Ok-clause-spent : goal.returns-in_err-make_in-in-Ok-clause-spent
-returns-in_err-make_in-in-Ok-clause-spent g c tells = omega (arith, c.folder.ensures.reads.looks.spare, c.make_in.ensures.spent (c.folder.ensures.reads.looks.same.tells ∙ tells), load_still c.args.volume.now c.folder.new.self (g.P.SectorView.space c.args.space.now) (g.P.SectorView.space c.folder.new.space) c.folder.ensures.reads tells)
-
-pub returns-in_err-make_in-in-Ok-clause-blocks : goal.returns-in_err-make_in-in-Ok-clause-blocks
-returns-in_err-make_in-in-Ok-clause-blocks g c = blocks_both c.args.volume.now c.folder.new.self c.make_in.new.volume (blocks_read c.args.volume.now c.folder.new.self (g.P.SectorView.space c.args.space.now) (g.P.SectorView.space c.folder.new.space) c.folder.ensures.reads) c.make_in.ensures.blocks
-
-pub returns-in-Err-clause-touches : goal.returns-in-Err-clause-touches
-returns-in-Err-clause-touches g c committed = touches_looks committed _ (g.P.SectorView.space c.args.space.now) (g.P.SectorView.space c.folder.new.space) c.folder.ensures.reads.looks
-
-pub returns-in-Err-clause-spent : goal.returns-in-Err-clause-spent
-returns-in-Err-clause-spent g c tells = omega (arith, c.folder.ensures.reads.looks.spare)
-
-pub returns-in-Err-clause-service : goal.returns-in-Err-clause-service
-returns-in-Err-clause-service g c = c.folder.ensures.stands.service
-
-pub returns-in-Err-clause-blocks : goal.returns-in-Err-clause-blocks
-returns-in-Err-clause-blocks g c = blocks_read c.args.volume.now c.folder.new.self (g.P.SectorView.space c.args.space.now) (g.P.SectorView.space c.folder.new.space) c.folder.ensures.reads
-
-pub returns-in_err-id-clause-touches : goal.returns-in_err-id-clause-touches
-returns-in_err-id-clause-touches g c committed = touches_looks committed _ (g.P.SectorView.space c.args.space.now) (g.P.SectorView.space c.folder.new.space) c.folder.ensures.reads.looks
-
-pub returns-in_err-id-clause-spent : goal.returns-in_err-id-clause-spent
-returns-in_err-id-clause-spent g c tells = omega (arith, c.folder.ensures.reads.looks.spare)
-
-pub returns-in_err-id-clause-service : goal.returns-in_err-id-clause-service
-returns-in_err-id-clause-service g c = c.folder.ensures.stands.service
-
-pub returns-in_err-id-clause-blocks : goal.returns-in_err-id-clause-blocks
-returns-in_err-id-clause-blocks g c = blocks_read c.args.volume.now c.folder.new.self (g.P.SectorView.space c.args.space.now) (g.P.SectorView.space c.folder.new.space) c.folder.ensures.reads
+pub returns-in_err-make_in-in-Ok-clause-edits : goal.returns-in_err-make_in-in-Ok-clause-edits
+returns-in_err-make_in-in-Ok-clause-edits g c =
+    edits_err c.from_residual-in_err-make_in-in-Ok.ensures.1 (edits_spent (edits_both g.met.P.SectorView.follows_trans c.folder.ensures.looked.edits c.in_err-make_in-in-Ok.ensures.edits) (λ tells. omega (arith, c.folder.ensures.looked.reads.looks.spare, c.make_in.ensures.edits.ran.spent (c.folder.ensures.looked.reads.looks.same.tells ∙ tells), load_still c.args.volume.now c.folder.new.self (g.P.SectorView.space c.args.space.now) (g.P.SectorView.space c.folder.new.space) c.folder.ensures.looked.reads tells)))
 
 pub returns-in_ok-one_change-in-Ok-clause-entry : goal.returns-in_ok-one_change-in-Ok-clause-entry
 returns-in_ok-one_change-in-Ok-clause-entry g c tells = record {
   parent = c.in-Ok.id;
   stands = (λ i. value_at (lists_of c.make_in.new.volume (g.P.SectorView.space c.make_in.new.space).content).catalog_pairs c.in-Ok.id (last_name-last c.args.above.now c.args.name.now i))
-      ∙ (c.in_ok-make_in-in-Ok.ensures.does (c.folder.ensures.reads.looks.same.tells ∙ tells)).2
-      ∙ ap (λ (h : VolumeHeader). Some (new_value c.args.folder h.next_catalog_id h.modify_date)) c.folder.ensures.reads.keeps.header;
+      ∙ (c.in_ok-make_in-in-Ok.ensures.does (c.folder.ensures.looked.reads.looks.same.tells ∙ tells)).2
+      ∙ ap (λ (h : VolumeHeader). Some (new_value c.args.folder h.next_catalog_id h.modify_date)) c.folder.ensures.looked.reads.keeps.header;
 }

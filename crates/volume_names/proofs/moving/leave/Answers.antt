@@ -1,79 +1,50 @@
-use Rattle.std.proofs.Common.{[], ℕ, List, sym, ◌∙◌, subst, arith}
-use Rattle.std.specs.List.{Contains}
+use Rattle.std.proofs.Common.{[], sym, ◌∙◌, arith}
 use Rattle.volume_base.specs.Changing.{TouchesFolder}
 use Rattle.volume_names.specs.Moving.{Leaves}
-use Rattle.volume_base.specs.Touching.{Touches}
-use Rattle.volume_base.proofs.Added.{own_edited}
-use Rattle.volume_base.proofs.Commanding.{touches_both}
 use Rattle.volume_base.proofs.FoundEntry.{ok_so, ok_true, settled_threads}
 use Rattle.volume_names.proofs.MoveRoom.{node_moved, room_to_move, spent_move}
 use Rattle.volume_names.proofs.Moved.{from_after, goal_free, replaced_move, source_stands, threads_moved}
-use Rattle.volume_base.proofs.Besides.{blocks_both, blocks_edit}
+use Rattle.volume_base.proofs.Framed.{edits_err, edits_ok, edits_spent}
+use Rattle.volume_base.proofs.Joined.{edits_both}
 use Rattle.volume_names.proofs.moving.leave.Goals as goal
 
 pub relocate-requires-clause-threads : goal.relocate-requires-clause-threads
-relocate-requires-clause-threads g c tells = settled_threads c.args.volume.now (g.P.SectorView.space c.args.space.now).content (c.requires.settled tells)
+relocate-requires-clause-threads g c tells = settled_threads c.args.volume.now (g.P.SectorView.space c.args.space.now).content (c.requires.serves.settled tells)
 
 pub relocate-requires-clause-room : goal.relocate-requires-clause-room
 relocate-requires-clause-room g c names = room_to_move c.edits_have_room.ensures c.args.volume.now (g.P.SectorView.space c.args.space.now) c.requires.room c.requires.size names
 
 pub touch-requires-clause-threads : goal.touch-requires-clause-threads
 touch-requires-clause-threads g c tells =
-    threads_moved c.args.volume.now (g.P.SectorView.space c.args.space.now) (c.requires.settled (sym c.relocate.ensures.frame.space.same.tells ∙ tells)) (c.requires.stands.stands (sym c.relocate.ensures.frame.space.same.tells ∙ tells)) (c.requires.moves (sym c.relocate.ensures.frame.space.same.tells ∙ tells)).0 (c.requires.moves (sym c.relocate.ensures.frame.space.same.tells ∙ tells)).1 (c.requires.moves (sym c.relocate.ensures.frame.space.same.tells ∙ tells)).2 c.args.way.now.parent c.args.old.now c.args.way.now.id c.args.way.now.folder c.args.name.now (c.requires.moves (sym c.relocate.ensures.frame.space.same.tells ∙ tells)).3 c.requires.stands.service.fits.next_catalog_id c.relocate.new.volume (g.P.SectorView.space c.relocate.new.space).content
-    (replaced_move c.args.volume.now c.relocate.new.volume (g.P.SectorView.space c.args.space.now) (g.P.SectorView.space c.relocate.new.space) c.args.way.now.parent c.args.old.now c.args.way.now.folder c.args.name.now (c.requires.stands.stands (sym c.relocate.ensures.frame.space.same.tells ∙ tells)) (sym c.relocate.ensures.frame.space.same.tells ∙ tells) c.relocate.ensures.frame c.relocate.ensures.rest (c.in_ok-relocate.ensures.stands.stands (c.relocate.ensures.frame.space.same.tells ∙ (sym c.relocate.ensures.frame.space.same.tells ∙ tells))) (source_stands c.args.volume.now (g.P.SectorView.space c.args.space.now) (c.requires.settled (sym c.relocate.ensures.frame.space.same.tells ∙ tells)) (c.requires.stands.stands (sym c.relocate.ensures.frame.space.same.tells ∙ tells)) (c.requires.moves (sym c.relocate.ensures.frame.space.same.tells ∙ tells)).0 (c.requires.moves (sym c.relocate.ensures.frame.space.same.tells ∙ tells)).1 (c.requires.moves (sym c.relocate.ensures.frame.space.same.tells ∙ tells)).2 c.args.way.now.parent c.args.old.now c.args.way.now.id c.args.way.now.folder c.args.name.now (c.requires.moves (sym c.relocate.ensures.frame.space.same.tells ∙ tells)).3 c.requires.stands.service.fits.next_catalog_id) (goal_free c.args.volume.now (g.P.SectorView.space c.args.space.now) (c.requires.settled (sym c.relocate.ensures.frame.space.same.tells ∙ tells)) (c.requires.stands.stands (sym c.relocate.ensures.frame.space.same.tells ∙ tells)) (c.requires.moves (sym c.relocate.ensures.frame.space.same.tells ∙ tells)).0 (c.requires.moves (sym c.relocate.ensures.frame.space.same.tells ∙ tells)).1 (c.requires.moves (sym c.relocate.ensures.frame.space.same.tells ∙ tells)).2 c.args.way.now.parent c.args.old.now c.args.way.now.id c.args.way.now.folder c.args.name.now (c.requires.moves (sym c.relocate.ensures.frame.space.same.tells ∙ tells)).3 c.requires.stands.service.fits.next_catalog_id) c.in_ok-relocate.field-0 (c.in_ok-relocate.ensures.answer (sym c.relocate.ensures.frame.space.same.tells ∙ tells)) (c.in_ok-relocate.ensures.moved (sym c.relocate.ensures.frame.space.same.tells ∙ tells))) (c.in_ok-relocate.ensures.stands.stands (c.relocate.ensures.frame.space.same.tells ∙ (sym c.relocate.ensures.frame.space.same.tells ∙ tells))).trees
+    threads_moved c.args.volume.now (g.P.SectorView.space c.args.space.now) (c.requires.serves.settled (sym c.relocate.ensures.frame.space.same.tells ∙ tells)) (c.requires.serves.stands.stands (sym c.relocate.ensures.frame.space.same.tells ∙ tells)) (c.requires.moves (sym c.relocate.ensures.frame.space.same.tells ∙ tells)).0 (c.requires.moves (sym c.relocate.ensures.frame.space.same.tells ∙ tells)).1 (c.requires.moves (sym c.relocate.ensures.frame.space.same.tells ∙ tells)).2 c.args.way.now.parent c.args.old.now c.args.way.now.id c.args.way.now.folder c.args.name.now (c.requires.moves (sym c.relocate.ensures.frame.space.same.tells ∙ tells)).3 c.requires.serves.stands.service.fits.next_catalog_id c.relocate.new.volume (g.P.SectorView.space c.relocate.new.space).content
+    (replaced_move c.args.volume.now c.relocate.new.volume (g.P.SectorView.space c.args.space.now) (g.P.SectorView.space c.relocate.new.space) c.args.way.now.parent c.args.old.now c.args.way.now.folder c.args.name.now (c.requires.serves.stands.stands (sym c.relocate.ensures.frame.space.same.tells ∙ tells)) (sym c.relocate.ensures.frame.space.same.tells ∙ tells) c.relocate.ensures.frame c.relocate.ensures.rest (c.in_ok-relocate.ensures.edits.ran.stands.stands (c.relocate.ensures.frame.space.same.tells ∙ (sym c.relocate.ensures.frame.space.same.tells ∙ tells))) (source_stands c.args.volume.now (g.P.SectorView.space c.args.space.now) (c.requires.serves.settled (sym c.relocate.ensures.frame.space.same.tells ∙ tells)) (c.requires.serves.stands.stands (sym c.relocate.ensures.frame.space.same.tells ∙ tells)) (c.requires.moves (sym c.relocate.ensures.frame.space.same.tells ∙ tells)).0 (c.requires.moves (sym c.relocate.ensures.frame.space.same.tells ∙ tells)).1 (c.requires.moves (sym c.relocate.ensures.frame.space.same.tells ∙ tells)).2 c.args.way.now.parent c.args.old.now c.args.way.now.id c.args.way.now.folder c.args.name.now (c.requires.moves (sym c.relocate.ensures.frame.space.same.tells ∙ tells)).3 c.requires.serves.stands.service.fits.next_catalog_id) (goal_free c.args.volume.now (g.P.SectorView.space c.args.space.now) (c.requires.serves.settled (sym c.relocate.ensures.frame.space.same.tells ∙ tells)) (c.requires.serves.stands.stands (sym c.relocate.ensures.frame.space.same.tells ∙ tells)) (c.requires.moves (sym c.relocate.ensures.frame.space.same.tells ∙ tells)).0 (c.requires.moves (sym c.relocate.ensures.frame.space.same.tells ∙ tells)).1 (c.requires.moves (sym c.relocate.ensures.frame.space.same.tells ∙ tells)).2 c.args.way.now.parent c.args.old.now c.args.way.now.id c.args.way.now.folder c.args.name.now (c.requires.moves (sym c.relocate.ensures.frame.space.same.tells ∙ tells)).3 c.requires.serves.stands.service.fits.next_catalog_id) c.in_ok-relocate.field-0 (c.in_ok-relocate.ensures.answer (sym c.relocate.ensures.frame.space.same.tells ∙ tells)) (c.in_ok-relocate.ensures.moved (sym c.relocate.ensures.frame.space.same.tells ∙ tells))) (c.in_ok-relocate.ensures.edits.ran.stands.stands (c.relocate.ensures.frame.space.same.tells ∙ (sym c.relocate.ensures.frame.space.same.tells ∙ tells))).trees
 
 pub touch-requires-clause-there : goal.touch-requires-clause-there
 touch-requires-clause-there g c tells =
-    from_after c.args.volume.now (g.P.SectorView.space c.args.space.now) (c.requires.settled (sym c.relocate.ensures.frame.space.same.tells ∙ tells)) (c.requires.stands.stands (sym c.relocate.ensures.frame.space.same.tells ∙ tells)) (c.requires.moves (sym c.relocate.ensures.frame.space.same.tells ∙ tells)).0 (c.requires.moves (sym c.relocate.ensures.frame.space.same.tells ∙ tells)).1 (c.requires.moves (sym c.relocate.ensures.frame.space.same.tells ∙ tells)).2 c.args.way.now.parent c.args.old.now c.args.way.now.id c.args.way.now.folder c.args.name.now (c.requires.moves (sym c.relocate.ensures.frame.space.same.tells ∙ tells)).3 c.requires.stands.service.fits.next_catalog_id c.relocate.new.volume (g.P.SectorView.space c.relocate.new.space).content
-    (replaced_move c.args.volume.now c.relocate.new.volume (g.P.SectorView.space c.args.space.now) (g.P.SectorView.space c.relocate.new.space) c.args.way.now.parent c.args.old.now c.args.way.now.folder c.args.name.now (c.requires.stands.stands (sym c.relocate.ensures.frame.space.same.tells ∙ tells)) (sym c.relocate.ensures.frame.space.same.tells ∙ tells) c.relocate.ensures.frame c.relocate.ensures.rest (c.in_ok-relocate.ensures.stands.stands (c.relocate.ensures.frame.space.same.tells ∙ (sym c.relocate.ensures.frame.space.same.tells ∙ tells))) (source_stands c.args.volume.now (g.P.SectorView.space c.args.space.now) (c.requires.settled (sym c.relocate.ensures.frame.space.same.tells ∙ tells)) (c.requires.stands.stands (sym c.relocate.ensures.frame.space.same.tells ∙ tells)) (c.requires.moves (sym c.relocate.ensures.frame.space.same.tells ∙ tells)).0 (c.requires.moves (sym c.relocate.ensures.frame.space.same.tells ∙ tells)).1 (c.requires.moves (sym c.relocate.ensures.frame.space.same.tells ∙ tells)).2 c.args.way.now.parent c.args.old.now c.args.way.now.id c.args.way.now.folder c.args.name.now (c.requires.moves (sym c.relocate.ensures.frame.space.same.tells ∙ tells)).3 c.requires.stands.service.fits.next_catalog_id) (goal_free c.args.volume.now (g.P.SectorView.space c.args.space.now) (c.requires.settled (sym c.relocate.ensures.frame.space.same.tells ∙ tells)) (c.requires.stands.stands (sym c.relocate.ensures.frame.space.same.tells ∙ tells)) (c.requires.moves (sym c.relocate.ensures.frame.space.same.tells ∙ tells)).0 (c.requires.moves (sym c.relocate.ensures.frame.space.same.tells ∙ tells)).1 (c.requires.moves (sym c.relocate.ensures.frame.space.same.tells ∙ tells)).2 c.args.way.now.parent c.args.old.now c.args.way.now.id c.args.way.now.folder c.args.name.now (c.requires.moves (sym c.relocate.ensures.frame.space.same.tells ∙ tells)).3 c.requires.stands.service.fits.next_catalog_id) c.in_ok-relocate.field-0 (c.in_ok-relocate.ensures.answer (sym c.relocate.ensures.frame.space.same.tells ∙ tells)) (c.in_ok-relocate.ensures.moved (sym c.relocate.ensures.frame.space.same.tells ∙ tells))) (c.in_ok-relocate.ensures.stands.stands (c.relocate.ensures.frame.space.same.tells ∙ (sym c.relocate.ensures.frame.space.same.tells ∙ tells))).trees
+    from_after c.args.volume.now (g.P.SectorView.space c.args.space.now) (c.requires.serves.settled (sym c.relocate.ensures.frame.space.same.tells ∙ tells)) (c.requires.serves.stands.stands (sym c.relocate.ensures.frame.space.same.tells ∙ tells)) (c.requires.moves (sym c.relocate.ensures.frame.space.same.tells ∙ tells)).0 (c.requires.moves (sym c.relocate.ensures.frame.space.same.tells ∙ tells)).1 (c.requires.moves (sym c.relocate.ensures.frame.space.same.tells ∙ tells)).2 c.args.way.now.parent c.args.old.now c.args.way.now.id c.args.way.now.folder c.args.name.now (c.requires.moves (sym c.relocate.ensures.frame.space.same.tells ∙ tells)).3 c.requires.serves.stands.service.fits.next_catalog_id c.relocate.new.volume (g.P.SectorView.space c.relocate.new.space).content
+    (replaced_move c.args.volume.now c.relocate.new.volume (g.P.SectorView.space c.args.space.now) (g.P.SectorView.space c.relocate.new.space) c.args.way.now.parent c.args.old.now c.args.way.now.folder c.args.name.now (c.requires.serves.stands.stands (sym c.relocate.ensures.frame.space.same.tells ∙ tells)) (sym c.relocate.ensures.frame.space.same.tells ∙ tells) c.relocate.ensures.frame c.relocate.ensures.rest (c.in_ok-relocate.ensures.edits.ran.stands.stands (c.relocate.ensures.frame.space.same.tells ∙ (sym c.relocate.ensures.frame.space.same.tells ∙ tells))) (source_stands c.args.volume.now (g.P.SectorView.space c.args.space.now) (c.requires.serves.settled (sym c.relocate.ensures.frame.space.same.tells ∙ tells)) (c.requires.serves.stands.stands (sym c.relocate.ensures.frame.space.same.tells ∙ tells)) (c.requires.moves (sym c.relocate.ensures.frame.space.same.tells ∙ tells)).0 (c.requires.moves (sym c.relocate.ensures.frame.space.same.tells ∙ tells)).1 (c.requires.moves (sym c.relocate.ensures.frame.space.same.tells ∙ tells)).2 c.args.way.now.parent c.args.old.now c.args.way.now.id c.args.way.now.folder c.args.name.now (c.requires.moves (sym c.relocate.ensures.frame.space.same.tells ∙ tells)).3 c.requires.serves.stands.service.fits.next_catalog_id) (goal_free c.args.volume.now (g.P.SectorView.space c.args.space.now) (c.requires.serves.settled (sym c.relocate.ensures.frame.space.same.tells ∙ tells)) (c.requires.serves.stands.stands (sym c.relocate.ensures.frame.space.same.tells ∙ tells)) (c.requires.moves (sym c.relocate.ensures.frame.space.same.tells ∙ tells)).0 (c.requires.moves (sym c.relocate.ensures.frame.space.same.tells ∙ tells)).1 (c.requires.moves (sym c.relocate.ensures.frame.space.same.tells ∙ tells)).2 c.args.way.now.parent c.args.old.now c.args.way.now.id c.args.way.now.folder c.args.name.now (c.requires.moves (sym c.relocate.ensures.frame.space.same.tells ∙ tells)).3 c.requires.serves.stands.service.fits.next_catalog_id) c.in_ok-relocate.field-0 (c.in_ok-relocate.ensures.answer (sym c.relocate.ensures.frame.space.same.tells ∙ tells)) (c.in_ok-relocate.ensures.moved (sym c.relocate.ensures.frame.space.same.tells ∙ tells))) (c.in_ok-relocate.ensures.edits.ran.stands.stands (c.relocate.ensures.frame.space.same.tells ∙ (sym c.relocate.ensures.frame.space.same.tells ∙ tells))).trees
 
 pub returns-clause-leaves : goal.returns-clause-leaves
 returns-clause-leaves g c tells =
     ok_so (TouchesFolder c.args.way.now.parent 0 1 c.relocate.new.volume c.touch.new.self (g.P.SectorView.space c.relocate.new.space).content (g.P.SectorView.space c.touch.new.space).content)
     (Leaves c.args.way.now.parent c.args.old.now c.args.way.now.folder c.args.name.now c.args.volume.now c.touch.new.self (g.P.SectorView.space c.args.space.now).content (g.P.SectorView.space c.touch.new.space).content)
     c.touch.result (c.touch.ensures.counts (c.relocate.ensures.frame.space.same.tells ∙ tells))
-    (λ t. record { middle = c.relocate.new.volume; content = (g.P.SectorView.space c.relocate.new.space).content; holds = (c.in_ok-relocate.ensures.stands.stands (c.relocate.ensures.frame.space.same.tells ∙ tells)).trees; moves = (replaced_move c.args.volume.now c.relocate.new.volume (g.P.SectorView.space c.args.space.now) (g.P.SectorView.space c.relocate.new.space) c.args.way.now.parent c.args.old.now c.args.way.now.folder c.args.name.now (c.requires.stands.stands tells) tells c.relocate.ensures.frame c.relocate.ensures.rest (c.in_ok-relocate.ensures.stands.stands (c.relocate.ensures.frame.space.same.tells ∙ tells)) (source_stands c.args.volume.now (g.P.SectorView.space c.args.space.now) (c.requires.settled tells) (c.requires.stands.stands tells) (c.requires.moves tells).0 (c.requires.moves tells).1 (c.requires.moves tells).2 c.args.way.now.parent c.args.old.now c.args.way.now.id c.args.way.now.folder c.args.name.now (c.requires.moves tells).3 c.requires.stands.service.fits.next_catalog_id) (goal_free c.args.volume.now (g.P.SectorView.space c.args.space.now) (c.requires.settled tells) (c.requires.stands.stands tells) (c.requires.moves tells).0 (c.requires.moves tells).1 (c.requires.moves tells).2 c.args.way.now.parent c.args.old.now c.args.way.now.id c.args.way.now.folder c.args.name.now (c.requires.moves tells).3 c.requires.stands.service.fits.next_catalog_id) c.in_ok-relocate.field-0 (c.in_ok-relocate.ensures.answer tells) (c.in_ok-relocate.ensures.moved tells)); loses = t })
+    (λ t. record { middle = c.relocate.new.volume; content = (g.P.SectorView.space c.relocate.new.space).content; holds = (c.in_ok-relocate.ensures.edits.ran.stands.stands (c.relocate.ensures.frame.space.same.tells ∙ tells)).trees; moves = (replaced_move c.args.volume.now c.relocate.new.volume (g.P.SectorView.space c.args.space.now) (g.P.SectorView.space c.relocate.new.space) c.args.way.now.parent c.args.old.now c.args.way.now.folder c.args.name.now (c.requires.serves.stands.stands tells) tells c.relocate.ensures.frame c.relocate.ensures.rest (c.in_ok-relocate.ensures.edits.ran.stands.stands (c.relocate.ensures.frame.space.same.tells ∙ tells)) (source_stands c.args.volume.now (g.P.SectorView.space c.args.space.now) (c.requires.serves.settled tells) (c.requires.serves.stands.stands tells) (c.requires.moves tells).0 (c.requires.moves tells).1 (c.requires.moves tells).2 c.args.way.now.parent c.args.old.now c.args.way.now.id c.args.way.now.folder c.args.name.now (c.requires.moves tells).3 c.requires.serves.stands.service.fits.next_catalog_id) (goal_free c.args.volume.now (g.P.SectorView.space c.args.space.now) (c.requires.serves.settled tells) (c.requires.serves.stands.stands tells) (c.requires.moves tells).0 (c.requires.moves tells).1 (c.requires.moves tells).2 c.args.way.now.parent c.args.old.now c.args.way.now.id c.args.way.now.folder c.args.name.now (c.requires.moves tells).3 c.requires.serves.stands.service.fits.next_catalog_id) c.in_ok-relocate.field-0 (c.in_ok-relocate.ensures.answer tells) (c.in_ok-relocate.ensures.moved tells)); loses = t })
 
-pub returns-clause-touches : goal.returns-clause-touches
-returns-clause-touches g c committed =
-    touches_both committed _ (g.P.SectorView.space c.args.space.now) (g.P.SectorView.space c.relocate.new.space) (g.P.SectorView.space c.touch.new.space) (c.relocate.ensures.touches committed)
-    (subst (λ (l : List ℕ). Touches committed (λ s. Contains l s) (g.P.SectorView.space c.relocate.new.space) (g.P.SectorView.space c.touch.new.space)) (own_edited c.args.volume.now c.relocate.new.volume (g.P.SectorView.space c.args.space.now) (g.P.SectorView.space c.relocate.new.space) c.relocate.ensures.frame c.relocate.ensures.rest) (c.touch.ensures.touches committed))
+pub returns-clause-edits : goal.returns-clause-edits
+returns-clause-edits g c =
+    edits_spent (edits_both g.met.P.SectorView.follows_trans c.relocate.ensures.edits c.touch.ensures.edits) (λ tells. omega (arith, spent_move c.edits_have_room.ensures c.edits_take_their_load.ensures c.args.volume.now c.relocate.new.volume (g.P.SectorView.space c.args.space.now) (g.P.SectorView.space c.relocate.new.space) c.requires.room c.requires.size (c.relocate.ensures.takes []) tells, c.touch.ensures.edits.ran.spent (c.relocate.ensures.frame.space.same.tells ∙ tells), node_moved c.edits_have_room.ensures c.edits_take_their_load.ensures c.args.volume.now c.relocate.new.volume (g.P.SectorView.space c.args.space.now) (g.P.SectorView.space c.relocate.new.space) c.requires.room c.requires.size (c.relocate.ensures.takes []) tells))
 
-pub returns-clause-below : goal.returns-clause-below
-returns-clause-below g c = g.met.P.SectorView.follows_trans c.args.space.now c.relocate.new.space c.touch.new.space c.relocate.ensures.below c.touch.ensures.below
-
-pub returns-clause-spent : goal.returns-clause-spent
-returns-clause-spent g c tells = omega (arith, spent_move c.edits_have_room.ensures c.edits_take_their_load.ensures c.args.volume.now c.relocate.new.volume (g.P.SectorView.space c.args.space.now) (g.P.SectorView.space c.relocate.new.space) c.requires.room c.requires.size (c.relocate.ensures.takes []) tells, c.touch.ensures.spent (c.relocate.ensures.frame.space.same.tells ∙ tells), node_moved c.edits_have_room.ensures c.edits_take_their_load.ensures c.args.volume.now c.relocate.new.volume (g.P.SectorView.space c.args.space.now) (g.P.SectorView.space c.relocate.new.space) c.requires.room c.requires.size (c.relocate.ensures.takes []) tells)
-
-pub returns-in_err-relocate-clause-spent : goal.returns-in_err-relocate-clause-spent
-returns-in_err-relocate-clause-spent g c tells = omega (arith, spent_move c.edits_have_room.ensures c.edits_take_their_load.ensures c.args.volume.now c.relocate.new.volume (g.P.SectorView.space c.args.space.now) (g.P.SectorView.space c.relocate.new.space) c.requires.room c.requires.size (c.relocate.ensures.takes []) tells)
+pub returns-in_err-relocate-clause-edits : goal.returns-in_err-relocate-clause-edits
+returns-in_err-relocate-clause-edits g c =
+    edits_err c.from_residual-in_err-relocate.ensures.1 (edits_spent c.in_err-relocate.ensures.edits (λ tells. omega (arith, spent_move c.edits_have_room.ensures c.edits_take_their_load.ensures c.args.volume.now c.relocate.new.volume (g.P.SectorView.space c.args.space.now) (g.P.SectorView.space c.relocate.new.space) c.requires.room c.requires.size (c.relocate.ensures.takes []) tells)))
 
 pub returns-clause-size : goal.returns-clause-size
 returns-clause-size g c = ok_true c.touch.result (c.touch.ensures.size ∙ c.relocate.ensures.frame.file.node_size)
 
-pub returns-clause-own : goal.returns-clause-own
-returns-clause-own g c = c.touch.ensures.own ∙ own_edited c.args.volume.now c.relocate.new.volume (g.P.SectorView.space c.args.space.now) (g.P.SectorView.space c.relocate.new.space) c.relocate.ensures.frame c.relocate.ensures.rest
-
-pub returns-in_err-relocate-clause-own : goal.returns-in_err-relocate-clause-own
-returns-in_err-relocate-clause-own g c = own_edited c.args.volume.now c.relocate.new.volume (g.P.SectorView.space c.args.space.now) (g.P.SectorView.space c.relocate.new.space) c.relocate.ensures.frame c.relocate.ensures.rest
-
-pub returns-clause-blocks : goal.returns-clause-blocks
-returns-clause-blocks g c = blocks_both c.args.volume.now c.relocate.new.volume c.touch.new.self (blocks_edit c.args.volume.now c.relocate.new.volume c.relocate.ensures.rest) c.touch.ensures.blocks
-
-pub returns-in_err-relocate-clause-blocks : goal.returns-in_err-relocate-clause-blocks
-returns-in_err-relocate-clause-blocks g c = blocks_edit c.args.volume.now c.relocate.new.volume c.relocate.ensures.rest
-
 pub touch-requires-clause-room : goal.touch-requires-clause-room
 touch-requires-clause-room g c = c.fits_update.ensures.room c.if-not-fits_update.false
 
-pub returns-then-not-fits_update-clause-touches : goal.returns-then-not-fits_update-clause-touches
-returns-then-not-fits_update-clause-touches g c committed = c.relocate.ensures.touches committed
-
-pub returns-then-not-fits_update-clause-spent : goal.returns-then-not-fits_update-clause-spent
-returns-then-not-fits_update-clause-spent g c tells = omega (arith, spent_move c.edits_have_room.ensures c.edits_take_their_load.ensures c.args.volume.now c.relocate.new.volume (g.P.SectorView.space c.args.space.now) (g.P.SectorView.space c.relocate.new.space) c.requires.room c.requires.size (c.relocate.ensures.takes []) tells)
-
-pub returns-then-not-fits_update-clause-own : goal.returns-then-not-fits_update-clause-own
-returns-then-not-fits_update-clause-own g c = own_edited c.args.volume.now c.relocate.new.volume (g.P.SectorView.space c.args.space.now) (g.P.SectorView.space c.relocate.new.space) c.relocate.ensures.frame c.relocate.ensures.rest
-
-pub returns-then-not-fits_update-clause-blocks : goal.returns-then-not-fits_update-clause-blocks
-returns-then-not-fits_update-clause-blocks g c = blocks_edit c.args.volume.now c.relocate.new.volume c.relocate.ensures.rest
+pub returns-then-not-fits_update-clause-edits : goal.returns-then-not-fits_update-clause-edits
+returns-then-not-fits_update-clause-edits g c =
+    edits_ok (edits_spent c.in_ok-relocate.ensures.edits (λ tells. omega (arith, spent_move c.edits_have_room.ensures c.edits_take_their_load.ensures c.args.volume.now c.relocate.new.volume (g.P.SectorView.space c.args.space.now) (g.P.SectorView.space c.relocate.new.space) c.requires.room c.requires.size (c.relocate.ensures.takes []) tells)))

@@ -7,7 +7,7 @@ use Rattle.volume_base.proofs.Touched.{or_true}
 use Rattle.volume_names.proofs.moving.mv.Goals as goal
 
 pub returns-in-Some-split_last-clause-loads : goal.returns-in-Some-split_last-clause-loads
-returns-in-Some-split_last-clause-loads g c tells n grow is = omega (arith, c.mv_under.ensures.spent tells, move_load_told c.args.volume.now (g.P.SectorView.space c.args.space.now).content (c.requires.settled tells) (c.requires.room.told tells).2 c.args.volume.now.capacity c.args.from.now c.args.to.now (tree_of (g.P.SectorView.space c.args.space.now).content) n grow is)
+returns-in-Some-split_last-clause-loads g c tells n grow is = omega (arith, c.mv_under.ensures.edits.ran.spent tells, move_load_told c.args.volume.now (g.P.SectorView.space c.args.space.now).content (c.requires.serves.settled tells) (c.requires.room.told tells).2 c.args.volume.now.capacity c.args.from.now c.args.to.now (tree_of (g.P.SectorView.space c.args.space.now).content) n grow is)
 
 pub returns-in-None-split_last-clause-reply : goal.returns-in-None-split_last-clause-reply
 returns-in-None-split_last-clause-reply g c tells =

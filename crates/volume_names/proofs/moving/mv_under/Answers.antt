@@ -1,5 +1,4 @@
 use Rattle.std.proofs.Common.{◌≡◌, ℕ, List, sym, ◌∙◌, ap, subst, arith}
-use Rattle.std.specs.List.{Contains}
 use Rattle.sector_disk.specs.Lists.{Content}
 use Rattle.hfs_language.specs.Written.{FitsPath}
 use Rattle.hfs_language.specs.declared.command.Command.TheVariants as command
@@ -11,13 +10,11 @@ use Rattle.hfs_volume.specs.TreeOf.{tree_of}
 use Rattle.volume_base.specs.Making.{free_place}
 use Rattle.volume_base.specs.Lists.{lists_of}
 use Rattle.volume_base.specs.Moving.{IsMove, route_in}
-use Rattle.volume_base.specs.Touching.{Touches}
-use Rattle.volume_base.proofs.Commanding.{touches_looks, touches_both}
 use Rattle.volume_names.proofs.MoveRoom.{move_load_still, move_room_still}
 use Rattle.volume_base.proofs.Routed.{goes_inside, may_go, moved_line, mv_refused_line, way_refused, way_told}
 use Rattle.volume_base.proofs.Sited.{fits_above, fits_name, some_name}
-use Rattle.volume_base.proofs.Still.{own_still}
-use Rattle.volume_base.proofs.Besides.{blocks_both, blocks_read}
+use Rattle.volume_base.proofs.Framed.{edits_err, edits_ok, edits_spent}
+use Rattle.volume_base.proofs.Joined.{edits_both, edits_serves}
 use Rattle.volume_names.proofs.moving.mv_under.Goals as goal
 
 pub route-requires-clause-from_fits : goal.route-requires-clause-from_fits
@@ -32,9 +29,6 @@ route-requires-clause-under_fits g c = fits_above c.args.under.now c.args.name.n
 pub route-requires-clause-name : goal.route-requires-clause-name
 route-requires-clause-name g c = (fits_name c.args.under.now c.args.name.now (subst FitsPath c.requires.goal_split c.requires.to_fits)).short
 
-pub move_in-requires-clause-settled : goal.move_in-requires-clause-settled
-move_in-requires-clause-settled g c tells = c.route.ensures.settled (sym c.route.ensures.reads.looks.same.tells ∙ tells)
-
 pub move_in-requires-clause-some : goal.move_in-requires-clause-some
 move_in-requires-clause-some g c = (fits_name c.args.above.now c.args.old.now (subst FitsPath c.requires.split c.requires.from_fits)).some
 
@@ -48,101 +42,63 @@ pub move_in-requires-clause-name : goal.move_in-requires-clause-name
 move_in-requires-clause-name g c = (fits_name c.args.under.now c.args.name.now (subst FitsPath c.requires.goal_split c.requires.to_fits)).short
 
 pub move_in-requires-clause-room : goal.move_in-requires-clause-room
-move_in-requires-clause-room g c = move_room_still c.args.volume.now c.route.new.self (g.P.SectorView.space c.args.space.now) (g.P.SectorView.space c.route.new.space) c.route.ensures.reads c.requires.room
+move_in-requires-clause-room g c = move_room_still c.args.volume.now c.route.new.self (g.P.SectorView.space c.args.space.now) (g.P.SectorView.space c.route.new.space) c.route.ensures.looked.reads c.requires.room
 
 pub move_in-requires-clause-moves : goal.move_in-requires-clause-moves
 move_in-requires-clause-moves g c tells =
-    let before = sym c.route.ensures.reads.looks.same.tells ∙ tells in (
+    let before = sym c.route.ensures.looked.reads.looks.same.tells ∙ tells in (
       c.args.from.now,
       c.args.to.now,
-      (way_told c.sound_has_plain_tree.ensures c.args.volume.now (g.P.SectorView.space c.args.space.now).content (c.requires.stands.stands before).trees (c.requires.settled before) c.args.from.now c.args.to.now c.args.above.now c.args.under.now c.args.old.now c.args.name.now c.requires.split c.requires.goal_split c.requires.not_own c.requires.goal_not_own c.requires.from_fits c.requires.to_fits c.in_ok-way.field-0 (subst (λ (p : List (List ℕ)). c.in_ok-way.field-0 ≡ route_in (lists_of c.args.volume.now (g.P.SectorView.space c.args.space.now).content).catalog_pairs c.args.volume.now.private p c.args.above.now c.args.under.now c.args.name.now) c.as_slice.ensures (c.in_ok-way.ensures.found before)) c.in-Ok.way c.in-Ok.is).at,
-      subst (λ (k : Content). IsMove (tree_of k) c.args.from.now c.args.to.now (way_told c.sound_has_plain_tree.ensures c.args.volume.now (g.P.SectorView.space c.args.space.now).content (c.requires.stands.stands before).trees (c.requires.settled before) c.args.from.now c.args.to.now c.args.above.now c.args.under.now c.args.old.now c.args.name.now c.requires.split c.requires.goal_split c.requires.not_own c.requires.goal_not_own c.requires.from_fits c.requires.to_fits c.in_ok-way.field-0 (subst (λ (p : List (List ℕ)). c.in_ok-way.field-0 ≡ route_in (lists_of c.args.volume.now (g.P.SectorView.space c.args.space.now).content).catalog_pairs c.args.volume.now.private p c.args.above.now c.args.under.now c.args.name.now) c.as_slice.ensures (c.in_ok-way.ensures.found before)) c.in-Ok.way c.in-Ok.is).at c.in-Ok.way.parent c.args.old.now c.in-Ok.way.id c.in-Ok.way.folder c.args.name.now) (sym (c.route.ensures.reads.looks.content before)) (may_go c.sound_has_plain_tree.ensures c.args.volume.now (g.P.SectorView.space c.args.space.now).content (c.requires.stands.stands before).trees (c.requires.settled before) c.args.from.now c.args.to.now c.args.above.now c.args.under.now c.args.old.now c.args.name.now c.requires.split c.requires.goal_split c.requires.not_own c.requires.goal_not_own c.requires.from_fits c.requires.to_fits c.in_ok-way.field-0 (subst (λ (p : List (List ℕ)). c.in_ok-way.field-0 ≡ route_in (lists_of c.args.volume.now (g.P.SectorView.space c.args.space.now).content).catalog_pairs c.args.volume.now.private p c.args.above.now c.args.under.now c.args.name.now) c.as_slice.ensures (c.in_ok-way.ensures.found before)) c.in-Ok.way c.in-Ok.is ((λ i. is_below (sym c.as_slice-in-Ok.ensures i) (sym c.as_slice-in-Ok-2.ensures i)) ∙ sym c.is_below.ensures ∙ c.if-is_below.false)),
+      (way_told c.sound_has_plain_tree.ensures c.args.volume.now (g.P.SectorView.space c.args.space.now).content (c.requires.serves.stands.stands before).trees (c.requires.serves.settled before) c.args.from.now c.args.to.now c.args.above.now c.args.under.now c.args.old.now c.args.name.now c.requires.split c.requires.goal_split c.requires.not_own c.requires.goal_not_own c.requires.from_fits c.requires.to_fits c.in_ok-way.field-0 (subst (λ (p : List (List ℕ)). c.in_ok-way.field-0 ≡ route_in (lists_of c.args.volume.now (g.P.SectorView.space c.args.space.now).content).catalog_pairs c.args.volume.now.private p c.args.above.now c.args.under.now c.args.name.now) c.as_slice.ensures (c.in_ok-way.ensures.found before)) c.in-Ok.way c.in-Ok.is).at,
+      subst (λ (k : Content). IsMove (tree_of k) c.args.from.now c.args.to.now (way_told c.sound_has_plain_tree.ensures c.args.volume.now (g.P.SectorView.space c.args.space.now).content (c.requires.serves.stands.stands before).trees (c.requires.serves.settled before) c.args.from.now c.args.to.now c.args.above.now c.args.under.now c.args.old.now c.args.name.now c.requires.split c.requires.goal_split c.requires.not_own c.requires.goal_not_own c.requires.from_fits c.requires.to_fits c.in_ok-way.field-0 (subst (λ (p : List (List ℕ)). c.in_ok-way.field-0 ≡ route_in (lists_of c.args.volume.now (g.P.SectorView.space c.args.space.now).content).catalog_pairs c.args.volume.now.private p c.args.above.now c.args.under.now c.args.name.now) c.as_slice.ensures (c.in_ok-way.ensures.found before)) c.in-Ok.way c.in-Ok.is).at c.in-Ok.way.parent c.args.old.now c.in-Ok.way.id c.in-Ok.way.folder c.args.name.now) (sym (c.route.ensures.looked.reads.looks.content before)) (may_go c.sound_has_plain_tree.ensures c.args.volume.now (g.P.SectorView.space c.args.space.now).content (c.requires.serves.stands.stands before).trees (c.requires.serves.settled before) c.args.from.now c.args.to.now c.args.above.now c.args.under.now c.args.old.now c.args.name.now c.requires.split c.requires.goal_split c.requires.not_own c.requires.goal_not_own c.requires.from_fits c.requires.to_fits c.in_ok-way.field-0 (subst (λ (p : List (List ℕ)). c.in_ok-way.field-0 ≡ route_in (lists_of c.args.volume.now (g.P.SectorView.space c.args.space.now).content).catalog_pairs c.args.volume.now.private p c.args.above.now c.args.under.now c.args.name.now) c.as_slice.ensures (c.in_ok-way.ensures.found before)) c.in-Ok.way c.in-Ok.is ((λ i. is_below (sym c.as_slice-in-Ok.ensures i) (sym c.as_slice-in-Ok-2.ensures i)) ∙ sym c.is_below.ensures ∙ c.if-is_below.false)),
     )
 
 pub returns-in_ok-move_in-in-Ok-clause-reply : goal.returns-in_ok-move_in-in-Ok-clause-reply
 returns-in_ok-move_in-in-Ok-clause-reply g c tells =
-    (moved_line (tree_of (g.P.SectorView.space c.args.space.now).content) c.args.from.now c.args.to.now ((way_told c.sound_has_plain_tree.ensures c.args.volume.now (g.P.SectorView.space c.args.space.now).content (c.requires.stands.stands tells).trees (c.requires.settled tells) c.args.from.now c.args.to.now c.args.above.now c.args.under.now c.args.old.now c.args.name.now c.requires.split c.requires.goal_split c.requires.not_own c.requires.goal_not_own c.requires.from_fits c.requires.to_fits c.in_ok-way.field-0 (subst (λ (p : List (List ℕ)). c.in_ok-way.field-0 ≡ route_in (lists_of c.args.volume.now (g.P.SectorView.space c.args.space.now).content).catalog_pairs c.args.volume.now.private p c.args.above.now c.args.under.now c.args.name.now) c.as_slice.ensures (c.in_ok-way.ensures.found tells)) c.in-Ok.way c.in-Ok.is).at, free_place c.in-Ok.way.folder c.args.name.now) c.requires.not_own c.requires.goal_not_own (may_go c.sound_has_plain_tree.ensures c.args.volume.now (g.P.SectorView.space c.args.space.now).content (c.requires.stands.stands tells).trees (c.requires.settled tells) c.args.from.now c.args.to.now c.args.above.now c.args.under.now c.args.old.now c.args.name.now c.requires.split c.requires.goal_split c.requires.not_own c.requires.goal_not_own c.requires.from_fits c.requires.to_fits c.in_ok-way.field-0 (subst (λ (p : List (List ℕ)). c.in_ok-way.field-0 ≡ route_in (lists_of c.args.volume.now (g.P.SectorView.space c.args.space.now).content).catalog_pairs c.args.volume.now.private p c.args.above.now c.args.under.now c.args.name.now) c.as_slice.ensures (c.in_ok-way.ensures.found tells)) c.in-Ok.way c.in-Ok.is ((λ i. is_below (sym c.as_slice-in-Ok.ensures i) (sym c.as_slice-in-Ok-2.ensures i)) ∙ sym c.is_below.ensures ∙ c.if-is_below.false)).allowed).0
+    (moved_line (tree_of (g.P.SectorView.space c.args.space.now).content) c.args.from.now c.args.to.now ((way_told c.sound_has_plain_tree.ensures c.args.volume.now (g.P.SectorView.space c.args.space.now).content (c.requires.serves.stands.stands tells).trees (c.requires.serves.settled tells) c.args.from.now c.args.to.now c.args.above.now c.args.under.now c.args.old.now c.args.name.now c.requires.split c.requires.goal_split c.requires.not_own c.requires.goal_not_own c.requires.from_fits c.requires.to_fits c.in_ok-way.field-0 (subst (λ (p : List (List ℕ)). c.in_ok-way.field-0 ≡ route_in (lists_of c.args.volume.now (g.P.SectorView.space c.args.space.now).content).catalog_pairs c.args.volume.now.private p c.args.above.now c.args.under.now c.args.name.now) c.as_slice.ensures (c.in_ok-way.ensures.found tells)) c.in-Ok.way c.in-Ok.is).at, free_place c.in-Ok.way.folder c.args.name.now) c.requires.not_own c.requires.goal_not_own (may_go c.sound_has_plain_tree.ensures c.args.volume.now (g.P.SectorView.space c.args.space.now).content (c.requires.serves.stands.stands tells).trees (c.requires.serves.settled tells) c.args.from.now c.args.to.now c.args.above.now c.args.under.now c.args.old.now c.args.name.now c.requires.split c.requires.goal_split c.requires.not_own c.requires.goal_not_own c.requires.from_fits c.requires.to_fits c.in_ok-way.field-0 (subst (λ (p : List (List ℕ)). c.in_ok-way.field-0 ≡ route_in (lists_of c.args.volume.now (g.P.SectorView.space c.args.space.now).content).catalog_pairs c.args.volume.now.private p c.args.above.now c.args.under.now c.args.name.now) c.as_slice.ensures (c.in_ok-way.ensures.found tells)) c.in-Ok.way c.in-Ok.is ((λ i. is_below (sym c.as_slice-in-Ok.ensures i) (sym c.as_slice-in-Ok-2.ensures i)) ∙ sym c.is_below.ensures ∙ c.if-is_below.false)).allowed).0
 
 pub returns-in_ok-move_in-in-Ok-clause-tree : goal.returns-in_ok-move_in-in-Ok-clause-tree
 returns-in_ok-move_in-in-Ok-clause-tree g c tells =
-    (c.in_ok-move_in-in-Ok.ensures.does (c.route.ensures.reads.looks.same.tells ∙ tells) c.args.from.now c.args.to.now (way_told c.sound_has_plain_tree.ensures c.args.volume.now (g.P.SectorView.space c.args.space.now).content (c.requires.stands.stands tells).trees (c.requires.settled tells) c.args.from.now c.args.to.now c.args.above.now c.args.under.now c.args.old.now c.args.name.now c.requires.split c.requires.goal_split c.requires.not_own c.requires.goal_not_own c.requires.from_fits c.requires.to_fits c.in_ok-way.field-0 (subst (λ (p : List (List ℕ)). c.in_ok-way.field-0 ≡ route_in (lists_of c.args.volume.now (g.P.SectorView.space c.args.space.now).content).catalog_pairs c.args.volume.now.private p c.args.above.now c.args.under.now c.args.name.now) c.as_slice.ensures (c.in_ok-way.ensures.found tells)) c.in-Ok.way c.in-Ok.is).at (subst (λ (k : Content). IsMove (tree_of k) c.args.from.now c.args.to.now (way_told c.sound_has_plain_tree.ensures c.args.volume.now (g.P.SectorView.space c.args.space.now).content (c.requires.stands.stands tells).trees (c.requires.settled tells) c.args.from.now c.args.to.now c.args.above.now c.args.under.now c.args.old.now c.args.name.now c.requires.split c.requires.goal_split c.requires.not_own c.requires.goal_not_own c.requires.from_fits c.requires.to_fits c.in_ok-way.field-0 (subst (λ (p : List (List ℕ)). c.in_ok-way.field-0 ≡ route_in (lists_of c.args.volume.now (g.P.SectorView.space c.args.space.now).content).catalog_pairs c.args.volume.now.private p c.args.above.now c.args.under.now c.args.name.now) c.as_slice.ensures (c.in_ok-way.ensures.found tells)) c.in-Ok.way c.in-Ok.is).at c.in-Ok.way.parent c.args.old.now c.in-Ok.way.id c.in-Ok.way.folder c.args.name.now) (sym (c.route.ensures.reads.looks.content tells)) (may_go c.sound_has_plain_tree.ensures c.args.volume.now (g.P.SectorView.space c.args.space.now).content (c.requires.stands.stands tells).trees (c.requires.settled tells) c.args.from.now c.args.to.now c.args.above.now c.args.under.now c.args.old.now c.args.name.now c.requires.split c.requires.goal_split c.requires.not_own c.requires.goal_not_own c.requires.from_fits c.requires.to_fits c.in_ok-way.field-0 (subst (λ (p : List (List ℕ)). c.in_ok-way.field-0 ≡ route_in (lists_of c.args.volume.now (g.P.SectorView.space c.args.space.now).content).catalog_pairs c.args.volume.now.private p c.args.above.now c.args.under.now c.args.name.now) c.as_slice.ensures (c.in_ok-way.ensures.found tells)) c.in-Ok.way c.in-Ok.is ((λ i. is_below (sym c.as_slice-in-Ok.ensures i) (sym c.as_slice-in-Ok-2.ensures i)) ∙ sym c.is_below.ensures ∙ c.if-is_below.false)))).1
-    ∙ ap (λ (k : Content). (step (tree_of k) (command.Mv c.args.from.now c.args.to.now)).1) (c.route.ensures.reads.looks.content tells)
-    ∙ (moved_line (tree_of (g.P.SectorView.space c.args.space.now).content) c.args.from.now c.args.to.now ((way_told c.sound_has_plain_tree.ensures c.args.volume.now (g.P.SectorView.space c.args.space.now).content (c.requires.stands.stands tells).trees (c.requires.settled tells) c.args.from.now c.args.to.now c.args.above.now c.args.under.now c.args.old.now c.args.name.now c.requires.split c.requires.goal_split c.requires.not_own c.requires.goal_not_own c.requires.from_fits c.requires.to_fits c.in_ok-way.field-0 (subst (λ (p : List (List ℕ)). c.in_ok-way.field-0 ≡ route_in (lists_of c.args.volume.now (g.P.SectorView.space c.args.space.now).content).catalog_pairs c.args.volume.now.private p c.args.above.now c.args.under.now c.args.name.now) c.as_slice.ensures (c.in_ok-way.ensures.found tells)) c.in-Ok.way c.in-Ok.is).at, free_place c.in-Ok.way.folder c.args.name.now) c.requires.not_own c.requires.goal_not_own (may_go c.sound_has_plain_tree.ensures c.args.volume.now (g.P.SectorView.space c.args.space.now).content (c.requires.stands.stands tells).trees (c.requires.settled tells) c.args.from.now c.args.to.now c.args.above.now c.args.under.now c.args.old.now c.args.name.now c.requires.split c.requires.goal_split c.requires.not_own c.requires.goal_not_own c.requires.from_fits c.requires.to_fits c.in_ok-way.field-0 (subst (λ (p : List (List ℕ)). c.in_ok-way.field-0 ≡ route_in (lists_of c.args.volume.now (g.P.SectorView.space c.args.space.now).content).catalog_pairs c.args.volume.now.private p c.args.above.now c.args.under.now c.args.name.now) c.as_slice.ensures (c.in_ok-way.ensures.found tells)) c.in-Ok.way c.in-Ok.is ((λ i. is_below (sym c.as_slice-in-Ok.ensures i) (sym c.as_slice-in-Ok-2.ensures i)) ∙ sym c.is_below.ensures ∙ c.if-is_below.false)).allowed).1
+    (c.in_ok-move_in-in-Ok.ensures.does (c.route.ensures.looked.reads.looks.same.tells ∙ tells) c.args.from.now c.args.to.now (way_told c.sound_has_plain_tree.ensures c.args.volume.now (g.P.SectorView.space c.args.space.now).content (c.requires.serves.stands.stands tells).trees (c.requires.serves.settled tells) c.args.from.now c.args.to.now c.args.above.now c.args.under.now c.args.old.now c.args.name.now c.requires.split c.requires.goal_split c.requires.not_own c.requires.goal_not_own c.requires.from_fits c.requires.to_fits c.in_ok-way.field-0 (subst (λ (p : List (List ℕ)). c.in_ok-way.field-0 ≡ route_in (lists_of c.args.volume.now (g.P.SectorView.space c.args.space.now).content).catalog_pairs c.args.volume.now.private p c.args.above.now c.args.under.now c.args.name.now) c.as_slice.ensures (c.in_ok-way.ensures.found tells)) c.in-Ok.way c.in-Ok.is).at (subst (λ (k : Content). IsMove (tree_of k) c.args.from.now c.args.to.now (way_told c.sound_has_plain_tree.ensures c.args.volume.now (g.P.SectorView.space c.args.space.now).content (c.requires.serves.stands.stands tells).trees (c.requires.serves.settled tells) c.args.from.now c.args.to.now c.args.above.now c.args.under.now c.args.old.now c.args.name.now c.requires.split c.requires.goal_split c.requires.not_own c.requires.goal_not_own c.requires.from_fits c.requires.to_fits c.in_ok-way.field-0 (subst (λ (p : List (List ℕ)). c.in_ok-way.field-0 ≡ route_in (lists_of c.args.volume.now (g.P.SectorView.space c.args.space.now).content).catalog_pairs c.args.volume.now.private p c.args.above.now c.args.under.now c.args.name.now) c.as_slice.ensures (c.in_ok-way.ensures.found tells)) c.in-Ok.way c.in-Ok.is).at c.in-Ok.way.parent c.args.old.now c.in-Ok.way.id c.in-Ok.way.folder c.args.name.now) (sym (c.route.ensures.looked.reads.looks.content tells)) (may_go c.sound_has_plain_tree.ensures c.args.volume.now (g.P.SectorView.space c.args.space.now).content (c.requires.serves.stands.stands tells).trees (c.requires.serves.settled tells) c.args.from.now c.args.to.now c.args.above.now c.args.under.now c.args.old.now c.args.name.now c.requires.split c.requires.goal_split c.requires.not_own c.requires.goal_not_own c.requires.from_fits c.requires.to_fits c.in_ok-way.field-0 (subst (λ (p : List (List ℕ)). c.in_ok-way.field-0 ≡ route_in (lists_of c.args.volume.now (g.P.SectorView.space c.args.space.now).content).catalog_pairs c.args.volume.now.private p c.args.above.now c.args.under.now c.args.name.now) c.as_slice.ensures (c.in_ok-way.ensures.found tells)) c.in-Ok.way c.in-Ok.is ((λ i. is_below (sym c.as_slice-in-Ok.ensures i) (sym c.as_slice-in-Ok-2.ensures i)) ∙ sym c.is_below.ensures ∙ c.if-is_below.false)))).1
+    ∙ ap (λ (k : Content). (step (tree_of k) (command.Mv c.args.from.now c.args.to.now)).1) (c.route.ensures.looked.reads.looks.content tells)
+    ∙ (moved_line (tree_of (g.P.SectorView.space c.args.space.now).content) c.args.from.now c.args.to.now ((way_told c.sound_has_plain_tree.ensures c.args.volume.now (g.P.SectorView.space c.args.space.now).content (c.requires.serves.stands.stands tells).trees (c.requires.serves.settled tells) c.args.from.now c.args.to.now c.args.above.now c.args.under.now c.args.old.now c.args.name.now c.requires.split c.requires.goal_split c.requires.not_own c.requires.goal_not_own c.requires.from_fits c.requires.to_fits c.in_ok-way.field-0 (subst (λ (p : List (List ℕ)). c.in_ok-way.field-0 ≡ route_in (lists_of c.args.volume.now (g.P.SectorView.space c.args.space.now).content).catalog_pairs c.args.volume.now.private p c.args.above.now c.args.under.now c.args.name.now) c.as_slice.ensures (c.in_ok-way.ensures.found tells)) c.in-Ok.way c.in-Ok.is).at, free_place c.in-Ok.way.folder c.args.name.now) c.requires.not_own c.requires.goal_not_own (may_go c.sound_has_plain_tree.ensures c.args.volume.now (g.P.SectorView.space c.args.space.now).content (c.requires.serves.stands.stands tells).trees (c.requires.serves.settled tells) c.args.from.now c.args.to.now c.args.above.now c.args.under.now c.args.old.now c.args.name.now c.requires.split c.requires.goal_split c.requires.not_own c.requires.goal_not_own c.requires.from_fits c.requires.to_fits c.in_ok-way.field-0 (subst (λ (p : List (List ℕ)). c.in_ok-way.field-0 ≡ route_in (lists_of c.args.volume.now (g.P.SectorView.space c.args.space.now).content).catalog_pairs c.args.volume.now.private p c.args.above.now c.args.under.now c.args.name.now) c.as_slice.ensures (c.in_ok-way.ensures.found tells)) c.in-Ok.way c.in-Ok.is ((λ i. is_below (sym c.as_slice-in-Ok.ensures i) (sym c.as_slice-in-Ok-2.ensures i)) ∙ sym c.is_below.ensures ∙ c.if-is_below.false)).allowed).1
 
-pub returns-in_ok-move_in-in-Ok-clause-settled : goal.returns-in_ok-move_in-in-Ok-clause-settled
-returns-in_ok-move_in-in-Ok-clause-settled g c tells =
-    (c.in_ok-move_in-in-Ok.ensures.does (c.route.ensures.reads.looks.same.tells ∙ tells) c.args.from.now c.args.to.now (way_told c.sound_has_plain_tree.ensures c.args.volume.now (g.P.SectorView.space c.args.space.now).content (c.requires.stands.stands tells).trees (c.requires.settled tells) c.args.from.now c.args.to.now c.args.above.now c.args.under.now c.args.old.now c.args.name.now c.requires.split c.requires.goal_split c.requires.not_own c.requires.goal_not_own c.requires.from_fits c.requires.to_fits c.in_ok-way.field-0 (subst (λ (p : List (List ℕ)). c.in_ok-way.field-0 ≡ route_in (lists_of c.args.volume.now (g.P.SectorView.space c.args.space.now).content).catalog_pairs c.args.volume.now.private p c.args.above.now c.args.under.now c.args.name.now) c.as_slice.ensures (c.in_ok-way.ensures.found tells)) c.in-Ok.way c.in-Ok.is).at (subst (λ (k : Content). IsMove (tree_of k) c.args.from.now c.args.to.now (way_told c.sound_has_plain_tree.ensures c.args.volume.now (g.P.SectorView.space c.args.space.now).content (c.requires.stands.stands tells).trees (c.requires.settled tells) c.args.from.now c.args.to.now c.args.above.now c.args.under.now c.args.old.now c.args.name.now c.requires.split c.requires.goal_split c.requires.not_own c.requires.goal_not_own c.requires.from_fits c.requires.to_fits c.in_ok-way.field-0 (subst (λ (p : List (List ℕ)). c.in_ok-way.field-0 ≡ route_in (lists_of c.args.volume.now (g.P.SectorView.space c.args.space.now).content).catalog_pairs c.args.volume.now.private p c.args.above.now c.args.under.now c.args.name.now) c.as_slice.ensures (c.in_ok-way.ensures.found tells)) c.in-Ok.way c.in-Ok.is).at c.in-Ok.way.parent c.args.old.now c.in-Ok.way.id c.in-Ok.way.folder c.args.name.now) (sym (c.route.ensures.reads.looks.content tells)) (may_go c.sound_has_plain_tree.ensures c.args.volume.now (g.P.SectorView.space c.args.space.now).content (c.requires.stands.stands tells).trees (c.requires.settled tells) c.args.from.now c.args.to.now c.args.above.now c.args.under.now c.args.old.now c.args.name.now c.requires.split c.requires.goal_split c.requires.not_own c.requires.goal_not_own c.requires.from_fits c.requires.to_fits c.in_ok-way.field-0 (subst (λ (p : List (List ℕ)). c.in_ok-way.field-0 ≡ route_in (lists_of c.args.volume.now (g.P.SectorView.space c.args.space.now).content).catalog_pairs c.args.volume.now.private p c.args.above.now c.args.under.now c.args.name.now) c.as_slice.ensures (c.in_ok-way.ensures.found tells)) c.in-Ok.way c.in-Ok.is ((λ i. is_below (sym c.as_slice-in-Ok.ensures i) (sym c.as_slice-in-Ok-2.ensures i)) ∙ sym c.is_below.ensures ∙ c.if-is_below.false)))).0
+pub returns-in_ok-move_in-in-Ok-clause-edits : goal.returns-in_ok-move_in-in-Ok-clause-edits
+returns-in_ok-move_in-in-Ok-clause-edits g c =
+    edits_ok (edits_spent (edits_both g.met.P.SectorView.follows_trans c.route.ensures.looked.edits c.in_ok-move_in-in-Ok.ensures.edits) (λ tells. omega (arith, c.route.ensures.looked.reads.looks.spare, c.move_in.ensures.edits.ran.spent (c.route.ensures.looked.reads.looks.same.tells ∙ tells), move_load_still c.args.volume.now c.route.new.self (g.P.SectorView.space c.args.space.now) (g.P.SectorView.space c.route.new.space) c.route.ensures.looked.reads tells)))
 
-pub returns-in_ok-move_in-in-Ok-clause-touches : goal.returns-in_ok-move_in-in-Ok-clause-touches
-returns-in_ok-move_in-in-Ok-clause-touches g c committed =
-    touches_both committed _ (g.P.SectorView.space c.args.space.now) (g.P.SectorView.space c.route.new.space) (g.P.SectorView.space c.move_in.new.space) (touches_looks committed _ (g.P.SectorView.space c.args.space.now) (g.P.SectorView.space c.route.new.space) c.route.ensures.reads.looks)
-    (subst (λ (l : List ℕ). Touches committed (λ s. Contains l s) (g.P.SectorView.space c.route.new.space) (g.P.SectorView.space c.move_in.new.space)) (own_still c.args.volume.now c.route.new.self (g.P.SectorView.space c.args.space.now) (g.P.SectorView.space c.route.new.space) c.route.ensures.reads) (c.move_in.ensures.touches committed))
+pub returns-in_ok-move_in-in-Ok-clause-serves : goal.returns-in_ok-move_in-in-Ok-clause-serves
+returns-in_ok-move_in-in-Ok-clause-serves g c =
+    edits_serves (returns-in_ok-move_in-in-Ok-clause-edits g c) (λ tells. (c.in_ok-move_in-in-Ok.ensures.does (c.route.ensures.looked.reads.looks.same.tells ∙ tells) c.args.from.now c.args.to.now (way_told c.sound_has_plain_tree.ensures c.args.volume.now (g.P.SectorView.space c.args.space.now).content (c.requires.serves.stands.stands tells).trees (c.requires.serves.settled tells) c.args.from.now c.args.to.now c.args.above.now c.args.under.now c.args.old.now c.args.name.now c.requires.split c.requires.goal_split c.requires.not_own c.requires.goal_not_own c.requires.from_fits c.requires.to_fits c.in_ok-way.field-0 (subst (λ (p : List (List ℕ)). c.in_ok-way.field-0 ≡ route_in (lists_of c.args.volume.now (g.P.SectorView.space c.args.space.now).content).catalog_pairs c.args.volume.now.private p c.args.above.now c.args.under.now c.args.name.now) c.as_slice.ensures (c.in_ok-way.ensures.found tells)) c.in-Ok.way c.in-Ok.is).at (subst (λ (k : Content). IsMove (tree_of k) c.args.from.now c.args.to.now (way_told c.sound_has_plain_tree.ensures c.args.volume.now (g.P.SectorView.space c.args.space.now).content (c.requires.serves.stands.stands tells).trees (c.requires.serves.settled tells) c.args.from.now c.args.to.now c.args.above.now c.args.under.now c.args.old.now c.args.name.now c.requires.split c.requires.goal_split c.requires.not_own c.requires.goal_not_own c.requires.from_fits c.requires.to_fits c.in_ok-way.field-0 (subst (λ (p : List (List ℕ)). c.in_ok-way.field-0 ≡ route_in (lists_of c.args.volume.now (g.P.SectorView.space c.args.space.now).content).catalog_pairs c.args.volume.now.private p c.args.above.now c.args.under.now c.args.name.now) c.as_slice.ensures (c.in_ok-way.ensures.found tells)) c.in-Ok.way c.in-Ok.is).at c.in-Ok.way.parent c.args.old.now c.in-Ok.way.id c.in-Ok.way.folder c.args.name.now) (sym (c.route.ensures.looked.reads.looks.content tells)) (may_go c.sound_has_plain_tree.ensures c.args.volume.now (g.P.SectorView.space c.args.space.now).content (c.requires.serves.stands.stands tells).trees (c.requires.serves.settled tells) c.args.from.now c.args.to.now c.args.above.now c.args.under.now c.args.old.now c.args.name.now c.requires.split c.requires.goal_split c.requires.not_own c.requires.goal_not_own c.requires.from_fits c.requires.to_fits c.in_ok-way.field-0 (subst (λ (p : List (List ℕ)). c.in_ok-way.field-0 ≡ route_in (lists_of c.args.volume.now (g.P.SectorView.space c.args.space.now).content).catalog_pairs c.args.volume.now.private p c.args.above.now c.args.under.now c.args.name.now) c.as_slice.ensures (c.in_ok-way.ensures.found tells)) c.in-Ok.way c.in-Ok.is ((λ i. is_below (sym c.as_slice-in-Ok.ensures i) (sym c.as_slice-in-Ok-2.ensures i)) ∙ sym c.is_below.ensures ∙ c.if-is_below.false)))).0)
 
-pub returns-in_ok-move_in-in-Ok-clause-below : goal.returns-in_ok-move_in-in-Ok-clause-below
-returns-in_ok-move_in-in-Ok-clause-below g c = g.met.P.SectorView.follows_trans c.args.space.now c.route.new.space c.move_in.new.space c.route.ensures.below c.move_in.ensures.below
-
-pub returns-in_ok-move_in-in-Ok-clause-spent : goal.returns-in_ok-move_in-in-Ok-clause-spent
-returns-in_ok-move_in-in-Ok-clause-spent g c tells = omega (arith, c.route.ensures.reads.looks.spare, c.move_in.ensures.spent (c.route.ensures.reads.looks.same.tells ∙ tells), move_load_still c.args.volume.now c.route.new.self (g.P.SectorView.space c.args.space.now) (g.P.SectorView.space c.route.new.space) c.route.ensures.reads tells)
-
-pub returns-in_err-move_in-in-Ok-clause-touches : goal.returns-in_err-move_in-in-Ok-clause-touches
-returns-in_err-move_in-in-Ok-clause-touches g c committed =
-    touches_both committed _ (g.P.SectorView.space c.args.space.now) (g.P.SectorView.space c.route.new.space) (g.P.SectorView.space c.move_in.new.space) (touches_looks committed _ (g.P.SectorView.space c.args.space.now) (g.P.SectorView.space c.route.new.space) c.route.ensures.reads.looks)
-    (subst (λ (l : List ℕ). Touches committed (λ s. Contains l s) (g.P.SectorView.space c.route.new.space) (g.P.SectorView.space c.move_in.new.space)) (own_still c.args.volume.now c.route.new.self (g.P.SectorView.space c.args.space.now) (g.P.SectorView.space c.route.new.space) c.route.ensures.reads) (c.move_in.ensures.touches committed))
-
-pub returns-in_err-move_in-in-Ok-clause-below : goal.returns-in_err-move_in-in-Ok-clause-below
-returns-in_err-move_in-in-Ok-clause-below g c = g.met.P.SectorView.follows_trans c.args.space.now c.route.new.space c.move_in.new.space c.route.ensures.below c.move_in.ensures.below
-
-pub returns-in_err-move_in-in-Ok-clause-spent : goal.returns-in_err-move_in-in-Ok-clause-spent
-returns-in_err-move_in-in-Ok-clause-spent g c tells = omega (arith, c.route.ensures.reads.looks.spare, c.move_in.ensures.spent (c.route.ensures.reads.looks.same.tells ∙ tells), move_load_still c.args.volume.now c.route.new.self (g.P.SectorView.space c.args.space.now) (g.P.SectorView.space c.route.new.space) c.route.ensures.reads tells)
+pub returns-in_err-move_in-in-Ok-clause-edits : goal.returns-in_err-move_in-in-Ok-clause-edits
+returns-in_err-move_in-in-Ok-clause-edits g c =
+    edits_err c.from_residual-in_err-move_in-in-Ok.ensures.1 (edits_spent (edits_both g.met.P.SectorView.follows_trans c.route.ensures.looked.edits c.in_err-move_in-in-Ok.ensures.edits) (λ tells. omega (arith, c.route.ensures.looked.reads.looks.spare, c.move_in.ensures.edits.ran.spent (c.route.ensures.looked.reads.looks.same.tells ∙ tells), move_load_still c.args.volume.now c.route.new.self (g.P.SectorView.space c.args.space.now) (g.P.SectorView.space c.route.new.space) c.route.ensures.looked.reads tells)))
 
 pub returns-in-Err-clause-reply : goal.returns-in-Err-clause-reply
 returns-in-Err-clause-reply g c tells =
-    (mv_refused_line (tree_of (g.P.SectorView.space c.args.space.now).content) c.args.from.now c.args.to.now c.in-Err.why c.requires.not_own c.requires.goal_not_own (way_refused c.sound_has_plain_tree.ensures c.args.volume.now (g.P.SectorView.space c.args.space.now).content (c.requires.stands.stands tells).trees (c.requires.settled tells) c.args.from.now c.args.to.now c.args.above.now c.args.under.now c.args.old.now c.args.name.now c.requires.split c.requires.goal_split c.requires.not_own c.requires.goal_not_own c.requires.from_fits c.requires.to_fits c.in_ok-way.field-0 (subst (λ (p : List (List ℕ)). c.in_ok-way.field-0 ≡ route_in (lists_of c.args.volume.now (g.P.SectorView.space c.args.space.now).content).catalog_pairs c.args.volume.now.private p c.args.above.now c.args.under.now c.args.name.now) c.as_slice.ensures (c.in_ok-way.ensures.found tells)) c.in-Err.why c.in-Err.is)).0
+    (mv_refused_line (tree_of (g.P.SectorView.space c.args.space.now).content) c.args.from.now c.args.to.now c.in-Err.why c.requires.not_own c.requires.goal_not_own (way_refused c.sound_has_plain_tree.ensures c.args.volume.now (g.P.SectorView.space c.args.space.now).content (c.requires.serves.stands.stands tells).trees (c.requires.serves.settled tells) c.args.from.now c.args.to.now c.args.above.now c.args.under.now c.args.old.now c.args.name.now c.requires.split c.requires.goal_split c.requires.not_own c.requires.goal_not_own c.requires.from_fits c.requires.to_fits c.in_ok-way.field-0 (subst (λ (p : List (List ℕ)). c.in_ok-way.field-0 ≡ route_in (lists_of c.args.volume.now (g.P.SectorView.space c.args.space.now).content).catalog_pairs c.args.volume.now.private p c.args.above.now c.args.under.now c.args.name.now) c.as_slice.ensures (c.in_ok-way.ensures.found tells)) c.in-Err.why c.in-Err.is)).0
 
 pub returns-in-Err-clause-tree : goal.returns-in-Err-clause-tree
 returns-in-Err-clause-tree g c tells =
-    ap (λ (k : Content). tree_of k) (c.route.ensures.reads.looks.content tells) ∙ (mv_refused_line (tree_of (g.P.SectorView.space c.args.space.now).content) c.args.from.now c.args.to.now c.in-Err.why c.requires.not_own c.requires.goal_not_own (way_refused c.sound_has_plain_tree.ensures c.args.volume.now (g.P.SectorView.space c.args.space.now).content (c.requires.stands.stands tells).trees (c.requires.settled tells) c.args.from.now c.args.to.now c.args.above.now c.args.under.now c.args.old.now c.args.name.now c.requires.split c.requires.goal_split c.requires.not_own c.requires.goal_not_own c.requires.from_fits c.requires.to_fits c.in_ok-way.field-0 (subst (λ (p : List (List ℕ)). c.in_ok-way.field-0 ≡ route_in (lists_of c.args.volume.now (g.P.SectorView.space c.args.space.now).content).catalog_pairs c.args.volume.now.private p c.args.above.now c.args.under.now c.args.name.now) c.as_slice.ensures (c.in_ok-way.ensures.found tells)) c.in-Err.why c.in-Err.is)).1
-
-pub returns-in-Err-clause-touches : goal.returns-in-Err-clause-touches
-returns-in-Err-clause-touches g c committed = touches_looks committed _ (g.P.SectorView.space c.args.space.now) (g.P.SectorView.space c.route.new.space) c.route.ensures.reads.looks
+    ap (λ (k : Content). tree_of k) (c.route.ensures.looked.reads.looks.content tells) ∙ (mv_refused_line (tree_of (g.P.SectorView.space c.args.space.now).content) c.args.from.now c.args.to.now c.in-Err.why c.requires.not_own c.requires.goal_not_own (way_refused c.sound_has_plain_tree.ensures c.args.volume.now (g.P.SectorView.space c.args.space.now).content (c.requires.serves.stands.stands tells).trees (c.requires.serves.settled tells) c.args.from.now c.args.to.now c.args.above.now c.args.under.now c.args.old.now c.args.name.now c.requires.split c.requires.goal_split c.requires.not_own c.requires.goal_not_own c.requires.from_fits c.requires.to_fits c.in_ok-way.field-0 (subst (λ (p : List (List ℕ)). c.in_ok-way.field-0 ≡ route_in (lists_of c.args.volume.now (g.P.SectorView.space c.args.space.now).content).catalog_pairs c.args.volume.now.private p c.args.above.now c.args.under.now c.args.name.now) c.as_slice.ensures (c.in_ok-way.ensures.found tells)) c.in-Err.why c.in-Err.is)).1
 
 pub returns-then-is_below-clause-reply : goal.returns-then-is_below-clause-reply
 returns-then-is_below-clause-reply g c tells =
-    (mv_refused_line (tree_of (g.P.SectorView.space c.args.space.now).content) c.args.from.now c.args.to.now refusal.Inside c.requires.not_own c.requires.goal_not_own (goes_inside c.sound_has_plain_tree.ensures c.args.volume.now (g.P.SectorView.space c.args.space.now).content (c.requires.stands.stands tells).trees (c.requires.settled tells) c.args.from.now c.args.to.now c.args.above.now c.args.under.now c.args.old.now c.args.name.now c.requires.split c.requires.goal_split c.requires.not_own c.requires.goal_not_own c.requires.from_fits c.requires.to_fits c.in_ok-way.field-0 (subst (λ (p : List (List ℕ)). c.in_ok-way.field-0 ≡ route_in (lists_of c.args.volume.now (g.P.SectorView.space c.args.space.now).content).catalog_pairs c.args.volume.now.private p c.args.above.now c.args.under.now c.args.name.now) c.as_slice.ensures (c.in_ok-way.ensures.found tells)) c.in-Ok.way c.in-Ok.is ((λ i. is_below (sym c.as_slice-in-Ok.ensures i) (sym c.as_slice-in-Ok-2.ensures i)) ∙ sym c.is_below.ensures ∙ c.if-is_below.true))).0
+    (mv_refused_line (tree_of (g.P.SectorView.space c.args.space.now).content) c.args.from.now c.args.to.now refusal.Inside c.requires.not_own c.requires.goal_not_own (goes_inside c.sound_has_plain_tree.ensures c.args.volume.now (g.P.SectorView.space c.args.space.now).content (c.requires.serves.stands.stands tells).trees (c.requires.serves.settled tells) c.args.from.now c.args.to.now c.args.above.now c.args.under.now c.args.old.now c.args.name.now c.requires.split c.requires.goal_split c.requires.not_own c.requires.goal_not_own c.requires.from_fits c.requires.to_fits c.in_ok-way.field-0 (subst (λ (p : List (List ℕ)). c.in_ok-way.field-0 ≡ route_in (lists_of c.args.volume.now (g.P.SectorView.space c.args.space.now).content).catalog_pairs c.args.volume.now.private p c.args.above.now c.args.under.now c.args.name.now) c.as_slice.ensures (c.in_ok-way.ensures.found tells)) c.in-Ok.way c.in-Ok.is ((λ i. is_below (sym c.as_slice-in-Ok.ensures i) (sym c.as_slice-in-Ok-2.ensures i)) ∙ sym c.is_below.ensures ∙ c.if-is_below.true))).0
 
 pub returns-then-is_below-clause-tree : goal.returns-then-is_below-clause-tree
 returns-then-is_below-clause-tree g c tells =
-    ap (λ (k : Content). tree_of k) (c.route.ensures.reads.looks.content tells) ∙ (mv_refused_line (tree_of (g.P.SectorView.space c.args.space.now).content) c.args.from.now c.args.to.now refusal.Inside c.requires.not_own c.requires.goal_not_own (goes_inside c.sound_has_plain_tree.ensures c.args.volume.now (g.P.SectorView.space c.args.space.now).content (c.requires.stands.stands tells).trees (c.requires.settled tells) c.args.from.now c.args.to.now c.args.above.now c.args.under.now c.args.old.now c.args.name.now c.requires.split c.requires.goal_split c.requires.not_own c.requires.goal_not_own c.requires.from_fits c.requires.to_fits c.in_ok-way.field-0 (subst (λ (p : List (List ℕ)). c.in_ok-way.field-0 ≡ route_in (lists_of c.args.volume.now (g.P.SectorView.space c.args.space.now).content).catalog_pairs c.args.volume.now.private p c.args.above.now c.args.under.now c.args.name.now) c.as_slice.ensures (c.in_ok-way.ensures.found tells)) c.in-Ok.way c.in-Ok.is ((λ i. is_below (sym c.as_slice-in-Ok.ensures i) (sym c.as_slice-in-Ok-2.ensures i)) ∙ sym c.is_below.ensures ∙ c.if-is_below.true))).1
-
-pub returns-then-is_below-clause-touches : goal.returns-then-is_below-clause-touches
-returns-then-is_below-clause-touches g c committed = touches_looks committed _ (g.P.SectorView.space c.args.space.now) (g.P.SectorView.space c.route.new.space) c.route.ensures.reads.looks
-
-pub returns-in_err-way-clause-touches : goal.returns-in_err-way-clause-touches
-returns-in_err-way-clause-touches g c committed = touches_looks committed _ (g.P.SectorView.space c.args.space.now) (g.P.SectorView.space c.route.new.space) c.route.ensures.reads.looks
-
-pub returns-in_ok-move_in-in-Ok-clause-blocks : goal.returns-in_ok-move_in-in-Ok-clause-blocks
-returns-in_ok-move_in-in-Ok-clause-blocks g c = blocks_both c.args.volume.now c.route.new.self c.move_in.new.volume (blocks_read c.args.volume.now c.route.new.self (g.P.SectorView.space c.args.space.now) (g.P.SectorView.space c.route.new.space) c.route.ensures.reads) c.move_in.ensures.blocks
-
-pub returns-in_err-move_in-in-Ok-clause-blocks : goal.returns-in_err-move_in-in-Ok-clause-blocks
-returns-in_err-move_in-in-Ok-clause-blocks g c = blocks_both c.args.volume.now c.route.new.self c.move_in.new.volume (blocks_read c.args.volume.now c.route.new.self (g.P.SectorView.space c.args.space.now) (g.P.SectorView.space c.route.new.space) c.route.ensures.reads) c.move_in.ensures.blocks
-
-pub returns-in-Err-clause-blocks : goal.returns-in-Err-clause-blocks
-returns-in-Err-clause-blocks g c = blocks_read c.args.volume.now c.route.new.self (g.P.SectorView.space c.args.space.now) (g.P.SectorView.space c.route.new.space) c.route.ensures.reads
-
-pub returns-in_err-way-clause-blocks : goal.returns-in_err-way-clause-blocks
-returns-in_err-way-clause-blocks g c = blocks_read c.args.volume.now c.route.new.self (g.P.SectorView.space c.args.space.now) (g.P.SectorView.space c.route.new.space) c.route.ensures.reads
-
-pub returns-then-is_below-clause-blocks : goal.returns-then-is_below-clause-blocks
-returns-then-is_below-clause-blocks g c = blocks_read c.args.volume.now c.route.new.self (g.P.SectorView.space c.args.space.now) (g.P.SectorView.space c.route.new.space) c.route.ensures.reads
+    ap (λ (k : Content). tree_of k) (c.route.ensures.looked.reads.looks.content tells) ∙ (mv_refused_line (tree_of (g.P.SectorView.space c.args.space.now).content) c.args.from.now c.args.to.now refusal.Inside c.requires.not_own c.requires.goal_not_own (goes_inside c.sound_has_plain_tree.ensures c.args.volume.now (g.P.SectorView.space c.args.space.now).content (c.requires.serves.stands.stands tells).trees (c.requires.serves.settled tells) c.args.from.now c.args.to.now c.args.above.now c.args.under.now c.args.old.now c.args.name.now c.requires.split c.requires.goal_split c.requires.not_own c.requires.goal_not_own c.requires.from_fits c.requires.to_fits c.in_ok-way.field-0 (subst (λ (p : List (List ℕ)). c.in_ok-way.field-0 ≡ route_in (lists_of c.args.volume.now (g.P.SectorView.space c.args.space.now).content).catalog_pairs c.args.volume.now.private p c.args.above.now c.args.under.now c.args.name.now) c.as_slice.ensures (c.in_ok-way.ensures.found tells)) c.in-Ok.way c.in-Ok.is ((λ i. is_below (sym c.as_slice-in-Ok.ensures i) (sym c.as_slice-in-Ok-2.ensures i)) ∙ sym c.is_below.ensures ∙ c.if-is_below.true))).1
 
 pub returns-in_ok-move_in-in-Ok-clause-lists : goal.returns-in_ok-move_in-in-Ok-clause-lists
 returns-in_ok-move_in-in-Ok-clause-lists g c tells is = record {
-  entry = (way_told c.sound_has_plain_tree.ensures c.args.volume.now (g.P.SectorView.space c.args.space.now).content (c.requires.stands.stands tells).trees (c.requires.settled tells) c.args.from.now c.args.to.now c.args.above.now c.args.under.now c.args.old.now c.args.name.now c.requires.split c.requires.goal_split c.requires.not_own c.requires.goal_not_own c.requires.from_fits c.requires.to_fits c.in_ok-way.field-0 (subst (λ (p : List (List ℕ)). c.in_ok-way.field-0 ≡ route_in (lists_of c.args.volume.now (g.P.SectorView.space c.args.space.now).content).catalog_pairs c.args.volume.now.private p c.args.above.now c.args.under.now c.args.name.now) c.as_slice.ensures (c.in_ok-way.ensures.found tells)) c.in-Ok.way c.in-Ok.is).at;
+  entry = (way_told c.sound_has_plain_tree.ensures c.args.volume.now (g.P.SectorView.space c.args.space.now).content (c.requires.serves.stands.stands tells).trees (c.requires.serves.settled tells) c.args.from.now c.args.to.now c.args.above.now c.args.under.now c.args.old.now c.args.name.now c.requires.split c.requires.goal_split c.requires.not_own c.requires.goal_not_own c.requires.from_fits c.requires.to_fits c.in_ok-way.field-0 (subst (λ (p : List (List ℕ)). c.in_ok-way.field-0 ≡ route_in (lists_of c.args.volume.now (g.P.SectorView.space c.args.space.now).content).catalog_pairs c.args.volume.now.private p c.args.above.now c.args.under.now c.args.name.now) c.as_slice.ensures (c.in_ok-way.ensures.found tells)) c.in-Ok.way c.in-Ok.is).at;
   place = free_place c.in-Ok.way.folder c.args.name.now;
-  allowed = (may_go c.sound_has_plain_tree.ensures c.args.volume.now (g.P.SectorView.space c.args.space.now).content (c.requires.stands.stands tells).trees (c.requires.settled tells) c.args.from.now c.args.to.now c.args.above.now c.args.under.now c.args.old.now c.args.name.now c.requires.split c.requires.goal_split c.requires.not_own c.requires.goal_not_own c.requires.from_fits c.requires.to_fits c.in_ok-way.field-0 (subst (λ (p : List (List ℕ)). c.in_ok-way.field-0 ≡ route_in (lists_of c.args.volume.now (g.P.SectorView.space c.args.space.now).content).catalog_pairs c.args.volume.now.private p c.args.above.now c.args.under.now c.args.name.now) c.as_slice.ensures (c.in_ok-way.ensures.found tells)) c.in-Ok.way c.in-Ok.is ((λ i. is_below (sym c.as_slice-in-Ok.ensures i) (sym c.as_slice-in-Ok-2.ensures i)) ∙ sym c.is_below.ensures ∙ c.if-is_below.false)).allowed;
+  allowed = (may_go c.sound_has_plain_tree.ensures c.args.volume.now (g.P.SectorView.space c.args.space.now).content (c.requires.serves.stands.stands tells).trees (c.requires.serves.settled tells) c.args.from.now c.args.to.now c.args.above.now c.args.under.now c.args.old.now c.args.name.now c.requires.split c.requires.goal_split c.requires.not_own c.requires.goal_not_own c.requires.from_fits c.requires.to_fits c.in_ok-way.field-0 (subst (λ (p : List (List ℕ)). c.in_ok-way.field-0 ≡ route_in (lists_of c.args.volume.now (g.P.SectorView.space c.args.space.now).content).catalog_pairs c.args.volume.now.private p c.args.above.now c.args.under.now c.args.name.now) c.as_slice.ensures (c.in_ok-way.ensures.found tells)) c.in-Ok.way c.in-Ok.is ((λ i. is_below (sym c.as_slice-in-Ok.ensures i) (sym c.as_slice-in-Ok-2.ensures i)) ∙ sym c.is_below.ensures ∙ c.if-is_below.false)).allowed;
   named = some_name c.args.name.now (fits_name c.args.under.now c.args.name.now (subst FitsPath c.requires.goal_split c.requires.to_fits)).some;
-  moves = subst (λ (k : Content). MovesName (way_told c.sound_has_plain_tree.ensures c.args.volume.now (g.P.SectorView.space c.args.space.now).content (c.requires.stands.stands tells).trees (c.requires.settled tells) c.args.from.now c.args.to.now c.args.above.now c.args.under.now c.args.old.now c.args.name.now c.requires.split c.requires.goal_split c.requires.not_own c.requires.goal_not_own c.requires.from_fits c.requires.to_fits c.in_ok-way.field-0 (subst (λ (p : List (List ℕ)). c.in_ok-way.field-0 ≡ route_in (lists_of c.args.volume.now (g.P.SectorView.space c.args.space.now).content).catalog_pairs c.args.volume.now.private p c.args.above.now c.args.under.now c.args.name.now) c.as_slice.ensures (c.in_ok-way.ensures.found tells)) c.in-Ok.way c.in-Ok.is).at (free_place c.in-Ok.way.folder c.args.name.now) (volume_of k) (volume_of (g.P.SectorView.space c.move_in.new.space).content)) (c.route.ensures.reads.looks.content tells)
-      (c.in_ok-move_in-in-Ok.ensures.does (c.route.ensures.reads.looks.same.tells ∙ tells) c.args.from.now c.args.to.now (way_told c.sound_has_plain_tree.ensures c.args.volume.now (g.P.SectorView.space c.args.space.now).content (c.requires.stands.stands tells).trees (c.requires.settled tells) c.args.from.now c.args.to.now c.args.above.now c.args.under.now c.args.old.now c.args.name.now c.requires.split c.requires.goal_split c.requires.not_own c.requires.goal_not_own c.requires.from_fits c.requires.to_fits c.in_ok-way.field-0 (subst (λ (p : List (List ℕ)). c.in_ok-way.field-0 ≡ route_in (lists_of c.args.volume.now (g.P.SectorView.space c.args.space.now).content).catalog_pairs c.args.volume.now.private p c.args.above.now c.args.under.now c.args.name.now) c.as_slice.ensures (c.in_ok-way.ensures.found tells)) c.in-Ok.way c.in-Ok.is).at (subst (λ (k : Content). IsMove (tree_of k) c.args.from.now c.args.to.now (way_told c.sound_has_plain_tree.ensures c.args.volume.now (g.P.SectorView.space c.args.space.now).content (c.requires.stands.stands tells).trees (c.requires.settled tells) c.args.from.now c.args.to.now c.args.above.now c.args.under.now c.args.old.now c.args.name.now c.requires.split c.requires.goal_split c.requires.not_own c.requires.goal_not_own c.requires.from_fits c.requires.to_fits c.in_ok-way.field-0 (subst (λ (p : List (List ℕ)). c.in_ok-way.field-0 ≡ route_in (lists_of c.args.volume.now (g.P.SectorView.space c.args.space.now).content).catalog_pairs c.args.volume.now.private p c.args.above.now c.args.under.now c.args.name.now) c.as_slice.ensures (c.in_ok-way.ensures.found tells)) c.in-Ok.way c.in-Ok.is).at c.in-Ok.way.parent c.args.old.now c.in-Ok.way.id c.in-Ok.way.folder c.args.name.now) (sym (c.route.ensures.reads.looks.content tells)) (may_go c.sound_has_plain_tree.ensures c.args.volume.now (g.P.SectorView.space c.args.space.now).content (c.requires.stands.stands tells).trees (c.requires.settled tells) c.args.from.now c.args.to.now c.args.above.now c.args.under.now c.args.old.now c.args.name.now c.requires.split c.requires.goal_split c.requires.not_own c.requires.goal_not_own c.requires.from_fits c.requires.to_fits c.in_ok-way.field-0 (subst (λ (p : List (List ℕ)). c.in_ok-way.field-0 ≡ route_in (lists_of c.args.volume.now (g.P.SectorView.space c.args.space.now).content).catalog_pairs c.args.volume.now.private p c.args.above.now c.args.under.now c.args.name.now) c.as_slice.ensures (c.in_ok-way.ensures.found tells)) c.in-Ok.way c.in-Ok.is ((λ i. is_below (sym c.as_slice-in-Ok.ensures i) (sym c.as_slice-in-Ok-2.ensures i)) ∙ sym c.is_below.ensures ∙ c.if-is_below.false)))).2;
+  moves = subst (λ (k : Content). MovesName (way_told c.sound_has_plain_tree.ensures c.args.volume.now (g.P.SectorView.space c.args.space.now).content (c.requires.serves.stands.stands tells).trees (c.requires.serves.settled tells) c.args.from.now c.args.to.now c.args.above.now c.args.under.now c.args.old.now c.args.name.now c.requires.split c.requires.goal_split c.requires.not_own c.requires.goal_not_own c.requires.from_fits c.requires.to_fits c.in_ok-way.field-0 (subst (λ (p : List (List ℕ)). c.in_ok-way.field-0 ≡ route_in (lists_of c.args.volume.now (g.P.SectorView.space c.args.space.now).content).catalog_pairs c.args.volume.now.private p c.args.above.now c.args.under.now c.args.name.now) c.as_slice.ensures (c.in_ok-way.ensures.found tells)) c.in-Ok.way c.in-Ok.is).at (free_place c.in-Ok.way.folder c.args.name.now) (volume_of k) (volume_of (g.P.SectorView.space c.move_in.new.space).content)) (c.route.ensures.looked.reads.looks.content tells)
+      (c.in_ok-move_in-in-Ok.ensures.does (c.route.ensures.looked.reads.looks.same.tells ∙ tells) c.args.from.now c.args.to.now (way_told c.sound_has_plain_tree.ensures c.args.volume.now (g.P.SectorView.space c.args.space.now).content (c.requires.serves.stands.stands tells).trees (c.requires.serves.settled tells) c.args.from.now c.args.to.now c.args.above.now c.args.under.now c.args.old.now c.args.name.now c.requires.split c.requires.goal_split c.requires.not_own c.requires.goal_not_own c.requires.from_fits c.requires.to_fits c.in_ok-way.field-0 (subst (λ (p : List (List ℕ)). c.in_ok-way.field-0 ≡ route_in (lists_of c.args.volume.now (g.P.SectorView.space c.args.space.now).content).catalog_pairs c.args.volume.now.private p c.args.above.now c.args.under.now c.args.name.now) c.as_slice.ensures (c.in_ok-way.ensures.found tells)) c.in-Ok.way c.in-Ok.is).at (subst (λ (k : Content). IsMove (tree_of k) c.args.from.now c.args.to.now (way_told c.sound_has_plain_tree.ensures c.args.volume.now (g.P.SectorView.space c.args.space.now).content (c.requires.serves.stands.stands tells).trees (c.requires.serves.settled tells) c.args.from.now c.args.to.now c.args.above.now c.args.under.now c.args.old.now c.args.name.now c.requires.split c.requires.goal_split c.requires.not_own c.requires.goal_not_own c.requires.from_fits c.requires.to_fits c.in_ok-way.field-0 (subst (λ (p : List (List ℕ)). c.in_ok-way.field-0 ≡ route_in (lists_of c.args.volume.now (g.P.SectorView.space c.args.space.now).content).catalog_pairs c.args.volume.now.private p c.args.above.now c.args.under.now c.args.name.now) c.as_slice.ensures (c.in_ok-way.ensures.found tells)) c.in-Ok.way c.in-Ok.is).at c.in-Ok.way.parent c.args.old.now c.in-Ok.way.id c.in-Ok.way.folder c.args.name.now) (sym (c.route.ensures.looked.reads.looks.content tells)) (may_go c.sound_has_plain_tree.ensures c.args.volume.now (g.P.SectorView.space c.args.space.now).content (c.requires.serves.stands.stands tells).trees (c.requires.serves.settled tells) c.args.from.now c.args.to.now c.args.above.now c.args.under.now c.args.old.now c.args.name.now c.requires.split c.requires.goal_split c.requires.not_own c.requires.goal_not_own c.requires.from_fits c.requires.to_fits c.in_ok-way.field-0 (subst (λ (p : List (List ℕ)). c.in_ok-way.field-0 ≡ route_in (lists_of c.args.volume.now (g.P.SectorView.space c.args.space.now).content).catalog_pairs c.args.volume.now.private p c.args.above.now c.args.under.now c.args.name.now) c.as_slice.ensures (c.in_ok-way.ensures.found tells)) c.in-Ok.way c.in-Ok.is ((λ i. is_below (sym c.as_slice-in-Ok.ensures i) (sym c.as_slice-in-Ok-2.ensures i)) ∙ sym c.is_below.ensures ∙ c.if-is_below.false)))).2;
 }
 
 pub returns-in-Err-clause-lists : goal.returns-in-Err-clause-lists

@@ -9,12 +9,11 @@ use Rattle.hfs_volume.specs.Records.{id_in, is_thread}
 use Rattle.volume_base.specs.Changing.{ReplacesRecord}
 use Rattle.volume_names.specs.EditsLeft.{HasEditsLeft}
 use Rattle.volume_names.specs.PrivateFolder.{RecountsFolder}
-use Rattle.volume_base.proofs.Commanding.{touches_none}
 use Rattle.volume_base.proofs.FoundEntry.{ok_so}
 use Rattle.volume_names.proofs.PrivateRecount.{recounted_some, recounts_folder}
-use Rattle.volume_base.proofs.Besides.{blocks_edit, blocks_none}
 use Rattle.volume_base.proofs.Replaced.{node_large}
 use Rattle.volume_names.proofs.EditsLeft.{left_less, left_updated}
+use Rattle.volume_base.proofs.Framed.{edits_none}
 use Rattle.volume_names.proofs.private_folder.put_recounted.Goals as goal
 
 pub replace-requires-clause-kind : goal.replace-requires-clause-kind
@@ -37,17 +36,8 @@ returns-clause-counts g c tells folder fits =
 pub returns-in_default-clause-counts : goal.returns-in_default-clause-counts
 returns-in_default-clause-counts g c tells folder fits = absurd (recounted_some c.args.up c.args.entry.now.rec folder (sym (c.recounted.ensures.same fits) ∙ c.in_default.is))
 
-pub returns-in_default-clause-touches : goal.returns-in_default-clause-touches
-returns-in_default-clause-touches g c committed = touches_none committed _ (g.P.SectorView.space c.args.space.now)
-
-pub returns-in_default-clause-service : goal.returns-in_default-clause-service
-returns-in_default-clause-service g c = c.requires.stands.service
-
-pub returns-clause-blocks : goal.returns-clause-blocks
-returns-clause-blocks g c = blocks_edit c.args.volume.now c.replace.new.self c.replace.ensures.rest
-
-pub returns-in_default-clause-blocks : goal.returns-in_default-clause-blocks
-returns-in_default-clause-blocks g c = blocks_none c.args.volume.now
+pub returns-in_default-clause-edits : goal.returns-in_default-clause-edits
+returns-in_default-clause-edits g c = edits_none _ g.met.P.SectorView.follows_refl c.requires.stands
 
 pub returns-in_default-clause-left : goal.returns-in_default-clause-left
 returns-in_default-clause-left g c edits beside had = left_less c.args.volume.now (g.P.SectorView.space c.args.space.now) edits beside (λ tells. node_large c.args.volume.now (g.P.SectorView.space c.args.space.now) c.requires.stands tells) had
@@ -56,5 +46,5 @@ pub returns-clause-left : goal.returns-clause-left
 returns-clause-left g c edits beside had =
     let old = g.P.SectorView.space c.args.space.now in
     let new = g.P.SectorView.space c.replace.new.space in
-    ok_so (TakesUpdates 0 1 516 (state_of [] c.args.volume.now.catalog.file old) (state_of [] c.replace.new.self.catalog.file new)) (HasEditsLeft edits beside c.replace.new.self new) c.replace.result (c.replace.ensures.edits [])
-    (λ takes. left_updated c.args.volume.now c.replace.new.self old new edits beside (λ tells. node_large c.args.volume.now old c.requires.stands tells) (c.replace.ensures.touches old.content).same.tells takes had)
+    ok_so (TakesUpdates 0 1 516 (state_of [] c.args.volume.now.catalog.file old) (state_of [] c.replace.new.self.catalog.file new)) (HasEditsLeft edits beside c.replace.new.self new) c.replace.result (c.replace.ensures.updates [])
+    (λ takes. left_updated c.args.volume.now c.replace.new.self old new edits beside (λ tells. node_large c.args.volume.now old c.requires.stands tells) (c.replace.ensures.edits.ran.touches old.content).same.tells takes had)

@@ -5,9 +5,9 @@ use Rattle.cat_records.specs.declared.record.CatRecord.{CatRecord}
 use Rattle.hfs_volume.specs.Records.{is_thread}
 use Rattle.volume_base.specs.Changing.{ReplacesRecord}
 use Rattle.volume_names.specs.Changing.{SetsRights}
-use Rattle.volume_base.proofs.Commanding.{touches_none}
 use Rattle.volume_base.proofs.FoundEntry.{ok_so}
 use Rattle.volume_names.proofs.Righting.{kind_kept, mode_some}
+use Rattle.volume_base.proofs.Framed.{edits_none}
 use Rattle.volume_names.proofs.setting.put_mode.Goals as goal
 
 pub replace-requires-clause-kind : goal.replace-requires-clause-kind
@@ -28,8 +28,5 @@ returns-clause-sets g c tells kind =
 pub returns-in_default-clause-sets : goal.returns-in_default-clause-sets
 returns-in_default-clause-sets g c tells kind = absurd (mode_some c.args.volume.now.header.modify_date c.args.rights c.args.entry.now.rec kind (sym c.with_mode.ensures.same ∙ c.in_default.is))
 
-pub returns-in_default-clause-touches : goal.returns-in_default-clause-touches
-returns-in_default-clause-touches g c committed = touches_none committed _ (g.P.SectorView.space c.args.space.now)
-
-pub returns-in_default-clause-service : goal.returns-in_default-clause-service
-returns-in_default-clause-service g c = c.requires.stands.service
+pub returns-in_default-clause-edits : goal.returns-in_default-clause-edits
+returns-in_default-clause-edits g c = edits_none _ g.met.P.SectorView.follows_refl c.requires.stands

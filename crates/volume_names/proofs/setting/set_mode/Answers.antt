@@ -1,6 +1,5 @@
-use Rattle.std.proofs.Common.{◌≡◌, ◌≤◌, false, ℕ, List, length, sym, ◌∙◌, ap, subst, arith}
+use Rattle.std.proofs.Common.{◌≡◌, ◌≤◌, false, length, sym, ◌∙◌, ap, subst, arith}
 use Rattle.std.specs.Prelude.{Option, IfSome}
-use Rattle.std.specs.List.{Contains}
 use Rattle.cat_records.specs.Fits.{FitsRecord}
 use Rattle.catalog.specs.Pairs.{value_at}
 use Rattle.hfs_language.specs.declared.command.Command.TheVariants as command
@@ -11,20 +10,20 @@ use Rattle.hfs_volume.specs.Records.{is_thread}
 use Rattle.hfs_volume.specs.TreeOf.{tree_of}
 use Rattle.volume_names.specs.Changing.{SetsRights}
 use Rattle.volume_base.specs.Standing.{StandsOver, IsSettled}
-use Rattle.volume_base.specs.Touching.{Touches}
 use Rattle.volume_base.specs.declared.entries.Entry.{Entry}
 use Rattle.volume_names.proofs.ModeChanged.{mode_set}
-use Rattle.volume_base.proofs.Commanding.{touches_looks, touches_both}
 use Rattle.volume_base.proofs.FoundEntry.{entry_there, not_none, settled_spelled, room_still, node_still, ok_both}
-use Rattle.volume_base.proofs.Still.{lists_still, own_still, settled_still}
+use Rattle.volume_base.proofs.Still.{lists_still, settled_still}
 use Rattle.volume_base.proofs.ToNode.{node_there}
+use Rattle.volume_base.proofs.Framed.{edits_spent}
+use Rattle.volume_base.proofs.Joined.{edits_both}
 use Rattle.volume_names.proofs.setting.set_mode.Goals as goal
 
 pub entry-requires-clause-spelled : goal.entry-requires-clause-spelled
-entry-requires-clause-spelled g c tells = settled_spelled c.args.volume.now (g.P.SectorView.space c.args.space.now).content (c.requires.settled tells)
+entry-requires-clause-spelled g c tells = settled_spelled c.args.volume.now (g.P.SectorView.space c.args.space.now).content (c.requires.serves.settled tells)
 
 pub put_mode-requires-clause-spelled : goal.put_mode-requires-clause-spelled
-put_mode-requires-clause-spelled g c tells = settled_spelled c.entry.new.self (g.P.SectorView.space c.entry.new.space).content (settled_still c.args.volume.now c.entry.new.self (g.P.SectorView.space c.args.space.now) (g.P.SectorView.space c.entry.new.space) c.entry.ensures.reads (sym c.entry.ensures.reads.looks.same.tells ∙ tells) (c.requires.settled (sym c.entry.ensures.reads.looks.same.tells ∙ tells)))
+put_mode-requires-clause-spelled g c tells = settled_spelled c.entry.new.self (g.P.SectorView.space c.entry.new.space).content (settled_still c.args.volume.now c.entry.new.self (g.P.SectorView.space c.args.space.now) (g.P.SectorView.space c.entry.new.space) c.entry.ensures.looked.reads (sym c.entry.ensures.looked.reads.looks.same.tells ∙ tells) (c.requires.serves.settled (sym c.entry.ensures.looked.reads.looks.same.tells ∙ tells)))
 
 pub put_mode-requires-clause-name : goal.put_mode-requires-clause-name
 put_mode-requires-clause-name g c = subst (λ (o : Option Entry). IfSome o (λ entry. length entry.name ≤ 255)) c.in-Some.is c.in_ok-entry.ensures.name
@@ -34,57 +33,32 @@ put_mode-requires-clause-fits g c = subst (λ (o : Option Entry). IfSome o (λ e
 
 pub put_mode-requires-clause-there : goal.put_mode-requires-clause-there
 put_mode-requires-clause-there g c tells =
-    let before = (sym c.entry.ensures.reads.looks.same.tells ∙ tells) in
-    let there = c.requires.there (sym c.entry.ensures.reads.looks.same.tells ∙ tells) in
-    let it = entry_there c.args.volume.now (g.P.SectorView.space c.args.space.now).content (c.requires.stands.stands (sym c.entry.ensures.reads.looks.same.tells ∙ tells)).trees (c.requires.settled (sym c.entry.ensures.reads.looks.same.tells ∙ tells)) c.args.id there.0 there.1 there.2 c.in-Some.entry (sym c.in-Some.is ∙ c.in_ok-entry.ensures.found (sym c.entry.ensures.reads.looks.same.tells ∙ tells)) in
-    ap (λ (l : VolumeState). value_at l.catalog_pairs c.in-Some.entry.parent c.in-Some.entry.name) (lists_still c.args.volume.now c.entry.new.self (g.P.SectorView.space c.args.space.now) (g.P.SectorView.space c.entry.new.space) c.entry.ensures.reads (sym c.entry.ensures.reads.looks.same.tells ∙ tells)) ∙ it.value
+    let before = (sym c.entry.ensures.looked.reads.looks.same.tells ∙ tells) in
+    let there = c.requires.there (sym c.entry.ensures.looked.reads.looks.same.tells ∙ tells) in
+    let it = entry_there c.args.volume.now (g.P.SectorView.space c.args.space.now).content (c.requires.serves.stands.stands (sym c.entry.ensures.looked.reads.looks.same.tells ∙ tells)).trees (c.requires.serves.settled (sym c.entry.ensures.looked.reads.looks.same.tells ∙ tells)) c.args.id there.0 there.1 there.2 c.in-Some.entry (sym c.in-Some.is ∙ c.in_ok-entry.ensures.found (sym c.entry.ensures.looked.reads.looks.same.tells ∙ tells)) in
+    ap (λ (l : VolumeState). value_at l.catalog_pairs c.in-Some.entry.parent c.in-Some.entry.name) (lists_still c.args.volume.now c.entry.new.self (g.P.SectorView.space c.args.space.now) (g.P.SectorView.space c.entry.new.space) c.entry.ensures.looked.reads (sym c.entry.ensures.looked.reads.looks.same.tells ∙ tells)) ∙ it.value
 
 pub put_mode-requires-clause-room : goal.put_mode-requires-clause-room
-put_mode-requires-clause-room g c = room_still c.args.volume.now c.entry.new.self (g.P.SectorView.space c.args.space.now) (g.P.SectorView.space c.entry.new.space) c.entry.ensures.reads c.requires.room
+put_mode-requires-clause-room g c = room_still c.args.volume.now c.entry.new.self (g.P.SectorView.space c.args.space.now) (g.P.SectorView.space c.entry.new.space) c.entry.ensures.looked.reads c.requires.room
 
 pub returns-in-Some-clause-does : goal.returns-in-Some-clause-does
 returns-in-Some-clause-does g c tells path node allowed number =
-    let later = (c.entry.ensures.reads.looks.same.tells ∙ tells) in
-    let it = entry_there c.args.volume.now (g.P.SectorView.space c.args.space.now).content (c.requires.stands.stands tells).trees (c.requires.settled tells) c.args.id node (node_there (tree_of (g.P.SectorView.space c.args.space.now).content) path node allowed) number c.in-Some.entry (sym c.in-Some.is ∙ c.in_ok-entry.ensures.found tells) in
-    let there = ap (λ (l : VolumeState). value_at l.catalog_pairs c.in-Some.entry.parent c.in-Some.entry.name) (lists_still c.args.volume.now c.entry.new.self (g.P.SectorView.space c.args.space.now) (g.P.SectorView.space c.entry.new.space) c.entry.ensures.reads tells) ∙ it.value in
+    let later = (c.entry.ensures.looked.reads.looks.same.tells ∙ tells) in
+    let it = entry_there c.args.volume.now (g.P.SectorView.space c.args.space.now).content (c.requires.serves.stands.stands tells).trees (c.requires.serves.settled tells) c.args.id node (node_there (tree_of (g.P.SectorView.space c.args.space.now).content) path node allowed) number c.in-Some.entry (sym c.in-Some.is ∙ c.in_ok-entry.ensures.found tells) in
+    let there = ap (λ (l : VolumeState). value_at l.catalog_pairs c.in-Some.entry.parent c.in-Some.entry.name) (lists_still c.args.volume.now c.entry.new.self (g.P.SectorView.space c.args.space.now) (g.P.SectorView.space c.entry.new.space) c.entry.ensures.looked.reads tells) ∙ it.value in
     ok_both (StandsOver c.put_mode.new.volume (g.P.SectorView.space c.put_mode.new.space)) (SetsRights c.entry.new.self.header.modify_date c.args.rights c.in-Some.entry c.entry.new.self c.put_mode.new.volume (g.P.SectorView.space c.entry.new.space).content (g.P.SectorView.space c.put_mode.new.space).content)
     (IsSettled c.put_mode.new.volume (g.P.SectorView.space c.put_mode.new.space).content × (tree_of (g.P.SectorView.space c.put_mode.new.space).content ≡ (step (tree_of (g.P.SectorView.space c.args.space.now).content) (command.Chmod path c.args.rights)).1) × ChangesMode c.args.id c.args.rights (volume_of (g.P.SectorView.space c.args.space.now).content) (volume_of (g.P.SectorView.space c.put_mode.new.space).content))
-    c.put_mode.result c.put_mode.ensures.stands (c.put_mode.ensures.sets (c.entry.ensures.reads.looks.same.tells ∙ tells) it.kind)
-    (λ stands sets. let does = mode_set c.chmod_does_its_step.ensures c.soundness_has_two_halves.ensures c.entry.new.self c.put_mode.new.volume (g.P.SectorView.space c.entry.new.space) (g.P.SectorView.space c.put_mode.new.space) (settled_still c.args.volume.now c.entry.new.self (g.P.SectorView.space c.args.space.now) (g.P.SectorView.space c.entry.new.space) c.entry.ensures.reads tells (c.requires.settled tells)) c.entry.ensures.stands (c.entry.ensures.reads.looks.same.tells ∙ tells)
-    (c.put_mode.ensures.touches (g.P.SectorView.space c.args.space.now).content).same.tells c.in-Some.entry c.args.rights c.requires.rights there (g.P.SectorView.space c.args.space.now).content (c.entry.ensures.reads.looks.content tells) path node allowed (number ∙ sym it.number) stands sets in (does.0, does.1, subst (λ n. ChangesMode n c.args.rights (volume_of (g.P.SectorView.space c.args.space.now).content) (volume_of (g.P.SectorView.space c.put_mode.new.space).content)) it.number does.2))
+    c.put_mode.result c.put_mode.ensures.edits.ran.stands (c.put_mode.ensures.sets (c.entry.ensures.looked.reads.looks.same.tells ∙ tells) it.kind)
+    (λ stands sets. let does = mode_set c.chmod_does_its_step.ensures c.soundness_has_two_halves.ensures c.entry.new.self c.put_mode.new.volume (g.P.SectorView.space c.entry.new.space) (g.P.SectorView.space c.put_mode.new.space) (settled_still c.args.volume.now c.entry.new.self (g.P.SectorView.space c.args.space.now) (g.P.SectorView.space c.entry.new.space) c.entry.ensures.looked.reads tells (c.requires.serves.settled tells)) c.entry.ensures.looked.stands (c.entry.ensures.looked.reads.looks.same.tells ∙ tells)
+    (c.put_mode.ensures.edits.ran.touches (g.P.SectorView.space c.args.space.now).content).same.tells c.in-Some.entry c.args.rights c.requires.rights there (g.P.SectorView.space c.args.space.now).content (c.entry.ensures.looked.reads.looks.content tells) path node allowed (number ∙ sym it.number) stands sets in (does.0, does.1, subst (λ n. ChangesMode n c.args.rights (volume_of (g.P.SectorView.space c.args.space.now).content) (volume_of (g.P.SectorView.space c.put_mode.new.space).content)) it.number does.2))
 
-pub returns-in-Some-clause-touches : goal.returns-in-Some-clause-touches
-returns-in-Some-clause-touches g c committed =
-    touches_both committed _ (g.P.SectorView.space c.args.space.now) (g.P.SectorView.space c.entry.new.space) (g.P.SectorView.space c.put_mode.new.space) (touches_looks committed _ (g.P.SectorView.space c.args.space.now) (g.P.SectorView.space c.entry.new.space) c.entry.ensures.reads.looks)
-    (subst (λ (l : List ℕ). Touches committed (λ s. Contains l s) (g.P.SectorView.space c.entry.new.space) (g.P.SectorView.space c.put_mode.new.space)) (own_still c.args.volume.now c.entry.new.self (g.P.SectorView.space c.args.space.now) (g.P.SectorView.space c.entry.new.space) c.entry.ensures.reads) (c.put_mode.ensures.touches committed))
-
-pub returns-in-Some-clause-below : goal.returns-in-Some-clause-below
-returns-in-Some-clause-below g c = g.met.P.SectorView.follows_trans c.args.space.now c.entry.new.space c.put_mode.new.space c.entry.ensures.below c.put_mode.ensures.below
-
-pub returns-in-Some-clause-spent : goal.returns-in-Some-clause-spent
-returns-in-Some-clause-spent g c tells = omega (arith, c.entry.ensures.reads.looks.spare, c.put_mode.ensures.spent (c.entry.ensures.reads.looks.same.tells ∙ tells), node_still c.args.volume.now c.entry.new.self (g.P.SectorView.space c.args.space.now) (g.P.SectorView.space c.entry.new.space) c.entry.ensures.reads)
+pub returns-in-Some-clause-edits : goal.returns-in-Some-clause-edits
+returns-in-Some-clause-edits g c =
+    edits_spent (edits_both g.met.P.SectorView.follows_trans c.entry.ensures.looked.edits c.put_mode.ensures.edits) (λ tells. omega (arith, c.entry.ensures.looked.reads.looks.spare, c.put_mode.ensures.edits.ran.spent (c.entry.ensures.looked.reads.looks.same.tells ∙ tells), node_still c.args.volume.now c.entry.new.self (g.P.SectorView.space c.args.space.now) (g.P.SectorView.space c.entry.new.space) c.entry.ensures.looked.reads))
 
 pub returns-in-None-clause-does : goal.returns-in-None-clause-does
 returns-in-None-clause-does g c tells path node allowed number =
-    absurd (not_none c.args.volume.now (g.P.SectorView.space c.args.space.now).content (c.requires.stands.stands tells).trees (c.requires.settled tells) c.args.id node (node_there (tree_of (g.P.SectorView.space c.args.space.now).content) path node allowed) number (sym c.in-None.is ∙ c.in_ok-entry.ensures.found tells))
-
-pub returns-in-None-clause-touches : goal.returns-in-None-clause-touches
-returns-in-None-clause-touches g c committed = touches_looks committed _ (g.P.SectorView.space c.args.space.now) (g.P.SectorView.space c.entry.new.space) c.entry.ensures.reads.looks
-
-pub returns-in-None-clause-spent : goal.returns-in-None-clause-spent
-returns-in-None-clause-spent g c tells = omega (arith, c.entry.ensures.reads.looks.spare)
-
-pub returns-in-None-clause-service : goal.returns-in-None-clause-service
-returns-in-None-clause-service g c = c.entry.ensures.stands.service
-
-pub returns-in_err-entry-clause-touches : goal.returns-in_err-entry-clause-touches
-returns-in_err-entry-clause-touches g c committed = touches_looks committed _ (g.P.SectorView.space c.args.space.now) (g.P.SectorView.space c.entry.new.space) c.entry.ensures.reads.looks
-
-pub returns-in_err-entry-clause-spent : goal.returns-in_err-entry-clause-spent
-returns-in_err-entry-clause-spent g c tells = omega (arith, c.entry.ensures.reads.looks.spare)
-
-pub returns-in_err-entry-clause-service : goal.returns-in_err-entry-clause-service
-returns-in_err-entry-clause-service g c = c.entry.ensures.stands.service
+    absurd (not_none c.args.volume.now (g.P.SectorView.space c.args.space.now).content (c.requires.serves.stands.stands tells).trees (c.requires.serves.settled tells) c.args.id node (node_there (tree_of (g.P.SectorView.space c.args.space.now).content) path node allowed) number (sym c.in-None.is ∙ c.in_ok-entry.ensures.found tells))
 
 pub returns-in-Some-clause-rest : goal.returns-in-Some-clause-rest
 returns-in-Some-clause-rest g c = c.put_mode.ensures.rest ∙ (λ i. record (c.entry.ensures.rest i) { catalog = c.put_mode.new.volume.catalog })

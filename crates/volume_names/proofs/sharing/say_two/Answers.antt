@@ -1,21 +1,19 @@
-use Rattle.std.proofs.Common.{◌≡◌, ◌+◌, ◌≤◌, false, ℕ, List, length, sym, ◌∙◌, ap, subst, arith}
+use Rattle.std.proofs.Common.{◌≡◌, ◌+◌, ◌≤◌, false, ℕ, length, sym, ◌∙◌, ap, subst, arith}
 use Rattle.std.specs.Prelude.{Option, IfSome}
-use Rattle.std.specs.List.{Contains}
 use Rattle.cat_records.specs.Fits.{FitsRecord}
 use Rattle.catalog.specs.Pairs.{value_at}
 use Rattle.hfs_volume.specs.Content.{VolumeState}
 use Rattle.hfs_volume.specs.Entries.{AreSpelled}
 use Rattle.hfs_volume.specs.Records.{id_in, is_thread}
 use Rattle.volume_names.specs.Unlinking.{SaysLinks, links_in}
-use Rattle.volume_base.specs.Touching.{Touches}
 use Rattle.volume_base.specs.declared.entries.Entry.{Entry}
-use Rattle.volume_base.proofs.Commanding.{touches_looks, touches_both}
 use Rattle.volume_base.proofs.FoundEntry.{room_still, ok_so, node_still}
 use Rattle.volume_base.proofs.UpdateRoom.{room_less, updates_still}
 use Rattle.volume_names.proofs.Unlinked.{shared_not_none, shared_there}
 use Rattle.volume_names.proofs.Shared.{says_read}
-use Rattle.volume_base.proofs.Still.{lists_still, own_still}
-use Rattle.volume_base.proofs.Besides.{blocks_both, blocks_edit}
+use Rattle.volume_base.proofs.Still.{lists_still}
+use Rattle.volume_base.proofs.Framed.{edits_spent}
+use Rattle.volume_base.proofs.Joined.{edits_both}
 use Rattle.volume_names.proofs.sharing.say_two.Goals as goal
 
 pub entry-requires-clause-spelled : goal.entry-requires-clause-spelled
@@ -23,9 +21,9 @@ entry-requires-clause-spelled g c tells = (c.requires.threads tells).spelled
 
 pub put_links-requires-clause-spelled : goal.put_links-requires-clause-spelled
 put_links-requires-clause-spelled g c tells =
-    let before = sym c.entry.ensures.reads.looks.same.tells ∙ tells in
-    subst (λ (l : VolumeState). AreSpelled l.catalog_pairs) (sym (lists_still c.args.volume.now c.entry.new.self (g.P.SectorView.space c.args.space.now) (g.P.SectorView.space c.entry.new.space) c.entry.ensures.reads (sym c.entry.ensures.reads.looks.same.tells ∙ tells)))
-    (c.requires.threads (sym c.entry.ensures.reads.looks.same.tells ∙ tells)).spelled
+    let before = sym c.entry.ensures.looked.reads.looks.same.tells ∙ tells in
+    subst (λ (l : VolumeState). AreSpelled l.catalog_pairs) (sym (lists_still c.args.volume.now c.entry.new.self (g.P.SectorView.space c.args.space.now) (g.P.SectorView.space c.entry.new.space) c.entry.ensures.looked.reads (sym c.entry.ensures.looked.reads.looks.same.tells ∙ tells)))
+    (c.requires.threads (sym c.entry.ensures.looked.reads.looks.same.tells ∙ tells)).spelled
 
 pub put_links-requires-clause-name : goal.put_links-requires-clause-name
 put_links-requires-clause-name g c = subst (λ (o : Option Entry). IfSome o (λ entry. length entry.name ≤ 255)) c.in-Some.is c.in_ok-entry.ensures.name
@@ -35,79 +33,36 @@ put_links-requires-clause-fits g c = subst (λ (o : Option Entry). IfSome o (λ 
 
 pub put_links-requires-clause-there : goal.put_links-requires-clause-there
 put_links-requires-clause-there g c tells =
-    let before = sym c.entry.ensures.reads.looks.same.tells ∙ tells in
-    let it = shared_there c.args.volume.now (g.P.SectorView.space c.args.space.now).content (c.requires.stands.stands (sym c.entry.ensures.reads.looks.same.tells ∙ tells)).trees (c.requires.threads (sym c.entry.ensures.reads.looks.same.tells ∙ tells)) c.args.id (c.requires.there (sym c.entry.ensures.reads.looks.same.tells ∙ tells)) c.in-Some.entry
-    (sym c.in-Some.is ∙ c.in_ok-entry.ensures.found (sym c.entry.ensures.reads.looks.same.tells ∙ tells)) in
-    ap (λ (l : VolumeState). value_at l.catalog_pairs c.in-Some.entry.parent c.in-Some.entry.name) (lists_still c.args.volume.now c.entry.new.self (g.P.SectorView.space c.args.space.now) (g.P.SectorView.space c.entry.new.space) c.entry.ensures.reads (sym c.entry.ensures.reads.looks.same.tells ∙ tells)) ∙ it.value
+    let before = sym c.entry.ensures.looked.reads.looks.same.tells ∙ tells in
+    let it = shared_there c.args.volume.now (g.P.SectorView.space c.args.space.now).content (c.requires.stands.stands (sym c.entry.ensures.looked.reads.looks.same.tells ∙ tells)).trees (c.requires.threads (sym c.entry.ensures.looked.reads.looks.same.tells ∙ tells)) c.args.id (c.requires.there (sym c.entry.ensures.looked.reads.looks.same.tells ∙ tells)) c.in-Some.entry
+    (sym c.in-Some.is ∙ c.in_ok-entry.ensures.found (sym c.entry.ensures.looked.reads.looks.same.tells ∙ tells)) in
+    ap (λ (l : VolumeState). value_at l.catalog_pairs c.in-Some.entry.parent c.in-Some.entry.name) (lists_still c.args.volume.now c.entry.new.self (g.P.SectorView.space c.args.space.now) (g.P.SectorView.space c.entry.new.space) c.entry.ensures.looked.reads (sym c.entry.ensures.looked.reads.looks.same.tells ∙ tells)) ∙ it.value
 
 pub put_links-requires-clause-room : goal.put_links-requires-clause-room
-put_links-requires-clause-room g c = room_still c.args.volume.now c.entry.new.self (g.P.SectorView.space c.args.space.now) (g.P.SectorView.space c.entry.new.space) c.entry.ensures.reads c.requires.room
+put_links-requires-clause-room g c = room_still c.args.volume.now c.entry.new.self (g.P.SectorView.space c.args.space.now) (g.P.SectorView.space c.entry.new.space) c.entry.ensures.looked.reads c.requires.room
 
 pub returns-in-Some-clause-says : goal.returns-in-Some-clause-says
 returns-in-Some-clause-says g c tells =
     let it = shared_there c.args.volume.now (g.P.SectorView.space c.args.space.now).content (c.requires.stands.stands tells).trees (c.requires.threads tells) c.args.id (c.requires.there tells) c.in-Some.entry (sym c.in-Some.is ∙ c.in_ok-entry.ensures.found tells) in
     ok_so (SaysLinks (id_in c.in-Some.entry.rec) 2 (links_in c.in-Some.entry.rec) c.entry.new.self c.put_links.new.volume (g.P.SectorView.space c.entry.new.space).content (g.P.SectorView.space c.put_links.new.space).content)
     ((had : ℕ) × SaysLinks c.args.id 2 had c.args.volume.now c.put_links.new.volume (g.P.SectorView.space c.args.space.now).content (g.P.SectorView.space c.put_links.new.space).content)
-    c.put_links.result (c.put_links.ensures.counts (c.entry.ensures.reads.looks.same.tells ∙ tells) it.file it.plain)
+    c.put_links.result (c.put_links.ensures.counts (c.entry.ensures.looked.reads.looks.same.tells ∙ tells) it.file it.plain)
     (λ t. (
       links_in c.in-Some.entry.rec,
-      says_read c.args.volume.now c.entry.new.self (g.P.SectorView.space c.args.space.now) (g.P.SectorView.space c.entry.new.space) c.entry.ensures.reads tells c.entry.ensures.rest c.args.id 2 (links_in c.in-Some.entry.rec) c.put_links.new.volume (g.P.SectorView.space c.put_links.new.space).content
+      says_read c.args.volume.now c.entry.new.self (g.P.SectorView.space c.args.space.now) (g.P.SectorView.space c.entry.new.space) c.entry.ensures.looked.reads tells c.entry.ensures.rest c.args.id 2 (links_in c.in-Some.entry.rec) c.put_links.new.volume (g.P.SectorView.space c.put_links.new.space).content
           (subst (λ id. SaysLinks id 2 (links_in c.in-Some.entry.rec) c.entry.new.self c.put_links.new.volume (g.P.SectorView.space c.entry.new.space).content (g.P.SectorView.space c.put_links.new.space).content) it.number t),
     ))
 
-pub returns-in-Some-clause-touches : goal.returns-in-Some-clause-touches
-returns-in-Some-clause-touches g c committed =
-    touches_both committed _ (g.P.SectorView.space c.args.space.now) (g.P.SectorView.space c.entry.new.space) (g.P.SectorView.space c.put_links.new.space) (touches_looks committed _ (g.P.SectorView.space c.args.space.now) (g.P.SectorView.space c.entry.new.space) c.entry.ensures.reads.looks)
-    (subst (λ (l : List ℕ). Touches committed (λ s. Contains l s) (g.P.SectorView.space c.entry.new.space) (g.P.SectorView.space c.put_links.new.space)) (own_still c.args.volume.now c.entry.new.self (g.P.SectorView.space c.args.space.now) (g.P.SectorView.space c.entry.new.space) c.entry.ensures.reads) (c.put_links.ensures.touches committed))
-
-pub returns-in-Some-clause-below : goal.returns-in-Some-clause-below
-returns-in-Some-clause-below g c = g.met.P.SectorView.follows_trans c.args.space.now c.entry.new.space c.put_links.new.space c.entry.ensures.below c.put_links.ensures.below
+pub returns-in-Some-clause-edits : goal.returns-in-Some-clause-edits
+returns-in-Some-clause-edits g c =
+    edits_spent (edits_both g.met.P.SectorView.follows_trans c.entry.ensures.looked.edits c.put_links.ensures.edits) (λ tells. omega (arith, c.entry.ensures.looked.reads.looks.spare, c.put_links.ensures.edits.ran.spent (c.entry.ensures.looked.reads.looks.same.tells ∙ tells), node_still c.args.volume.now c.entry.new.self (g.P.SectorView.space c.args.space.now) (g.P.SectorView.space c.entry.new.space) c.entry.ensures.looked.reads))
 
 pub returns-in-None-clause-says : goal.returns-in-None-clause-says
 returns-in-None-clause-says g c tells =
     absurd (shared_not_none c.args.volume.now (g.P.SectorView.space c.args.space.now).content (c.requires.stands.stands tells).trees (c.requires.threads tells) c.args.id (c.requires.there tells) (sym c.in-None.is ∙ c.in_ok-entry.ensures.found tells))
 
-pub returns-in-None-clause-touches : goal.returns-in-None-clause-touches
-returns-in-None-clause-touches g c committed = touches_looks committed _ (g.P.SectorView.space c.args.space.now) (g.P.SectorView.space c.entry.new.space) c.entry.ensures.reads.looks
-
-pub returns-in-None-clause-service : goal.returns-in-None-clause-service
-returns-in-None-clause-service g c = c.entry.ensures.stands.service
-
-pub returns-in_err-entry-clause-touches : goal.returns-in_err-entry-clause-touches
-returns-in_err-entry-clause-touches g c committed = touches_looks committed _ (g.P.SectorView.space c.args.space.now) (g.P.SectorView.space c.entry.new.space) c.entry.ensures.reads.looks
-
-pub returns-in_err-entry-clause-service : goal.returns-in_err-entry-clause-service
-returns-in_err-entry-clause-service g c = c.entry.ensures.stands.service
-
-pub returns-in-Some-clause-own : goal.returns-in-Some-clause-own
-returns-in-Some-clause-own g c = c.put_links.ensures.own ∙ own_still c.args.volume.now c.entry.new.self (g.P.SectorView.space c.args.space.now) (g.P.SectorView.space c.entry.new.space) c.entry.ensures.reads
-
-pub returns-in-None-clause-own : goal.returns-in-None-clause-own
-returns-in-None-clause-own g c = own_still c.args.volume.now c.entry.new.self (g.P.SectorView.space c.args.space.now) (g.P.SectorView.space c.entry.new.space) c.entry.ensures.reads
-
-pub returns-in_err-entry-clause-own : goal.returns-in_err-entry-clause-own
-returns-in_err-entry-clause-own g c = own_still c.args.volume.now c.entry.new.self (g.P.SectorView.space c.args.space.now) (g.P.SectorView.space c.entry.new.space) c.entry.ensures.reads
-
-pub returns-in-Some-clause-blocks : goal.returns-in-Some-clause-blocks
-returns-in-Some-clause-blocks g c = blocks_both c.args.volume.now c.entry.new.self c.put_links.new.volume (blocks_edit c.args.volume.now c.entry.new.self c.entry.ensures.rest) c.put_links.ensures.blocks
-
-pub returns-in-None-clause-blocks : goal.returns-in-None-clause-blocks
-returns-in-None-clause-blocks g c = blocks_edit c.args.volume.now c.entry.new.self c.entry.ensures.rest
-
-pub returns-in_err-entry-clause-blocks : goal.returns-in_err-entry-clause-blocks
-returns-in_err-entry-clause-blocks g c = blocks_edit c.args.volume.now c.entry.new.self c.entry.ensures.rest
-
 pub returns-in-Some-clause-room : goal.returns-in-Some-clause-room
-returns-in-Some-clause-room g c many room = c.put_links.ensures.room many (updates_still (many + 1) c.args.volume.now c.entry.new.self (g.P.SectorView.space c.args.space.now) (g.P.SectorView.space c.entry.new.space) c.entry.ensures.reads room)
+returns-in-Some-clause-room g c many room = c.put_links.ensures.room many (updates_still (many + 1) c.args.volume.now c.entry.new.self (g.P.SectorView.space c.args.space.now) (g.P.SectorView.space c.entry.new.space) c.entry.ensures.looked.reads room)
 
 pub returns-in-None-clause-room : goal.returns-in-None-clause-room
-returns-in-None-clause-room g c many room = room_less many c.entry.new.self (g.P.SectorView.space c.entry.new.space) (updates_still (many + 1) c.args.volume.now c.entry.new.self (g.P.SectorView.space c.args.space.now) (g.P.SectorView.space c.entry.new.space) c.entry.ensures.reads room)
-
-pub returns-in-Some-clause-spent : goal.returns-in-Some-clause-spent
-returns-in-Some-clause-spent g c tells = omega (arith, c.entry.ensures.reads.looks.spare, c.put_links.ensures.spent (c.entry.ensures.reads.looks.same.tells ∙ tells), node_still c.args.volume.now c.entry.new.self (g.P.SectorView.space c.args.space.now) (g.P.SectorView.space c.entry.new.space) c.entry.ensures.reads)
-
-pub returns-in-None-clause-spent : goal.returns-in-None-clause-spent
-returns-in-None-clause-spent g c tells = omega (arith, c.entry.ensures.reads.looks.spare)
-
-pub returns-in_err-entry-clause-spent : goal.returns-in_err-entry-clause-spent
-returns-in_err-entry-clause-spent g c tells = omega (arith, c.entry.ensures.reads.looks.spare)
+returns-in-None-clause-room g c many room = room_less many c.entry.new.self (g.P.SectorView.space c.entry.new.space) (updates_still (many + 1) c.args.volume.now c.entry.new.self (g.P.SectorView.space c.args.space.now) (g.P.SectorView.space c.entry.new.space) c.entry.ensures.looked.reads room)

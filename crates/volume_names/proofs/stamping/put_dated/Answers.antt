@@ -6,11 +6,10 @@ use Rattle.catalog.specs.Entries.{IsOfKind}
 use Rattle.hfs_volume.specs.Records.{id_in, is_thread}
 use Rattle.volume_base.specs.Changing.{ReplacesRecord}
 use Rattle.volume_names.specs.Changing.{DatesEntry}
-use Rattle.volume_base.proofs.Commanding.{touches_none}
 use Rattle.volume_base.proofs.FoundEntry.{ok_so}
 use Rattle.volume_names.proofs.Redating.{dated_some, dates_entry}
 use Rattle.volume_base.proofs.UpdateRoom.{room_less}
-use Rattle.volume_base.proofs.Besides.{blocks_edit, blocks_none}
+use Rattle.volume_base.proofs.Framed.{edits_none}
 use Rattle.volume_names.proofs.stamping.put_dated.Goals as goal
 
 pub replace-requires-clause-kind : goal.replace-requires-clause-kind
@@ -33,17 +32,8 @@ returns-clause-dates g c tells kind =
 pub returns-in_default-clause-dates : goal.returns-in_default-clause-dates
 returns-in_default-clause-dates g c tells kind = absurd (dated_some c.args.volume.now.header.modify_date c.args.entry.now.rec kind (sym c.dated.ensures.same ∙ c.in_default.is))
 
-pub returns-in_default-clause-touches : goal.returns-in_default-clause-touches
-returns-in_default-clause-touches g c committed = touches_none committed _ (g.P.SectorView.space c.args.space.now)
-
-pub returns-in_default-clause-service : goal.returns-in_default-clause-service
-returns-in_default-clause-service g c = c.requires.stands.service
+pub returns-in_default-clause-edits : goal.returns-in_default-clause-edits
+returns-in_default-clause-edits g c = edits_none _ g.met.P.SectorView.follows_refl c.requires.stands
 
 pub returns-in_default-clause-room : goal.returns-in_default-clause-room
 returns-in_default-clause-room g c many room = room_less many c.args.volume.now (g.P.SectorView.space c.args.space.now) room
-
-pub returns-clause-blocks : goal.returns-clause-blocks
-returns-clause-blocks g c = blocks_edit c.args.volume.now c.replace.new.self c.replace.ensures.rest
-
-pub returns-in_default-clause-blocks : goal.returns-in_default-clause-blocks
-returns-in_default-clause-blocks g c = blocks_none c.args.volume.now

@@ -1,6 +1,5 @@
-use Rattle.std.proofs.Common.{◌≡◌, ◌≤◌, ℕ, List, length, sym, ◌∙◌, ap, subst, arith, inl}
+use Rattle.std.proofs.Common.{◌≡◌, ◌≤◌, length, sym, ◌∙◌, ap, subst, arith, inl}
 use Rattle.std.specs.Prelude.{OnOk, Option, IfSome}
-use Rattle.std.specs.List.{Contains}
 use Rattle.sector_disk.specs.Lists.{Content}
 use Rattle.hard_links.specs.Linking.{NamesLink}
 use Rattle.hfs_language.specs.declared.command.Command.TheVariants as command
@@ -10,88 +9,61 @@ use Rattle.hfs_volume.specs.TreeOf.{tree_of}
 use Rattle.volume_base.specs.Entering.{entry_by_id}
 use Rattle.volume_base.specs.Losing.{IsLoss}
 use Rattle.volume_base.specs.Standing.{IsSettled}
-use Rattle.volume_base.specs.Touching.{Touches}
 use Rattle.volume_names.specs.Unlinking.{LosesLink}
 use Rattle.volume_base.specs.declared.entries.Entry.{Entry}
-use Rattle.volume_base.proofs.Besides.{blocks_both, blocks_edit}
-use Rattle.volume_base.proofs.Commanding.{touches_both, touches_looks}
 use Rattle.volume_base.proofs.FoundEntry.{settled_threads}
 use Rattle.volume_base.proofs.RoomToRemove.{remove_room_still}
-use Rattle.volume_base.proofs.Still.{lists_still, own_still, settled_still}
+use Rattle.volume_base.proofs.Still.{lists_still, settled_still}
 use Rattle.volume_names.proofs.LossLoads.{none_still, shared_still}
 use Rattle.volume_names.specs.LossLoads.{SpendsShared}
+use Rattle.volume_base.proofs.Framed.{edits_spent}
+use Rattle.volume_base.proofs.Joined.{edits_both}
 use Rattle.volume_names.proofs.unlinking.lose_one.Goals as goal
 
 pub entry-requires-clause-spelled : goal.entry-requires-clause-spelled
-entry-requires-clause-spelled g c tells = (settled_threads c.args.volume.now (g.P.SectorView.space c.args.space.now).content (c.requires.settled tells)).spelled
+entry-requires-clause-spelled g c tells = (settled_threads c.args.volume.now (g.P.SectorView.space c.args.space.now).content (c.requires.serves.settled tells)).spelled
 
-pub lose_one_of-requires-clause-settled : goal.lose_one_of-requires-clause-settled
-lose_one_of-requires-clause-settled g c tells = settled_still c.args.volume.now c.entry.new.self (g.P.SectorView.space c.args.space.now) (g.P.SectorView.space c.entry.new.space) c.entry.ensures.reads (sym c.entry.ensures.reads.looks.same.tells ∙ tells) (c.requires.settled (sym c.entry.ensures.reads.looks.same.tells ∙ tells))
+pub lose_one_of-requires-clause-serves : goal.lose_one_of-requires-clause-serves
+lose_one_of-requires-clause-serves g c = record { stands = search; settled = λ tells. settled_still c.args.volume.now c.entry.new.self (g.P.SectorView.space c.args.space.now) (g.P.SectorView.space c.entry.new.space) c.entry.ensures.looked.reads (sym c.entry.ensures.looked.reads.looks.same.tells ∙ tells) (c.requires.serves.settled (sym c.entry.ensures.looked.reads.looks.same.tells ∙ tells)) }
 
 pub lose_one_of-requires-clause-room : goal.lose_one_of-requires-clause-room
-lose_one_of-requires-clause-room g c = remove_room_still c.args.volume.now c.entry.new.self (g.P.SectorView.space c.args.space.now) (g.P.SectorView.space c.entry.new.space) c.entry.ensures.reads c.requires.room
+lose_one_of-requires-clause-room g c = remove_room_still c.args.volume.now c.entry.new.self (g.P.SectorView.space c.args.space.now) (g.P.SectorView.space c.entry.new.space) c.entry.ensures.looked.reads c.requires.room
 
 pub lose_one_of-requires-clause-file_name : goal.lose_one_of-requires-clause-file_name
 lose_one_of-requires-clause-file_name g c = subst (λ (o : Option Entry). IfSome o (λ entry. length entry.name ≤ 255)) c.in-Some.is c.in_ok-file.ensures.name
 
 pub lose_one_of-requires-clause-found : goal.lose_one_of-requires-clause-found
 lose_one_of-requires-clause-found g c tells =
-    let before = sym c.entry.ensures.reads.looks.same.tells ∙ tells in
-    sym c.in-Some.is ∙ c.in_ok-file.ensures.found before ∙ sym (ap (λ (l : VolumeState). entry_by_id l.catalog_pairs c.args.id) (lists_still c.args.volume.now c.entry.new.self (g.P.SectorView.space c.args.space.now) (g.P.SectorView.space c.entry.new.space) c.entry.ensures.reads before))
+    let before = sym c.entry.ensures.looked.reads.looks.same.tells ∙ tells in
+    sym c.in-Some.is ∙ c.in_ok-file.ensures.found before ∙ sym (ap (λ (l : VolumeState). entry_by_id l.catalog_pairs c.args.id) (lists_still c.args.volume.now c.entry.new.self (g.P.SectorView.space c.args.space.now) (g.P.SectorView.space c.entry.new.space) c.entry.ensures.looked.reads before))
 
 pub lose_one_of-requires-clause-link : goal.lose_one_of-requires-clause-link
 lose_one_of-requires-clause-link g c tells =
-    let before = sym c.entry.ensures.reads.looks.same.tells ∙ tells in
-    subst (λ (l : VolumeState). NamesLink c.args.at.now l.catalog_pairs) (sym (lists_still c.args.volume.now c.entry.new.self (g.P.SectorView.space c.args.space.now) (g.P.SectorView.space c.entry.new.space) c.entry.ensures.reads before)) (c.requires.link before)
+    let before = sym c.entry.ensures.looked.reads.looks.same.tells ∙ tells in
+    subst (λ (l : VolumeState). NamesLink c.args.at.now l.catalog_pairs) (sym (lists_still c.args.volume.now c.entry.new.self (g.P.SectorView.space c.args.space.now) (g.P.SectorView.space c.entry.new.space) c.entry.ensures.looked.reads before)) (c.requires.link before)
 
 pub lose_one_of-requires-clause-loses : goal.lose_one_of-requires-clause-loses
 lose_one_of-requires-clause-loses g c tells =
-    let before = sym c.entry.ensures.reads.looks.same.tells ∙ tells in
+    let before = sym c.entry.ensures.looked.reads.looks.same.tells ∙ tells in
     let it = c.requires.loses before in
-    (it.0, it.1, subst (λ (k : Content). IsLoss (tree_of k) it.0 it.1 c.args.at.now) (sym (c.entry.ensures.reads.looks.content before)) it.2, it.3)
+    (it.0, it.1, subst (λ (k : Content). IsLoss (tree_of k) it.0 it.1 c.args.at.now) (sym (c.entry.ensures.looked.reads.looks.content before)) it.2, it.3)
 
 pub returns-in-Some-clause-does : goal.returns-in-Some-clause-does
 returns-in-Some-clause-does g c tells path entry loss same =
     subst (λ (k : Content). OnOk c.lose_one_of.result (IsSettled c.lose_one_of.new.volume (g.P.SectorView.space c.lose_one_of.new.space).content × (tree_of (g.P.SectorView.space c.lose_one_of.new.space).content ≡ (step (tree_of k) (command.Rm path)).1)
-    × LosesLink entry k (g.P.SectorView.space c.lose_one_of.new.space).content)) (c.entry.ensures.reads.looks.content tells)
-    (c.lose_one_of.ensures.does (c.entry.ensures.reads.looks.same.tells ∙ tells) path entry (subst (λ (k : Content). IsLoss (tree_of k) path entry c.args.at.now) (sym (c.entry.ensures.reads.looks.content tells)) loss) same)
+    × LosesLink entry k (g.P.SectorView.space c.lose_one_of.new.space).content)) (c.entry.ensures.looked.reads.looks.content tells)
+    (c.lose_one_of.ensures.does (c.entry.ensures.looked.reads.looks.same.tells ∙ tells) path entry (subst (λ (k : Content). IsLoss (tree_of k) path entry c.args.at.now) (sym (c.entry.ensures.looked.reads.looks.content tells)) loss) same)
 
-pub returns-in-Some-clause-touches : goal.returns-in-Some-clause-touches
-returns-in-Some-clause-touches g c committed =
-    touches_both committed _ (g.P.SectorView.space c.args.space.now) (g.P.SectorView.space c.entry.new.space) (g.P.SectorView.space c.lose_one_of.new.space) (touches_looks committed _ (g.P.SectorView.space c.args.space.now) (g.P.SectorView.space c.entry.new.space) c.entry.ensures.reads.looks)
-    (subst (λ (l : List ℕ). Touches committed (λ s. Contains l s) (g.P.SectorView.space c.entry.new.space) (g.P.SectorView.space c.lose_one_of.new.space)) (own_still c.args.volume.now c.entry.new.self (g.P.SectorView.space c.args.space.now) (g.P.SectorView.space c.entry.new.space) c.entry.ensures.reads) (c.lose_one_of.ensures.touches committed))
-
-pub returns-in-Some-clause-below : goal.returns-in-Some-clause-below
-returns-in-Some-clause-below g c = g.met.P.SectorView.follows_trans c.args.space.now c.entry.new.space c.lose_one_of.new.space c.entry.ensures.below c.lose_one_of.ensures.below
-
-pub returns-in-Some-clause-blocks : goal.returns-in-Some-clause-blocks
-returns-in-Some-clause-blocks g c = blocks_both c.args.volume.now c.entry.new.self c.lose_one_of.new.volume (blocks_edit c.args.volume.now c.entry.new.self c.entry.ensures.rest) c.lose_one_of.ensures.blocks
-
-pub returns-in-None-clause-touches : goal.returns-in-None-clause-touches
-returns-in-None-clause-touches g c committed = touches_looks committed _ (g.P.SectorView.space c.args.space.now) (g.P.SectorView.space c.entry.new.space) c.entry.ensures.reads.looks
-
-pub returns-in-None-clause-service : goal.returns-in-None-clause-service
-returns-in-None-clause-service g c = c.entry.ensures.stands.service
-
-pub returns-in-None-clause-blocks : goal.returns-in-None-clause-blocks
-returns-in-None-clause-blocks g c = blocks_edit c.args.volume.now c.entry.new.self c.entry.ensures.rest
-
-pub returns-in_err-file-clause-touches : goal.returns-in_err-file-clause-touches
-returns-in_err-file-clause-touches g c committed = touches_looks committed _ (g.P.SectorView.space c.args.space.now) (g.P.SectorView.space c.entry.new.space) c.entry.ensures.reads.looks
-
-pub returns-in_err-file-clause-service : goal.returns-in_err-file-clause-service
-returns-in_err-file-clause-service g c = c.entry.ensures.stands.service
-
-pub returns-in_err-file-clause-blocks : goal.returns-in_err-file-clause-blocks
-returns-in_err-file-clause-blocks g c = blocks_edit c.args.volume.now c.entry.new.self c.entry.ensures.rest
+pub returns-in-Some-clause-edits : goal.returns-in-Some-clause-edits
+returns-in-Some-clause-edits g c = edits_spent (edits_both g.met.P.SectorView.follows_trans c.entry.ensures.looked.edits c.lose_one_of.ensures.edits) (λ tells. omega arith)
 
 pub returns-in-Some-clause-spends : goal.returns-in-Some-clause-spends
 returns-in-Some-clause-spends g c tells =
-    none_still (SpendsShared c.args.id c.entry.new.self (g.P.SectorView.space c.entry.new.space) (g.P.SectorView.space c.lose_one_of.new.space)) (SpendsShared c.args.id c.args.volume.now (g.P.SectorView.space c.args.space.now) (g.P.SectorView.space c.lose_one_of.new.space)) c.args.volume.now c.entry.new.self (g.P.SectorView.space c.args.space.now) (g.P.SectorView.space c.entry.new.space) (g.P.SectorView.space c.lose_one_of.new.space) c.entry.ensures.reads (c.lose_one_of.ensures.spends (c.entry.ensures.reads.looks.same.tells ∙ tells))
-    (shared_still c.args.id c.args.volume.now c.entry.new.self (g.P.SectorView.space c.args.space.now) (g.P.SectorView.space c.entry.new.space) (g.P.SectorView.space c.lose_one_of.new.space) c.entry.ensures.reads tells)
+    none_still (SpendsShared c.args.id c.entry.new.self (g.P.SectorView.space c.entry.new.space) (g.P.SectorView.space c.lose_one_of.new.space)) (SpendsShared c.args.id c.args.volume.now (g.P.SectorView.space c.args.space.now) (g.P.SectorView.space c.lose_one_of.new.space)) c.args.volume.now c.entry.new.self (g.P.SectorView.space c.args.space.now) (g.P.SectorView.space c.entry.new.space) (g.P.SectorView.space c.lose_one_of.new.space) c.entry.ensures.looked.reads (c.lose_one_of.ensures.spends (c.entry.ensures.looked.reads.looks.same.tells ∙ tells))
+    (shared_still c.args.id c.args.volume.now c.entry.new.self (g.P.SectorView.space c.args.space.now) (g.P.SectorView.space c.entry.new.space) (g.P.SectorView.space c.lose_one_of.new.space) c.entry.ensures.looked.reads tells)
 
 pub returns-in-None-clause-spends : goal.returns-in-None-clause-spends
-returns-in-None-clause-spends g c tells = inl (omega (arith, c.entry.ensures.reads.looks.spare))
+returns-in-None-clause-spends g c tells = inl (omega (arith, c.entry.ensures.looked.reads.looks.spare))
 
 pub returns-in_err-file-clause-spends : goal.returns-in_err-file-clause-spends
-returns-in_err-file-clause-spends g c tells = inl (omega (arith, c.entry.ensures.reads.looks.spare))
+returns-in_err-file-clause-spends g c tells = inl (omega (arith, c.entry.ensures.looked.reads.looks.spare))

@@ -24,7 +24,7 @@ pub unlink_last-requires-clause-last : goal.unlink_last-requires-clause-last
 unlink_last-requires-clause-last g c tells =
     let loses = c.requires.loses tells in
     subst (λ (n : List ℕ). IsLastOf c.args.id (record { parent = c.args.file.now.parent; name = n }) (lists_of c.args.volume.now (g.P.SectorView.space c.args.space.now).content).catalog_pairs) (sym c.in_ok-copy_name-in-Some.ensures)
-    (last_of c.args.volume.now (g.P.SectorView.space c.args.space.now) (c.requires.settled tells) (c.requires.stands.stands tells) loses.0 loses.1 c.args.at.now loses.2 (c.requires.link tells) c.args.id loses.3 c.requires.stands.service.fits.next_catalog_id
+    (last_of c.args.volume.now (g.P.SectorView.space c.args.space.now) (c.requires.serves.settled tells) (c.requires.serves.stands.stands tells) loses.0 loses.1 c.args.at.now loses.2 (c.requires.link tells) c.args.id loses.3 c.requires.serves.stands.service.fits.next_catalog_id
     c.args.file.now (c.requires.found tells) (omega (arith, c.links_in.ensures, c.if-links_in-gt1.false)))
 
 pub returns-then-links_in-gt1-clause-does : goal.returns-then-links_in-gt1-clause-does
@@ -48,21 +48,21 @@ returns-in_ok-copy_name-in-Some-clause-does g c tells path entry loss same =
 pub returns-then-links_in-gt1-clause-spends : goal.returns-then-links_in-gt1-clause-spends
 returns-then-links_in-gt1-clause-spends g c tells =
     let loses = c.requires.loses tells in
-    let it = file_of c.args.volume.now (g.P.SectorView.space c.args.space.now) (c.requires.settled tells) (c.requires.stands.stands tells) loses.0 loses.1 c.args.at.now loses.2 (c.requires.link tells) c.args.id loses.3 c.requires.stands.service.fits.next_catalog_id c.args.file.now (c.requires.found tells) in
+    let it = file_of c.args.volume.now (g.P.SectorView.space c.args.space.now) (c.requires.serves.settled tells) (c.requires.serves.stands.stands tells) loses.0 loses.1 c.args.at.now loses.2 (c.requires.link tells) c.args.id loses.3 c.requires.serves.stands.service.fits.next_catalog_id c.args.file.now (c.requires.found tells) in
     inr (record {
       file = it.0;
       stands = it.1;
       number = it.2;
       spends = inl (
         omega (arith, c.links_in.ensures, c.if-links_in-gt1.true, ap links_in it.3),
-        record { grown = (c.requires.room.told tells).2; spent = omega (arith, c.unlink.ensures.spent tells) },
+        record { grown = (c.requires.room.told tells).2; spent = omega (arith, c.unlink.ensures.edits.ran.spent tells) },
       );
     })
 
 pub returns-in_ok-copy_name-in-Some-clause-spends : goal.returns-in_ok-copy_name-in-Some-clause-spends
 returns-in_ok-copy_name-in-Some-clause-spends g c tells =
     let loses = c.requires.loses tells in
-    let it = file_of c.args.volume.now (g.P.SectorView.space c.args.space.now) (c.requires.settled tells) (c.requires.stands.stands tells) loses.0 loses.1 c.args.at.now loses.2 (c.requires.link tells) c.args.id loses.3 c.requires.stands.service.fits.next_catalog_id c.args.file.now (c.requires.found tells) in
+    let it = file_of c.args.volume.now (g.P.SectorView.space c.args.space.now) (c.requires.serves.settled tells) (c.requires.serves.stands.stands tells) loses.0 loses.1 c.args.at.now loses.2 (c.requires.link tells) c.args.id loses.3 c.requires.serves.stands.service.fits.next_catalog_id c.args.file.now (c.requires.found tells) in
     none_so (SpendsFor 5 c.args.volume.now (g.P.SectorView.space c.args.space.now) (g.P.SectorView.space c.unlink_last.new.space)) (SpendsShared c.args.id c.args.volume.now (g.P.SectorView.space c.args.space.now) (g.P.SectorView.space c.unlink_last.new.space)) (g.P.SectorView.space c.args.space.now) (g.P.SectorView.space c.unlink_last.new.space) (c.unlink_last.ensures.spends tells)
     (λ five. record { file = it.0; stands = it.1; number = it.2; spends = inr (omega (arith, c.links_in.ensures, c.if-links_in-gt1.false, ap links_in it.3), five) })
 

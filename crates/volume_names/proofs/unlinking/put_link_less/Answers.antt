@@ -1,10 +1,9 @@
 use Rattle.std.proofs.Common.{◌-◌, arith}
 use Rattle.hfs_volume.specs.Records.{id_in}
 use Rattle.volume_names.specs.Unlinking.{CountsDown, SaysLinks, links_in}
-use Rattle.volume_base.proofs.Besides.{blocks_none}
-use Rattle.volume_base.proofs.Commanding.{touches_none}
 use Rattle.volume_base.proofs.FoundEntry.{ok_so}
 use Rattle.volume_names.proofs.Unlinked.{says_less}
+use Rattle.volume_base.proofs.Framed.{edits_none}
 use Rattle.volume_names.proofs.unlinking.put_link_less.Goals as goal
 
 pub returns-clause-counts : goal.returns-clause-counts
@@ -14,11 +13,5 @@ returns-clause-counts g c tells a_file plain =
     c.put_links.result (c.put_links.ensures.counts tells a_file plain)
     (λ s. says_less (id_in c.args.entry.now.rec) (c.links_in-links.result - 1) (links_in c.args.entry.now.rec) c.args.volume.now c.put_links.new.volume (g.P.SectorView.space c.args.space.now).content (g.P.SectorView.space c.put_links.new.space).content (omega (arith, c.if-links-lt2.false, c.links_in-links.ensures)) (omega (arith, c.if-links-lt2.false)) s)
 
-pub returns-then-links-lt2-clause-touches : goal.returns-then-links-lt2-clause-touches
-returns-then-links-lt2-clause-touches g c committed = touches_none committed _ (g.P.SectorView.space c.args.space.now)
-
-pub returns-then-links-lt2-clause-service : goal.returns-then-links-lt2-clause-service
-returns-then-links-lt2-clause-service g c = c.requires.stands.service
-
-pub returns-then-links-lt2-clause-blocks : goal.returns-then-links-lt2-clause-blocks
-returns-then-links-lt2-clause-blocks g c = blocks_none c.args.volume.now
+pub returns-then-links-lt2-clause-edits : goal.returns-then-links-lt2-clause-edits
+returns-then-links-lt2-clause-edits g c = edits_none _ g.met.P.SectorView.follows_refl c.requires.stands

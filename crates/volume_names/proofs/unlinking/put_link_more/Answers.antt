@@ -2,10 +2,9 @@ use Rattle.std.proofs.Common.{◌+◌, arith}
 use Rattle.hfs_volume.specs.Records.{id_in}
 use Rattle.volume_names.specs.Linking.{CountsUp}
 use Rattle.volume_names.specs.Unlinking.{SaysLinks, links_in}
-use Rattle.volume_base.proofs.Besides.{blocks_none}
-use Rattle.volume_base.proofs.Commanding.{touches_none}
 use Rattle.volume_base.proofs.FoundEntry.{ok_so}
 use Rattle.volume_names.proofs.Unlinked.{says_more}
+use Rattle.volume_base.proofs.Framed.{edits_none}
 use Rattle.volume_names.proofs.unlinking.put_link_more.Goals as goal
 
 pub returns-clause-counts : goal.returns-clause-counts
@@ -15,14 +14,5 @@ returns-clause-counts g c tells a_file plain =
     c.put_links.result (c.put_links.ensures.counts tells a_file plain)
     (λ s. says_more (id_in c.args.entry.now.rec) (c.links_in-links.result + 1) (links_in c.args.entry.now.rec) c.args.volume.now c.put_links.new.volume (g.P.SectorView.space c.args.space.now).content (g.P.SectorView.space c.put_links.new.space).content (omega (arith, c.links_in-links.ensures)) s)
 
-pub returns-then-links-gt4294967294-clause-touches : goal.returns-then-links-gt4294967294-clause-touches
-returns-then-links-gt4294967294-clause-touches g c committed = touches_none committed _ (g.P.SectorView.space c.args.space.now)
-
-pub returns-then-links-gt4294967294-clause-service : goal.returns-then-links-gt4294967294-clause-service
-returns-then-links-gt4294967294-clause-service g c = c.requires.stands.service
-
-pub returns-then-links-gt4294967294-clause-blocks : goal.returns-then-links-gt4294967294-clause-blocks
-returns-then-links-gt4294967294-clause-blocks g c = blocks_none c.args.volume.now
-
-pub returns-clause-spent : goal.returns-clause-spent
-returns-clause-spent g c tells = c.put_links.ensures.spent tells
+pub returns-then-links-gt4294967294-clause-edits : goal.returns-then-links-gt4294967294-clause-edits
+returns-then-links-gt4294967294-clause-edits g c = edits_none _ g.met.P.SectorView.follows_refl c.requires.stands

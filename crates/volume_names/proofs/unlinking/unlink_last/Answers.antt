@@ -1,23 +1,20 @@
-use Rattle.std.proofs.Common.{◌≡◌, ℕ, List, sym, ◌∙◌, ap, subst, arith, [], ◌/◌, inl, inr}
-use Rattle.std.specs.List.{Contains}
+use Rattle.std.proofs.Common.{◌≡◌, sym, ◌∙◌, ap, arith, [], ◌/◌, inl, inr}
 use Rattle.btree_node.specs.declared.store.TreeShape.{TreeShape}
 use Rattle.hfs_language.specs.declared.command.Command.TheVariants as command
 use Rattle.hfs_model.specs.Step.{step}
 use Rattle.hfs_volume.specs.TreeOf.{tree_of}
 use Rattle.volume_base.specs.Changing.{TouchesFolder}
 use Rattle.volume_base.specs.Standing.{IsSettled, StandsOver}
-use Rattle.volume_base.specs.Touching.{Touches}
 use Rattle.volume_names.specs.Unlinking.{UnlinksLast}
-use Rattle.volume_base.proofs.Besides.{blocks_both, blocks_edit, blocks_none}
-use Rattle.volume_base.proofs.Added.{own_edited}
 use Rattle.volume_names.proofs.Buried.{puts_aside}
-use Rattle.volume_base.proofs.Commanding.{touches_both, touches_none}
 use Rattle.volume_base.proofs.FoundEntry.{ok_both}
 use Rattle.volume_names.proofs.LastLost.{above_waiting, file_left, last_does, named_file, threads_waiting}
 use Rattle.volume_names.proofs.LinkLost.{threads_dropped}
 use Rattle.volume_base.proofs.Replaced.{node_large}
 use Rattle.volume_names.proofs.EditsLeft.{spare_edited}
 use Rattle.volume_names.proofs.LossLoads.{load_last, rest_last}
+use Rattle.volume_base.proofs.Framed.{edits_err, edits_none, edits_ok, edits_spent}
+use Rattle.volume_base.proofs.Joined.{edits_both}
 use Rattle.volume_names.proofs.unlinking.unlink_last.Goals as goal
 
 pub drop_name-requires-clause-size : goal.drop_name-requires-clause-size
@@ -26,54 +23,23 @@ drop_name-requires-clause-size g c = omega (arith, c.if-shape-lt4096.false, ap (
 pub touch-requires-clause-room : goal.touch-requires-clause-room
 touch-requires-clause-room g c = c.fits_update.ensures.room c.if-not-fits_update.false
 
-pub returns-clause-touches : goal.returns-clause-touches
-returns-clause-touches g c committed =
-    touches_both committed _ (g.P.SectorView.space c.args.space.now) (g.P.SectorView.space c.set_aside.new.space) (g.P.SectorView.space c.touch.new.space)
-    (touches_both committed _ (g.P.SectorView.space c.args.space.now) (g.P.SectorView.space c.drop_name.new.space) (g.P.SectorView.space c.set_aside.new.space) (c.drop_name.ensures.touches committed)
-    (subst (λ (l : List ℕ). Touches committed (λ s. Contains l s) (g.P.SectorView.space c.drop_name.new.space) (g.P.SectorView.space c.set_aside.new.space)) c.drop_name.ensures.own (c.set_aside.ensures.touches committed)))
-    (subst (λ (l : List ℕ). Touches committed (λ s. Contains l s) (g.P.SectorView.space c.set_aside.new.space) (g.P.SectorView.space c.touch.new.space)) ((own_edited c.drop_name.new.volume c.set_aside.new.volume (g.P.SectorView.space c.drop_name.new.space) (g.P.SectorView.space c.set_aside.new.space) c.set_aside.ensures.frame c.set_aside.ensures.rest) ∙ c.drop_name.ensures.own) (c.touch.ensures.touches committed))
+pub returns-clause-edits : goal.returns-clause-edits
+returns-clause-edits g c =
+    edits_spent (edits_both g.met.P.SectorView.follows_trans c.drop_name.ensures.edits (edits_both g.met.P.SectorView.follows_trans c.set_aside.ensures.edits c.touch.ensures.edits)) (λ tells. omega arith)
 
-pub returns-in_err-set_aside-clause-touches : goal.returns-in_err-set_aside-clause-touches
-returns-in_err-set_aside-clause-touches g c committed =
-    touches_both committed _ (g.P.SectorView.space c.args.space.now) (g.P.SectorView.space c.drop_name.new.space) (g.P.SectorView.space c.set_aside.new.space) (c.drop_name.ensures.touches committed)
-    (subst (λ (l : List ℕ). Touches committed (λ s. Contains l s) (g.P.SectorView.space c.drop_name.new.space) (g.P.SectorView.space c.set_aside.new.space)) c.drop_name.ensures.own (c.set_aside.ensures.touches committed))
+pub returns-in_err-set_aside-clause-edits : goal.returns-in_err-set_aside-clause-edits
+returns-in_err-set_aside-clause-edits g c =
+    edits_err c.from_residual-in_err-set_aside.ensures.1 (edits_spent (edits_both g.met.P.SectorView.follows_trans c.drop_name.ensures.edits c.in_err-set_aside.ensures.edits) (λ tells. omega arith))
 
-pub returns-then-not-fits_update-clause-touches : goal.returns-then-not-fits_update-clause-touches
-returns-then-not-fits_update-clause-touches g c committed =
-    touches_both committed _ (g.P.SectorView.space c.args.space.now) (g.P.SectorView.space c.drop_name.new.space) (g.P.SectorView.space c.set_aside.new.space) (c.drop_name.ensures.touches committed)
-    (subst (λ (l : List ℕ). Touches committed (λ s. Contains l s) (g.P.SectorView.space c.drop_name.new.space) (g.P.SectorView.space c.set_aside.new.space)) c.drop_name.ensures.own (c.set_aside.ensures.touches committed))
-
-pub returns-clause-below : goal.returns-clause-below
-returns-clause-below g c =
-    g.met.P.SectorView.follows_trans c.args.space.now c.set_aside.new.space c.touch.new.space (g.met.P.SectorView.follows_trans c.args.space.now c.drop_name.new.space c.set_aside.new.space c.drop_name.ensures.below c.set_aside.ensures.below) c.touch.ensures.below
-
-pub returns-in_err-set_aside-clause-below : goal.returns-in_err-set_aside-clause-below
-returns-in_err-set_aside-clause-below g c = g.met.P.SectorView.follows_trans c.args.space.now c.drop_name.new.space c.set_aside.new.space c.drop_name.ensures.below c.set_aside.ensures.below
-
-pub returns-then-not-fits_update-clause-below : goal.returns-then-not-fits_update-clause-below
-returns-then-not-fits_update-clause-below g c = g.met.P.SectorView.follows_trans c.args.space.now c.drop_name.new.space c.set_aside.new.space c.drop_name.ensures.below c.set_aside.ensures.below
-
-pub returns-clause-blocks : goal.returns-clause-blocks
-returns-clause-blocks g c = blocks_both c.args.volume.now c.set_aside.new.volume c.touch.new.self (blocks_both c.args.volume.now c.drop_name.new.volume c.set_aside.new.volume c.drop_name.ensures.blocks (blocks_edit c.drop_name.new.volume c.set_aside.new.volume c.set_aside.ensures.rest)) c.touch.ensures.blocks
-
-pub returns-in_err-set_aside-clause-blocks : goal.returns-in_err-set_aside-clause-blocks
-returns-in_err-set_aside-clause-blocks g c = blocks_both c.args.volume.now c.drop_name.new.volume c.set_aside.new.volume c.drop_name.ensures.blocks (blocks_edit c.drop_name.new.volume c.set_aside.new.volume c.set_aside.ensures.rest)
-
-pub returns-then-not-fits_update-clause-blocks : goal.returns-then-not-fits_update-clause-blocks
-returns-then-not-fits_update-clause-blocks g c = blocks_both c.args.volume.now c.drop_name.new.volume c.set_aside.new.volume c.drop_name.ensures.blocks (blocks_edit c.drop_name.new.volume c.set_aside.new.volume c.set_aside.ensures.rest)
+pub returns-then-not-fits_update-clause-edits : goal.returns-then-not-fits_update-clause-edits
+returns-then-not-fits_update-clause-edits g c = edits_ok (edits_spent (edits_both g.met.P.SectorView.follows_trans c.drop_name.ensures.edits c.in_ok-set_aside.ensures.edits) (λ tells. omega arith))
 
 pub returns-then-shape-lt4096-clause-does : goal.returns-then-shape-lt4096-clause-does
 returns-then-shape-lt4096-clause-does g c tells path entry loss same =
-    absurd (omega (arith, c.if-shape-lt4096.true, ap (λ (s : TreeShape). s.node_size) c.shape.ensures, node_large c.args.volume.now (g.P.SectorView.space c.args.space.now) c.requires.stands tells))
+    absurd (omega (arith, c.if-shape-lt4096.true, ap (λ (s : TreeShape). s.node_size) c.shape.ensures, node_large c.args.volume.now (g.P.SectorView.space c.args.space.now) c.requires.serves.stands tells))
 
-pub returns-then-shape-lt4096-clause-touches : goal.returns-then-shape-lt4096-clause-touches
-returns-then-shape-lt4096-clause-touches g c committed = touches_none committed _ (g.P.SectorView.space c.args.space.now)
-
-pub returns-then-shape-lt4096-clause-service : goal.returns-then-shape-lt4096-clause-service
-returns-then-shape-lt4096-clause-service g c = c.requires.stands.service
-
-pub returns-then-shape-lt4096-clause-blocks : goal.returns-then-shape-lt4096-clause-blocks
-returns-then-shape-lt4096-clause-blocks g c = blocks_none c.args.volume.now
+pub returns-then-shape-lt4096-clause-edits : goal.returns-then-shape-lt4096-clause-edits
+returns-then-shape-lt4096-clause-edits g c = edits_none _ g.met.P.SectorView.follows_refl c.requires.serves.stands
 
 pub drop_name-requires-clause-room : goal.drop_name-requires-clause-room
 drop_name-requires-clause-room g c = c.requires.room
@@ -86,69 +52,69 @@ set_aside-requires-clause-room g c names = c.in_ok-drop_name.ensures.more (c.fit
 
 pub set_aside-requires-clause-threads : goal.set_aside-requires-clause-threads
 set_aside-requires-clause-threads g c tells =
-    let before = sym (c.drop_name.ensures.touches (g.P.SectorView.space c.args.space.now).content).same.tells ∙ tells in
+    let before = sym (c.drop_name.ensures.edits.ran.touches (g.P.SectorView.space c.args.space.now).content).same.tells ∙ tells in
     let loses = c.requires.loses before in
-    threads_dropped c.args.volume.now (g.P.SectorView.space c.args.space.now) (c.requires.settled before) (c.requires.stands.stands before) loses.0 loses.1 c.args.at.now loses.2 (c.requires.link before) c.args.id loses.3 c.requires.stands.service.fits.next_catalog_id
+    threads_dropped c.args.volume.now (g.P.SectorView.space c.args.space.now) (c.requires.serves.settled before) (c.requires.serves.stands.stands before) loses.0 loses.1 c.args.at.now loses.2 (c.requires.link before) c.args.id loses.3 c.requires.serves.stands.service.fits.next_catalog_id
     c.drop_name.new.volume (g.P.SectorView.space c.drop_name.new.space).content (c.in_ok-drop_name.ensures.drops before)
 
 pub set_aside-requires-clause-file : goal.set_aside-requires-clause-file
 set_aside-requires-clause-file g c tells =
     let middle = tells in
-    let before = sym (c.drop_name.ensures.touches (g.P.SectorView.space c.args.space.now).content).same.tells ∙ tells in
+    let before = sym (c.drop_name.ensures.edits.ran.touches (g.P.SectorView.space c.args.space.now).content).same.tells ∙ tells in
     let loses = c.requires.loses before in
-    file_left c.args.volume.now (g.P.SectorView.space c.args.space.now) (c.requires.settled before) (c.requires.stands.stands before) loses.0 loses.1 c.args.at.now loses.2 (c.requires.link before) c.args.id loses.3 c.requires.stands.service.fits.next_catalog_id c.args.file.now (c.requires.last before) (named_file c.args.file.now.name c.requires.some_file) c.args.private c.requires.private
-    c.drop_name.new.volume (g.P.SectorView.space c.drop_name.new.space).content (c.in_ok-drop_name.ensures.drops before) (c.in_ok-drop_name.ensures.stands.stands middle).trees
+    file_left c.args.volume.now (g.P.SectorView.space c.args.space.now) (c.requires.serves.settled before) (c.requires.serves.stands.stands before) loses.0 loses.1 c.args.at.now loses.2 (c.requires.link before) c.args.id loses.3 c.requires.serves.stands.service.fits.next_catalog_id c.args.file.now (c.requires.last before) (named_file c.args.file.now.name c.requires.some_file) c.args.private c.requires.private
+    c.drop_name.new.volume (g.P.SectorView.space c.drop_name.new.space).content (c.in_ok-drop_name.ensures.drops before) (c.in_ok-drop_name.ensures.edits.ran.stands.stands middle).trees
 
 pub touch-requires-clause-threads : goal.touch-requires-clause-threads
 touch-requires-clause-threads g c tells =
     let later = tells in
     let middle = sym c.set_aside.ensures.frame.space.same.tells ∙ tells in
-    let before = sym (c.drop_name.ensures.touches (g.P.SectorView.space c.args.space.now).content).same.tells ∙ middle in
+    let before = sym (c.drop_name.ensures.edits.ran.touches (g.P.SectorView.space c.args.space.now).content).same.tells ∙ middle in
     let loses = c.requires.loses before in
-    threads_waiting c.args.volume.now (g.P.SectorView.space c.args.space.now) (c.requires.settled before) (c.requires.stands.stands before) loses.0 loses.1 c.args.at.now loses.2 (c.requires.link before) c.args.id loses.3 c.requires.stands.service.fits.next_catalog_id c.args.file.now (c.requires.last before) (named_file c.args.file.now.name c.requires.some_file) c.args.private c.requires.private
-    c.drop_name.new.volume (g.P.SectorView.space c.drop_name.new.space).content (c.in_ok-drop_name.ensures.drops before) (c.in_ok-drop_name.ensures.stands.stands middle).trees
-    c.set_aside.new.volume (g.P.SectorView.space c.set_aside.new.space).content (puts_aside c.drop_name.new.volume c.set_aside.new.volume (g.P.SectorView.space c.drop_name.new.space) (g.P.SectorView.space c.set_aside.new.space) c.args.private c.args.file.now (c.in_ok-drop_name.ensures.stands.stands middle) middle c.set_aside.ensures.frame c.set_aside.ensures.rest (c.in_ok-set_aside.ensures.stands.stands later) (c.in_ok-set_aside.ensures.moved middle)) (c.in_ok-set_aside.ensures.stands.stands later).trees
+    threads_waiting c.args.volume.now (g.P.SectorView.space c.args.space.now) (c.requires.serves.settled before) (c.requires.serves.stands.stands before) loses.0 loses.1 c.args.at.now loses.2 (c.requires.link before) c.args.id loses.3 c.requires.serves.stands.service.fits.next_catalog_id c.args.file.now (c.requires.last before) (named_file c.args.file.now.name c.requires.some_file) c.args.private c.requires.private
+    c.drop_name.new.volume (g.P.SectorView.space c.drop_name.new.space).content (c.in_ok-drop_name.ensures.drops before) (c.in_ok-drop_name.ensures.edits.ran.stands.stands middle).trees
+    c.set_aside.new.volume (g.P.SectorView.space c.set_aside.new.space).content (puts_aside c.drop_name.new.volume c.set_aside.new.volume (g.P.SectorView.space c.drop_name.new.space) (g.P.SectorView.space c.set_aside.new.space) c.args.private c.args.file.now (c.in_ok-drop_name.ensures.edits.ran.stands.stands middle) middle c.set_aside.ensures.frame c.set_aside.ensures.rest (c.in_ok-set_aside.ensures.edits.ran.stands.stands later) (c.in_ok-set_aside.ensures.moved middle)) (c.in_ok-set_aside.ensures.edits.ran.stands.stands later).trees
 
 pub touch-requires-clause-there : goal.touch-requires-clause-there
 touch-requires-clause-there g c tells =
     let later = tells in
     let middle = sym c.set_aside.ensures.frame.space.same.tells ∙ tells in
-    let before = sym (c.drop_name.ensures.touches (g.P.SectorView.space c.args.space.now).content).same.tells ∙ middle in
+    let before = sym (c.drop_name.ensures.edits.ran.touches (g.P.SectorView.space c.args.space.now).content).same.tells ∙ middle in
     let loses = c.requires.loses before in
-    above_waiting c.args.volume.now (g.P.SectorView.space c.args.space.now) (c.requires.settled before) (c.requires.stands.stands before) loses.0 loses.1 c.args.at.now loses.2 (c.requires.link before) c.args.id loses.3 c.requires.stands.service.fits.next_catalog_id c.args.file.now (c.requires.last before) (named_file c.args.file.now.name c.requires.some_file) c.args.private c.requires.private
-    c.drop_name.new.volume (g.P.SectorView.space c.drop_name.new.space).content (c.in_ok-drop_name.ensures.drops before) (c.in_ok-drop_name.ensures.stands.stands middle).trees
-    c.set_aside.new.volume (g.P.SectorView.space c.set_aside.new.space).content (puts_aside c.drop_name.new.volume c.set_aside.new.volume (g.P.SectorView.space c.drop_name.new.space) (g.P.SectorView.space c.set_aside.new.space) c.args.private c.args.file.now (c.in_ok-drop_name.ensures.stands.stands middle) middle c.set_aside.ensures.frame c.set_aside.ensures.rest (c.in_ok-set_aside.ensures.stands.stands later) (c.in_ok-set_aside.ensures.moved middle)) (c.in_ok-set_aside.ensures.stands.stands later).trees
+    above_waiting c.args.volume.now (g.P.SectorView.space c.args.space.now) (c.requires.serves.settled before) (c.requires.serves.stands.stands before) loses.0 loses.1 c.args.at.now loses.2 (c.requires.link before) c.args.id loses.3 c.requires.serves.stands.service.fits.next_catalog_id c.args.file.now (c.requires.last before) (named_file c.args.file.now.name c.requires.some_file) c.args.private c.requires.private
+    c.drop_name.new.volume (g.P.SectorView.space c.drop_name.new.space).content (c.in_ok-drop_name.ensures.drops before) (c.in_ok-drop_name.ensures.edits.ran.stands.stands middle).trees
+    c.set_aside.new.volume (g.P.SectorView.space c.set_aside.new.space).content (puts_aside c.drop_name.new.volume c.set_aside.new.volume (g.P.SectorView.space c.drop_name.new.space) (g.P.SectorView.space c.set_aside.new.space) c.args.private c.args.file.now (c.in_ok-drop_name.ensures.edits.ran.stands.stands middle) middle c.set_aside.ensures.frame c.set_aside.ensures.rest (c.in_ok-set_aside.ensures.edits.ran.stands.stands later) (c.in_ok-set_aside.ensures.moved middle)) (c.in_ok-set_aside.ensures.edits.ran.stands.stands later).trees
 
 pub returns-clause-does : goal.returns-clause-does
 returns-clause-does g c tells path entry loss same =
     let before = tells in
-    let middle = (c.drop_name.ensures.touches (g.P.SectorView.space c.args.space.now).content).same.tells ∙ tells in
+    let middle = (c.drop_name.ensures.edits.ran.touches (g.P.SectorView.space c.args.space.now).content).same.tells ∙ tells in
     let later = c.set_aside.ensures.frame.space.same.tells ∙ middle in
-    let last = (c.touch.ensures.touches (g.P.SectorView.space c.args.space.now).content).same.tells ∙ later in
+    let last = (c.touch.ensures.edits.ran.touches (g.P.SectorView.space c.args.space.now).content).same.tells ∙ later in
     ok_both (StandsOver c.touch.new.self (g.P.SectorView.space c.touch.new.space)) (TouchesFolder c.args.at.now.parent 0 1 c.set_aside.new.volume c.touch.new.self (g.P.SectorView.space c.set_aside.new.space).content (g.P.SectorView.space c.touch.new.space).content)
     (IsSettled c.touch.new.self (g.P.SectorView.space c.touch.new.space).content × (tree_of (g.P.SectorView.space c.touch.new.space).content ≡ (step (tree_of (g.P.SectorView.space c.args.space.now).content) (command.Rm path)).1)
     × UnlinksLast entry (g.P.SectorView.space c.args.space.now).content (g.P.SectorView.space c.touch.new.space).content)
-    c.touch.result c.touch.ensures.stands (c.touch.ensures.counts later)
-    (λ stands t. last_does c.args.volume.now (g.P.SectorView.space c.args.space.now) (c.requires.settled before) (c.requires.stands.stands before) path entry c.args.at.now loss (c.requires.link before) c.args.id same c.requires.stands.service.fits.next_catalog_id c.args.file.now (c.requires.last before) (named_file c.args.file.now.name c.requires.some_file) c.args.private c.requires.private
-    c.drop_name.new.volume (g.P.SectorView.space c.drop_name.new.space).content (c.in_ok-drop_name.ensures.drops before) (c.in_ok-drop_name.ensures.stands.stands middle).trees
-    c.set_aside.new.volume (g.P.SectorView.space c.set_aside.new.space).content (puts_aside c.drop_name.new.volume c.set_aside.new.volume (g.P.SectorView.space c.drop_name.new.space) (g.P.SectorView.space c.set_aside.new.space) c.args.private c.args.file.now (c.in_ok-drop_name.ensures.stands.stands middle) middle c.set_aside.ensures.frame c.set_aside.ensures.rest (c.in_ok-set_aside.ensures.stands.stands later) (c.in_ok-set_aside.ensures.moved middle)) (c.in_ok-set_aside.ensures.stands.stands later).trees
+    c.touch.result c.touch.ensures.edits.ran.stands (c.touch.ensures.counts later)
+    (λ stands t. last_does c.args.volume.now (g.P.SectorView.space c.args.space.now) (c.requires.serves.settled before) (c.requires.serves.stands.stands before) path entry c.args.at.now loss (c.requires.link before) c.args.id same c.requires.serves.stands.service.fits.next_catalog_id c.args.file.now (c.requires.last before) (named_file c.args.file.now.name c.requires.some_file) c.args.private c.requires.private
+    c.drop_name.new.volume (g.P.SectorView.space c.drop_name.new.space).content (c.in_ok-drop_name.ensures.drops before) (c.in_ok-drop_name.ensures.edits.ran.stands.stands middle).trees
+    c.set_aside.new.volume (g.P.SectorView.space c.set_aside.new.space).content (puts_aside c.drop_name.new.volume c.set_aside.new.volume (g.P.SectorView.space c.drop_name.new.space) (g.P.SectorView.space c.set_aside.new.space) c.args.private c.args.file.now (c.in_ok-drop_name.ensures.edits.ran.stands.stands middle) middle c.set_aside.ensures.frame c.set_aside.ensures.rest (c.in_ok-set_aside.ensures.edits.ran.stands.stands later) (c.in_ok-set_aside.ensures.moved middle)) (c.in_ok-set_aside.ensures.edits.ran.stands.stands later).trees
     c.touch.new.self (g.P.SectorView.space c.touch.new.space) t (stands.stands last) c.rm_does_its_step.ensures)
 
 pub returns-clause-spends : goal.returns-clause-spends
 returns-clause-spends g c tells =
-    let middle = (c.drop_name.ensures.touches (g.P.SectorView.space c.args.space.now).content).same.tells ∙ tells in
+    let middle = (c.drop_name.ensures.edits.ran.touches (g.P.SectorView.space c.args.space.now).content).same.tells ∙ tells in
     let later = c.set_aside.ensures.frame.space.same.tells ∙ middle in
     let load = load_last c.args.volume.now (g.P.SectorView.space c.args.space.now) (c.fits_unlink_last.ensures c.if-not-fits_unlink_last.false) in
     let left = spare_edited 3 0 (rest_last c.args.volume.now (g.P.SectorView.space c.args.space.now)) c.drop_name.new.volume c.set_aside.new.volume (g.P.SectorView.space c.drop_name.new.space) (g.P.SectorView.space c.set_aside.new.space)
     (λ told. omega (arith, c.if-shape-lt4096.false, ap (λ (s : TreeShape). s.node_size) c.shape.ensures, c.in_ok-drop_name.ensures.size)) (c.set_aside.ensures.takes []) (c.in_ok-drop_name.ensures.leaves (rest_last c.args.volume.now (g.P.SectorView.space c.args.space.now)) load) middle in
     inr (record {
       grown = load.grown tells;
-      spent = omega (arith, left, c.touch.ensures.spent later, load.load tells, ap (λ n. n / 512) c.set_aside.ensures.frame.file.node_size, ap (λ n. n / 512) c.in_ok-drop_name.ensures.size);
+      spent = omega (arith, left, c.touch.ensures.edits.ran.spent later, load.load tells, ap (λ n. n / 512) c.set_aside.ensures.frame.file.node_size, ap (λ n. n / 512) c.in_ok-drop_name.ensures.size);
     })
 
 pub returns-in_err-set_aside-clause-spends : goal.returns-in_err-set_aside-clause-spends
 returns-in_err-set_aside-clause-spends g c tells =
-    let middle = (c.drop_name.ensures.touches (g.P.SectorView.space c.args.space.now).content).same.tells ∙ tells in
+    let middle = (c.drop_name.ensures.edits.ran.touches (g.P.SectorView.space c.args.space.now).content).same.tells ∙ tells in
     let load = load_last c.args.volume.now (g.P.SectorView.space c.args.space.now) (c.fits_unlink_last.ensures c.if-not-fits_unlink_last.false) in
     let left = spare_edited 3 0 (rest_last c.args.volume.now (g.P.SectorView.space c.args.space.now)) c.drop_name.new.volume c.set_aside.new.volume (g.P.SectorView.space c.drop_name.new.space) (g.P.SectorView.space c.set_aside.new.space)
     (λ told. omega (arith, c.if-shape-lt4096.false, ap (λ (s : TreeShape). s.node_size) c.shape.ensures, c.in_ok-drop_name.ensures.size)) (c.set_aside.ensures.takes []) (c.in_ok-drop_name.ensures.leaves (rest_last c.args.volume.now (g.P.SectorView.space c.args.space.now)) load) middle in
@@ -156,7 +122,7 @@ returns-in_err-set_aside-clause-spends g c tells =
 
 pub returns-then-not-fits_update-clause-spends : goal.returns-then-not-fits_update-clause-spends
 returns-then-not-fits_update-clause-spends g c tells =
-    let middle = (c.drop_name.ensures.touches (g.P.SectorView.space c.args.space.now).content).same.tells ∙ tells in
+    let middle = (c.drop_name.ensures.edits.ran.touches (g.P.SectorView.space c.args.space.now).content).same.tells ∙ tells in
     let load = load_last c.args.volume.now (g.P.SectorView.space c.args.space.now) (c.fits_unlink_last.ensures c.if-not-fits_unlink_last.false) in
     let left = spare_edited 3 0 (rest_last c.args.volume.now (g.P.SectorView.space c.args.space.now)) c.drop_name.new.volume c.set_aside.new.volume (g.P.SectorView.space c.drop_name.new.space) (g.P.SectorView.space c.set_aside.new.space)
     (λ told. omega (arith, c.if-shape-lt4096.false, ap (λ (s : TreeShape). s.node_size) c.shape.ensures, c.in_ok-drop_name.ensures.size)) (c.set_aside.ensures.takes []) (c.in_ok-drop_name.ensures.leaves (rest_last c.args.volume.now (g.P.SectorView.space c.args.space.now)) load) middle in

@@ -18,40 +18,40 @@ pub entry-requires-clause-spelled : goal.entry-requires-clause-spelled
 entry-requires-clause-spelled g c tells = settled_spelled c.args.volume.now (g.P.SectorView.space c.args.space.now).content (c.requires.settled tells)
 
 pub shrunk_wants-requires-clause-settled : goal.shrunk_wants-requires-clause-settled
-shrunk_wants-requires-clause-settled g c tells = settled_still c.args.volume.now c.entry.new.self (g.P.SectorView.space c.args.space.now) (g.P.SectorView.space c.entry.new.space) c.entry.ensures.reads (sym c.entry.ensures.reads.looks.same.tells ∙ tells) (c.requires.settled (sym c.entry.ensures.reads.looks.same.tells ∙ tells))
+shrunk_wants-requires-clause-settled g c tells = settled_still c.args.volume.now c.entry.new.self (g.P.SectorView.space c.args.space.now) (g.P.SectorView.space c.entry.new.space) c.entry.ensures.looked.reads (sym c.entry.ensures.looked.reads.looks.same.tells ∙ tells) (c.requires.settled (sym c.entry.ensures.looked.reads.looks.same.tells ∙ tells))
 
 pub shrunk_wants-requires-clause-there : goal.shrunk_wants-requires-clause-there
 shrunk_wants-requires-clause-there g c tells =
-    let before = sym c.entry.ensures.reads.looks.same.tells ∙ tells in
-    ap (λ (l : VolumeState). value_at l.catalog_pairs c.in-Some.entry.parent c.in-Some.entry.name) (lists_still c.args.volume.now c.entry.new.self (g.P.SectorView.space c.args.space.now) (g.P.SectorView.space c.entry.new.space) c.entry.ensures.reads before)
+    let before = sym c.entry.ensures.looked.reads.looks.same.tells ∙ tells in
+    ap (λ (l : VolumeState). value_at l.catalog_pairs c.in-Some.entry.parent c.in-Some.entry.name) (lists_still c.args.volume.now c.entry.new.self (g.P.SectorView.space c.args.space.now) (g.P.SectorView.space c.entry.new.space) c.entry.ensures.looked.reads before)
     ∙ there_by (lists_of c.args.volume.now (g.P.SectorView.space c.args.space.now).content).catalog_pairs c.args.id c.in-Some.entry (sym c.in-Some.is ∙ c.in_ok-entry.ensures.found before)
 
 pub unshrunk_wants-requires-clause-settled : goal.unshrunk_wants-requires-clause-settled
-unshrunk_wants-requires-clause-settled g c tells = settled_still c.args.volume.now c.entry.new.self (g.P.SectorView.space c.args.space.now) (g.P.SectorView.space c.entry.new.space) c.entry.ensures.reads (sym c.entry.ensures.reads.looks.same.tells ∙ tells) (c.requires.settled (sym c.entry.ensures.reads.looks.same.tells ∙ tells))
+unshrunk_wants-requires-clause-settled g c tells = settled_still c.args.volume.now c.entry.new.self (g.P.SectorView.space c.args.space.now) (g.P.SectorView.space c.entry.new.space) c.entry.ensures.looked.reads (sym c.entry.ensures.looked.reads.looks.same.tells ∙ tells) (c.requires.settled (sym c.entry.ensures.looked.reads.looks.same.tells ∙ tells))
 
 pub unshrunk_wants-requires-clause-kept : goal.unshrunk_wants-requires-clause-kept
 unshrunk_wants-requires-clause-kept g c tells =
-    let before = sym c.entry.ensures.reads.looks.same.tells ∙ tells in
-    (λ i. has_surplus_left (volume_of (c.entry.ensures.reads.looks.content before i)) (c.entry.ensures.reads.keeps.shrunk i))
+    let before = sym c.entry.ensures.looked.reads.looks.same.tells ∙ tells in
+    (λ i. has_surplus_left (volume_of (c.entry.ensures.looked.reads.looks.content before i)) (c.entry.ensures.looked.reads.keeps.shrunk i))
     ∙ none_rests c.args.volume.now (g.P.SectorView.space c.args.space.now).content (c.requires.settled before) (c.requires.stands.stands before).trees c.args.id (shrunk_of c.args.volume.now) c.requires.shrunk (sym c.in-None.is ∙ c.in_ok-entry.ensures.found before)
 
 pub returns-in_err-entry-clause-settled : goal.returns-in_err-entry-clause-settled
-returns-in_err-entry-clause-settled g c tells = settled_still c.args.volume.now c.entry.new.self (g.P.SectorView.space c.args.space.now) (g.P.SectorView.space c.entry.new.space) c.entry.ensures.reads tells (c.requires.settled tells)
+returns-in_err-entry-clause-settled g c tells = settled_still c.args.volume.now c.entry.new.self (g.P.SectorView.space c.args.space.now) (g.P.SectorView.space c.entry.new.space) c.entry.ensures.looked.reads tells (c.requires.settled tells)
 
 pub returns-in-Some-clause-awaits : goal.returns-in-Some-clause-awaits
 returns-in-Some-clause-awaits g c tells =
-    awaited_behind (g.P.SectorView.space c.args.space.now).content (g.P.SectorView.space c.entry.new.space).content (c.entry.ensures.reads.looks.content tells) (capacity_of c.args.volume.now) (capacity_of c.entry.new.self) c.entry.ensures.reads.keeps.capacity
-    (shrunk_of c.args.volume.now) (shrunk_of c.entry.new.self) c.entry.ensures.reads.keeps.shrunk c.shrunk_wants.result (c.shrunk_wants.ensures.awaits (c.entry.ensures.reads.looks.same.tells ∙ tells))
+    awaited_behind (g.P.SectorView.space c.args.space.now).content (g.P.SectorView.space c.entry.new.space).content (c.entry.ensures.looked.reads.looks.content tells) (capacity_of c.args.volume.now) (capacity_of c.entry.new.self) c.entry.ensures.looked.reads.keeps.capacity
+    (shrunk_of c.args.volume.now) (shrunk_of c.entry.new.self) c.entry.ensures.looked.reads.keeps.shrunk c.shrunk_wants.result (c.shrunk_wants.ensures.awaits (c.entry.ensures.looked.reads.looks.same.tells ∙ tells))
 
 pub returns-in-Some-clause-reads : goal.returns-in-Some-clause-reads
 returns-in-Some-clause-reads g c =
-    volume_both c.args.volume.now c.entry.new.self c.shrunk_wants.new.volume (g.P.SectorView.space c.args.space.now) (g.P.SectorView.space c.entry.new.space) (g.P.SectorView.space c.shrunk_wants.new.space) c.entry.ensures.reads c.shrunk_wants.ensures.reads
+    volume_both c.args.volume.now c.entry.new.self c.shrunk_wants.new.volume (g.P.SectorView.space c.args.space.now) (g.P.SectorView.space c.entry.new.space) (g.P.SectorView.space c.shrunk_wants.new.space) c.entry.ensures.looked.reads c.shrunk_wants.ensures.reads
 
 pub returns-in-None-clause-awaits : goal.returns-in-None-clause-awaits
 returns-in-None-clause-awaits g c tells =
-    awaited_behind (g.P.SectorView.space c.args.space.now).content (g.P.SectorView.space c.entry.new.space).content (c.entry.ensures.reads.looks.content tells) (capacity_of c.args.volume.now) (capacity_of c.entry.new.self) c.entry.ensures.reads.keeps.capacity
-    (shrunk_of c.args.volume.now) (shrunk_of c.entry.new.self) c.entry.ensures.reads.keeps.shrunk c.unshrunk_wants.result (c.unshrunk_wants.ensures.awaits (c.entry.ensures.reads.looks.same.tells ∙ tells))
+    awaited_behind (g.P.SectorView.space c.args.space.now).content (g.P.SectorView.space c.entry.new.space).content (c.entry.ensures.looked.reads.looks.content tells) (capacity_of c.args.volume.now) (capacity_of c.entry.new.self) c.entry.ensures.looked.reads.keeps.capacity
+    (shrunk_of c.args.volume.now) (shrunk_of c.entry.new.self) c.entry.ensures.looked.reads.keeps.shrunk c.unshrunk_wants.result (c.unshrunk_wants.ensures.awaits (c.entry.ensures.looked.reads.looks.same.tells ∙ tells))
 
 pub returns-in-None-clause-reads : goal.returns-in-None-clause-reads
 returns-in-None-clause-reads g c =
-    volume_both c.args.volume.now c.entry.new.self c.unshrunk_wants.new.volume (g.P.SectorView.space c.args.space.now) (g.P.SectorView.space c.entry.new.space) (g.P.SectorView.space c.unshrunk_wants.new.space) c.entry.ensures.reads c.unshrunk_wants.ensures.reads
+    volume_both c.args.volume.now c.entry.new.self c.unshrunk_wants.new.volume (g.P.SectorView.space c.args.space.now) (g.P.SectorView.space c.entry.new.space) (g.P.SectorView.space c.unshrunk_wants.new.space) c.entry.ensures.looked.reads c.unshrunk_wants.ensures.reads

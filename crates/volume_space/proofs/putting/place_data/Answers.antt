@@ -98,35 +98,35 @@ pub returns-in_err-replace-clause-commit : goal.returns-in_err-replace-clause-co
 returns-in_err-replace-clause-commit g c committed holds alike =
     touches_both committed _ (g.P.SectorView.space c.args.space.now) (g.P.SectorView.space c.spill.new.space) (g.P.SectorView.space c.replace.new.space) (c.spill.ensures.commit committed holds alike)
     (subst (λ (l : List ℕ). Touches committed (λ s. Contains l s) (g.P.SectorView.space c.spill.new.space) (g.P.SectorView.space c.replace.new.space)) c.spill.ensures.own (touches_both committed _ (g.P.SectorView.space c.spill.new.space) (g.P.SectorView.space c.store_later.new.space) (g.P.SectorView.space c.replace.new.space) (c.store_later.ensures.touches committed)
-    (subst (λ (l : List ℕ). Touches committed (λ s. Contains l s) (g.P.SectorView.space c.store_later.new.space) (g.P.SectorView.space c.replace.new.space)) c.store_later.ensures.own (c.replace.ensures.touches committed))))
+    (subst (λ (l : List ℕ). Touches committed (λ s. Contains l s) (g.P.SectorView.space c.store_later.new.space) (g.P.SectorView.space c.replace.new.space)) c.store_later.ensures.own (c.replace.ensures.edits.ran.touches committed))))
 
 pub returns-in_err-replace-clause-spent : goal.returns-in_err-replace-clause-spent
 returns-in_err-replace-clause-spent g c tells =
     let between = (c.store_later.ensures.touches []).same.tells ∙ c.spill.ensures.same.tells ∙ tells in
-    omega (arith, c.spill.ensures.room.spare, c.store_later.ensures.spent (c.spill.ensures.same.tells ∙ tells), shape_load c.args.volume.now c.spill.new.volume c.spill.ensures.rest (c.args.records + overflow_records c.args.most), c.replace.ensures.spent between, ap (λ (x : Volume). catalog_node x) c.store_later.ensures.rest, ap (λ (x : Volume). catalog_node x) c.spill.ensures.rest)
+    omega (arith, c.spill.ensures.room.spare, c.store_later.ensures.spent (c.spill.ensures.same.tells ∙ tells), shape_load c.args.volume.now c.spill.new.volume c.spill.ensures.rest (c.args.records + overflow_records c.args.most), c.replace.ensures.edits.ran.spent between, ap (λ (x : Volume). catalog_node x) c.store_later.ensures.rest, ap (λ (x : Volume). catalog_node x) c.spill.ensures.rest)
 
 pub returns-in_err-replace-clause-space : goal.returns-in_err-replace-clause-space
-returns-in_err-replace-clause-space g c = space_both (g.P.SectorView.space c.args.space.now) (g.P.SectorView.space c.store_later.new.space) (g.P.SectorView.space c.replace.new.space) (space_both (g.P.SectorView.space c.args.space.now) (g.P.SectorView.space c.spill.new.space) (g.P.SectorView.space c.store_later.new.space) c.spill.ensures.same (c.store_later.ensures.touches []).same) (c.replace.ensures.touches []).same
+returns-in_err-replace-clause-space g c = space_both (g.P.SectorView.space c.args.space.now) (g.P.SectorView.space c.store_later.new.space) (g.P.SectorView.space c.replace.new.space) (space_both (g.P.SectorView.space c.args.space.now) (g.P.SectorView.space c.spill.new.space) (g.P.SectorView.space c.store_later.new.space) c.spill.ensures.same (c.store_later.ensures.touches []).same) (c.replace.ensures.edits.ran.touches []).same
 
 pub returns-in_err-replace-clause-below : goal.returns-in_err-replace-clause-below
-returns-in_err-replace-clause-below g c = g.met.P.SectorView.follows_trans c.args.space.now c.store_later.new.space c.replace.new.space (g.met.P.SectorView.follows_trans c.args.space.now c.spill.new.space c.store_later.new.space c.spill.ensures.below c.store_later.ensures.below) c.replace.ensures.below
+returns-in_err-replace-clause-below g c = g.met.P.SectorView.follows_trans c.args.space.now c.store_later.new.space c.replace.new.space (g.met.P.SectorView.follows_trans c.args.space.now c.spill.new.space c.store_later.new.space c.spill.ensures.below c.store_later.ensures.below) c.replace.ensures.edits.ran.below
 
 pub returns-clause-commit : goal.returns-clause-commit
 returns-clause-commit g c committed holds alike =
     touches_both committed _ (g.P.SectorView.space c.args.space.now) (g.P.SectorView.space c.spill.new.space) (g.P.SectorView.space c.replace.new.space) (c.spill.ensures.commit committed holds alike)
     (subst (λ (l : List ℕ). Touches committed (λ s. Contains l s) (g.P.SectorView.space c.spill.new.space) (g.P.SectorView.space c.replace.new.space)) c.spill.ensures.own (touches_both committed _ (g.P.SectorView.space c.spill.new.space) (g.P.SectorView.space c.store_later.new.space) (g.P.SectorView.space c.replace.new.space) (c.store_later.ensures.touches committed)
-    (subst (λ (l : List ℕ). Touches committed (λ s. Contains l s) (g.P.SectorView.space c.store_later.new.space) (g.P.SectorView.space c.replace.new.space)) c.store_later.ensures.own (c.replace.ensures.touches committed))))
+    (subst (λ (l : List ℕ). Touches committed (λ s. Contains l s) (g.P.SectorView.space c.store_later.new.space) (g.P.SectorView.space c.replace.new.space)) c.store_later.ensures.own (c.replace.ensures.edits.ran.touches committed))))
 
 pub returns-clause-spent : goal.returns-clause-spent
 returns-clause-spent g c tells =
     let between = (c.store_later.ensures.touches []).same.tells ∙ c.spill.ensures.same.tells ∙ tells in
-    omega (arith, c.spill.ensures.room.spare, c.store_later.ensures.spent (c.spill.ensures.same.tells ∙ tells), shape_load c.args.volume.now c.spill.new.volume c.spill.ensures.rest (c.args.records + overflow_records c.args.most), c.replace.ensures.spent between, ap (λ (x : Volume). catalog_node x) c.store_later.ensures.rest, ap (λ (x : Volume). catalog_node x) c.spill.ensures.rest)
+    omega (arith, c.spill.ensures.room.spare, c.store_later.ensures.spent (c.spill.ensures.same.tells ∙ tells), shape_load c.args.volume.now c.spill.new.volume c.spill.ensures.rest (c.args.records + overflow_records c.args.most), c.replace.ensures.edits.ran.spent between, ap (λ (x : Volume). catalog_node x) c.store_later.ensures.rest, ap (λ (x : Volume). catalog_node x) c.spill.ensures.rest)
 
 pub returns-clause-space : goal.returns-clause-space
-returns-clause-space g c = space_both (g.P.SectorView.space c.args.space.now) (g.P.SectorView.space c.store_later.new.space) (g.P.SectorView.space c.replace.new.space) (space_both (g.P.SectorView.space c.args.space.now) (g.P.SectorView.space c.spill.new.space) (g.P.SectorView.space c.store_later.new.space) c.spill.ensures.same (c.store_later.ensures.touches []).same) (c.replace.ensures.touches []).same
+returns-clause-space g c = space_both (g.P.SectorView.space c.args.space.now) (g.P.SectorView.space c.store_later.new.space) (g.P.SectorView.space c.replace.new.space) (space_both (g.P.SectorView.space c.args.space.now) (g.P.SectorView.space c.spill.new.space) (g.P.SectorView.space c.store_later.new.space) c.spill.ensures.same (c.store_later.ensures.touches []).same) (c.replace.ensures.edits.ran.touches []).same
 
 pub returns-clause-below : goal.returns-clause-below
-returns-clause-below g c = g.met.P.SectorView.follows_trans c.args.space.now c.store_later.new.space c.replace.new.space (g.met.P.SectorView.follows_trans c.args.space.now c.spill.new.space c.store_later.new.space c.spill.ensures.below c.store_later.ensures.below) c.replace.ensures.below
+returns-clause-below g c = g.met.P.SectorView.follows_trans c.args.space.now c.store_later.new.space c.replace.new.space (g.met.P.SectorView.follows_trans c.args.space.now c.spill.new.space c.store_later.new.space c.spill.ensures.below c.store_later.ensures.below) c.replace.ensures.edits.ran.below
 
 pub returns-in_err-store_later-clause-cause : goal.returns-in_err-store_later-clause-cause
 returns-in_err-store_later-clause-cause g c =
@@ -136,13 +136,13 @@ returns-in_err-store_later-clause-cause g c =
 pub returns-in_err-replace-clause-cause : goal.returns-in_err-replace-clause-cause
 returns-in_err-replace-clause-cause g c =
     let p = err_from_is_err_and c.from_residual-in_err-replace.result c.from_residual-in_err-replace.ensures.1 in
-    cause_on c.in_err-replace.field-0.0 p.0 (g.P.SectorView.space c.args.space.now).faults (g.P.SectorView.space c.store_later.new.space).faults (g.P.SectorView.space c.replace.new.space).faults c.from_residual-in_err-replace.result p.1 p.2 (omega (arith, c.spill.ensures.cause.later, c.store_later.ensures.cause.later)) c.in_err-replace.ensures.cause
+    cause_on c.in_err-replace.field-0.0 p.0 (g.P.SectorView.space c.args.space.now).faults (g.P.SectorView.space c.store_later.new.space).faults (g.P.SectorView.space c.replace.new.space).faults c.from_residual-in_err-replace.result p.1 p.2 (omega (arith, c.spill.ensures.cause.later, c.store_later.ensures.cause.later)) c.in_err-replace.ensures.edits.ran.cause
 
 pub returns-clause-cause : goal.returns-clause-cause
-returns-clause-cause g c = record { later = omega (arith, c.spill.ensures.cause.later, c.store_later.ensures.cause.later, c.replace.ensures.cause.later); failed = tt }
+returns-clause-cause g c = record { later = omega (arith, c.spill.ensures.cause.later, c.store_later.ensures.cause.later, c.replace.ensures.edits.ran.cause.later); failed = tt }
 
 pub returns-clause-stands : goal.returns-clause-stands
-returns-clause-stands g c = stands_free c.args.free c.replace.new.self (g.P.SectorView.space c.replace.new.space) c.ranges.free.fits c.in_ok-replace.ensures.stands
+returns-clause-stands g c = stands_free c.args.free c.replace.new.self (g.P.SectorView.space c.replace.new.space) c.ranges.free.fits c.in_ok-replace.ensures.edits.ran.stands
 
 pub returns-clause-places : goal.returns-clause-places
 returns-clause-places g c tells =

@@ -37,16 +37,16 @@ entry-requires-clause-spelled g c tells = settled_spelled c.keep.new.self (g.P.S
 
 pub put_in_entry-requires-clause-settled : goal.put_in_entry-requires-clause-settled
 put_in_entry-requires-clause-settled g c tells =
-    let before = sym c.entry.ensures.reads.looks.same.tells ∙ tells in
-    settled_still c.keep.new.self c.entry.new.self (g.P.SectorView.space c.args.space.now) (g.P.SectorView.space c.entry.new.space) c.entry.ensures.reads before (settled_kept c.args.volume.now c.keep.new.self c.keep.ensures (g.P.SectorView.space c.args.space.now) (c.requires.settled before))
+    let before = sym c.entry.ensures.looked.reads.looks.same.tells ∙ tells in
+    settled_still c.keep.new.self c.entry.new.self (g.P.SectorView.space c.args.space.now) (g.P.SectorView.space c.entry.new.space) c.entry.ensures.looked.reads before (settled_kept c.args.volume.now c.keep.new.self c.keep.ensures (g.P.SectorView.space c.args.space.now) (c.requires.settled before))
 
 pub put_in_entry-requires-clause-closed : goal.put_in_entry-requires-clause-closed
 put_in_entry-requires-clause-closed g c tells at shut =
-    let before = sym c.entry.ensures.reads.looks.same.tells ∙ tells in
-    subst (λ (k : Content). IsJournalSector k at) (sym (c.entry.ensures.reads.looks.content before)) (c.requires.closed before at ((c.entry.ensures.reads.looks.closed before at).0 shut))
+    let before = sym c.entry.ensures.looked.reads.looks.same.tells ∙ tells in
+    subst (λ (k : Content). IsJournalSector k at) (sym (c.entry.ensures.looked.reads.looks.content before)) (c.requires.closed before at ((c.entry.ensures.looked.reads.looks.closed before at).0 shut))
 
 pub put_in_entry-requires-clause-unchanged : goal.put_in_entry-requires-clause-unchanged
-put_in_entry-requires-clause-unchanged g c = subst (λ (m : BlockMap). m.changed ≡ none (sectors_for (length m.used))) (sym c.entry.ensures.reads.keeps.map) (unchanged_kept c.args.volume.now c.keep.new.self c.keep.ensures (g.P.SectorView.space c.args.space.now) c.requires.stands.service)
+put_in_entry-requires-clause-unchanged g c = subst (λ (m : BlockMap). m.changed ≡ none (sectors_for (length m.used))) (sym c.entry.ensures.looked.reads.keeps.map) (unchanged_kept c.args.volume.now c.keep.new.self c.keep.ensures (g.P.SectorView.space c.args.space.now) c.requires.stands.service)
 
 pub put_in_entry-requires-clause-name : goal.put_in_entry-requires-clause-name
 put_in_entry-requires-clause-name g c = subst (λ (o : Option Entry). IfSome o (λ entry. length entry.name ≤ 255)) c.in-Some.is c.in_ok-entry.ensures.name
@@ -56,26 +56,26 @@ put_in_entry-requires-clause-fits g c = subst (λ (o : Option Entry). IfSome o (
 
 pub put_in_entry-requires-clause-there : goal.put_in_entry-requires-clause-there
 put_in_entry-requires-clause-there g c tells =
-    let before = sym c.entry.ensures.reads.looks.same.tells ∙ tells in
+    let before = sym c.entry.ensures.looked.reads.looks.same.tells ∙ tells in
     let there = c.requires.there before in
     let it : IsThere _ c.args.id c.in-Some.entry = entry_there c.keep.new.self (g.P.SectorView.space c.args.space.now).content ((stands_kept c.args.volume.now c.keep.new.self c.keep.ensures (g.P.SectorView.space c.args.space.now) c.requires.stands).stands before).trees (settled_kept c.args.volume.now c.keep.new.self c.keep.ensures (g.P.SectorView.space c.args.space.now) (c.requires.settled before)) c.args.id there.0 there.1 there.2 c.in-Some.entry (sym c.in-Some.is ∙ c.in_ok-entry.ensures.found before) in
-    ap (λ (l : VolumeState). value_at l.catalog_pairs c.in-Some.entry.parent c.in-Some.entry.name) (lists_still c.keep.new.self c.entry.new.self (g.P.SectorView.space c.args.space.now) (g.P.SectorView.space c.entry.new.space) c.entry.ensures.reads before) ∙ it.value
+    ap (λ (l : VolumeState). value_at l.catalog_pairs c.in-Some.entry.parent c.in-Some.entry.name) (lists_still c.keep.new.self c.entry.new.self (g.P.SectorView.space c.args.space.now) (g.P.SectorView.space c.entry.new.space) c.entry.ensures.looked.reads before) ∙ it.value
 
 pub put_in_entry-requires-clause-told : goal.put_in_entry-requires-clause-told
 put_in_entry-requires-clause-told g c tells file is =
-    let before = sym c.entry.ensures.reads.looks.same.tells ∙ tells in
+    let before = sym c.entry.ensures.looked.reads.looks.same.tells ∙ tells in
     let there = c.requires.there before in
     let it : IsThere _ c.args.id c.in-Some.entry = entry_there c.keep.new.self (g.P.SectorView.space c.args.space.now).content ((stands_kept c.args.volume.now c.keep.new.self c.keep.ensures (g.P.SectorView.space c.args.space.now) c.requires.stands).stands before).trees (settled_kept c.args.volume.now c.keep.new.self c.keep.ensures (g.P.SectorView.space c.args.space.now) (c.requires.settled before)) c.args.id there.0 there.1 there.2 c.in-Some.entry (sym c.in-Some.is ∙ c.in_ok-entry.ensures.found before) in
-    subst (λ (k : Content). IsToldFile file (extents_in k file) k) (sym (c.entry.ensures.reads.looks.content before)) (told_is c.keep.new.self (g.P.SectorView.space c.args.space.now) (stands_kept c.args.volume.now c.keep.new.self c.keep.ensures (g.P.SectorView.space c.args.space.now) c.requires.stands) before (settled_kept c.args.volume.now c.keep.new.self c.keep.ensures (g.P.SectorView.space c.args.space.now) (c.requires.settled before)) there.0 there.1 there.3 file (same_file _ file (sym (entry_is c.keep.new.self (g.P.SectorView.space c.args.space.now) (stands_kept c.args.volume.now c.keep.new.self c.keep.ensures (g.P.SectorView.space c.args.space.now) c.requires.stands) before (settled_kept c.args.volume.now c.keep.new.self c.keep.ensures (g.P.SectorView.space c.args.space.now) (c.requires.settled before)) there.0 there.1 there.3 c.args.id c.in-Some.entry there.2 it) ∙ is)))
+    subst (λ (k : Content). IsToldFile file (extents_in k file) k) (sym (c.entry.ensures.looked.reads.looks.content before)) (told_is c.keep.new.self (g.P.SectorView.space c.args.space.now) (stands_kept c.args.volume.now c.keep.new.self c.keep.ensures (g.P.SectorView.space c.args.space.now) c.requires.stands) before (settled_kept c.args.volume.now c.keep.new.self c.keep.ensures (g.P.SectorView.space c.args.space.now) (c.requires.settled before)) there.0 there.1 there.3 file (same_file _ file (sym (entry_is c.keep.new.self (g.P.SectorView.space c.args.space.now) (stands_kept c.args.volume.now c.keep.new.self c.keep.ensures (g.P.SectorView.space c.args.space.now) c.requires.stands) before (settled_kept c.args.volume.now c.keep.new.self c.keep.ensures (g.P.SectorView.space c.args.space.now) (c.requires.settled before)) there.0 there.1 there.3 c.args.id c.in-Some.entry there.2 it) ∙ is)))
 
 pub returns-in-Some-clause-exactly : goal.returns-in-Some-clause-exactly
 returns-in-Some-clause-exactly g c tells node stands number kind put put_id at =
     let it : IsThere _ c.args.id c.in-Some.entry = entry_there c.keep.new.self (g.P.SectorView.space c.args.space.now).content ((stands_kept c.args.volume.now c.keep.new.self c.keep.ensures (g.P.SectorView.space c.args.space.now) c.requires.stands).stands tells).trees (settled_kept c.args.volume.now c.keep.new.self c.keep.ensures (g.P.SectorView.space c.args.space.now) (c.requires.settled tells)) c.args.id node stands number c.in-Some.entry (sym c.in-Some.is ∙ c.in_ok-entry.ensures.found tells) in
     let file = (its c.keep.new.self (g.P.SectorView.space c.args.space.now) (stands_kept c.args.volume.now c.keep.new.self c.keep.ensures (g.P.SectorView.space c.args.space.now) c.requires.stands) tells (settled_kept c.args.volume.now c.keep.new.self c.keep.ensures (g.P.SectorView.space c.args.space.now) (c.requires.settled tells)) node stands kind).file in
     if_so _ _ c.put_in_entry.result
-    (λ said is other. sym (can_still c.args.volume.now c.entry.new.self (alike_both c.args.volume.now c.keep.new.self c.entry.new.self (alike_kept c.args.volume.now c.keep.new.self c.keep.ensures) (alike_read c.keep.new.self c.entry.new.self (g.P.SectorView.space c.args.space.now) (g.P.SectorView.space c.entry.new.space) c.entry.ensures.reads)) file.data_fork.logical_size c.args.from (length c.args.value.now) (g.P.SectorView.space c.entry.new.space).spare (g.P.SectorView.space c.args.space.now).spare (length (extents_in (g.P.SectorView.space c.entry.new.space).content file)) (length (extents_in (g.P.SectorView.space c.args.space.now).content file)) file.data_fork.total_blocks c.entry.ensures.reads.looks.spare (ap (λ (k : Content). length (extents_in k file)) (c.entry.ensures.reads.looks.content tells)) _ refl
+    (λ said is other. sym (can_still c.args.volume.now c.entry.new.self (alike_both c.args.volume.now c.keep.new.self c.entry.new.self (alike_kept c.args.volume.now c.keep.new.self c.keep.ensures) (alike_read c.keep.new.self c.entry.new.self (g.P.SectorView.space c.args.space.now) (g.P.SectorView.space c.entry.new.space) c.entry.ensures.looked.reads)) file.data_fork.logical_size c.args.from (length c.args.value.now) (g.P.SectorView.space c.entry.new.space).spare (g.P.SectorView.space c.args.space.now).spare (length (extents_in (g.P.SectorView.space c.entry.new.space).content file)) (length (extents_in (g.P.SectorView.space c.args.space.now).content file)) file.data_fork.total_blocks c.entry.ensures.looked.reads.looks.spare (ap (λ (k : Content). length (extents_in k file)) (c.entry.ensures.looked.reads.looks.content tells)) _ refl
     ∙ now_is c.args.volume.now (g.P.SectorView.space c.args.space.now) c.requires.stands tells (c.requires.settled tells) node stands kind file (same_files c.args.volume.now c.keep.new.self (g.P.SectorView.space c.args.space.now) c.requires.stands (stands_kept c.args.volume.now c.keep.new.self c.keep.ensures (g.P.SectorView.space c.args.space.now) c.requires.stands) tells (c.requires.settled tells) (settled_kept c.args.volume.now c.keep.new.self c.keep.ensures (g.P.SectorView.space c.args.space.now) (c.requires.settled tells)) node stands kind) put c.args.from (length c.args.value.now) (g.P.SectorView.space c.args.space.now).spare (put_id ∙ sym number) at) ∙ is other)
-    (c.put_in_entry.ensures.exactly (c.entry.ensures.reads.looks.same.tells ∙ tells) file (entry_is c.keep.new.self (g.P.SectorView.space c.args.space.now) (stands_kept c.args.volume.now c.keep.new.self c.keep.ensures (g.P.SectorView.space c.args.space.now) c.requires.stands) tells (settled_kept c.args.volume.now c.keep.new.self c.keep.ensures (g.P.SectorView.space c.args.space.now) (c.requires.settled tells)) node stands kind c.args.id c.in-Some.entry number it))
+    (c.put_in_entry.ensures.exactly (c.entry.ensures.looked.reads.looks.same.tells ∙ tells) file (entry_is c.keep.new.self (g.P.SectorView.space c.args.space.now) (stands_kept c.args.volume.now c.keep.new.self c.keep.ensures (g.P.SectorView.space c.args.space.now) c.requires.stands) tells (settled_kept c.args.volume.now c.keep.new.self c.keep.ensures (g.P.SectorView.space c.args.space.now) (c.requires.settled tells)) node stands kind c.args.id c.in-Some.entry number it))
 
 pub returns-in-Some-clause-met : goal.returns-in-Some-clause-met
 returns-in-Some-clause-met g c tells node stands number kind put put_id at =
@@ -88,12 +88,12 @@ returns-in-Some-clause-met g c tells node stands number kind put put_id at =
     if_so _ _ c.put_in_entry.result
     (λ said is other. not_met (is_data_met v a.spare (volume_of a.content) (Some put)) (λ ok.
     true≢false (sym (data_met v a c.requires.stands tells (c.requires.settled tells) node stands kind file same put c.args.from (length c.args.value.now) (put_id ∙ sym number) at c.requires.some a.spare ok)
-    ∙ sym (met_alike v c.entry.new.self (alike_both v c.keep.new.self c.entry.new.self (alike_kept v c.keep.new.self c.keep.ensures) (alike_read c.keep.new.self c.entry.new.self a b c.entry.ensures.reads))
-    (c.entry.ensures.reads.keeps.capacity ∙ c.keep.ensures.same.capacity) (volume_of b.content) (volume_of a.content) (ap volume_of (c.entry.ensures.reads.looks.content tells)) b.spare a.spare
+    ∙ sym (met_alike v c.entry.new.self (alike_both v c.keep.new.self c.entry.new.self (alike_kept v c.keep.new.self c.keep.ensures) (alike_read c.keep.new.self c.entry.new.self a b c.entry.ensures.looked.reads))
+    (c.entry.ensures.looked.reads.keeps.capacity ∙ c.keep.ensures.same.capacity) (volume_of b.content) (volume_of a.content) (ap volume_of (c.entry.ensures.looked.reads.looks.content tells)) b.spare a.spare
     (records_held (volume_of b.content) file.fields.id) (records_held (volume_of a.content) file.fields.id) (length (extents_in b.content file)) (length (extents_in a.content file)) file.data_fork.total_blocks file.data_fork.logical_size c.args.from (length c.args.value.now)
-    c.entry.ensures.reads.looks.spare (ap (λ (k : Content). records_held (volume_of k) file.fields.id) (c.entry.ensures.reads.looks.content tells)) (ap (λ (k : Content). length (extents_in k file)) (c.entry.ensures.reads.looks.content tells)))
+    c.entry.ensures.looked.reads.looks.spare (ap (λ (k : Content). records_held (volume_of k) file.fields.id) (c.entry.ensures.looked.reads.looks.content tells)) (ap (λ (k : Content). length (extents_in k file)) (c.entry.ensures.looked.reads.looks.content tells)))
     ∙ is other)))
-    (c.put_in_entry.ensures.met (c.entry.ensures.reads.looks.same.tells ∙ tells) file (entry_is c.keep.new.self a (stands_kept v c.keep.new.self c.keep.ensures a c.requires.stands) tells (settled_kept v c.keep.new.self c.keep.ensures a (c.requires.settled tells)) node stands kind c.args.id c.in-Some.entry number it))
+    (c.put_in_entry.ensures.met (c.entry.ensures.looked.reads.looks.same.tells ∙ tells) file (entry_is c.keep.new.self a (stands_kept v c.keep.new.self c.keep.ensures a c.requires.stands) tells (settled_kept v c.keep.new.self c.keep.ensures a (c.requires.settled tells)) node stands kind c.args.id c.in-Some.entry number it))
 
 pub returns-in-Some-clause-no_cut : goal.returns-in-Some-clause-no_cut
 returns-in-Some-clause-no_cut g c tells node stands number kind put put_id at =
@@ -101,8 +101,8 @@ returns-in-Some-clause-no_cut g c tells node stands number kind put put_id at =
     let file = (its c.keep.new.self (g.P.SectorView.space c.args.space.now) (stands_kept c.args.volume.now c.keep.new.self c.keep.ensures (g.P.SectorView.space c.args.space.now) c.requires.stands) tells (settled_kept c.args.volume.now c.keep.new.self c.keep.ensures (g.P.SectorView.space c.args.space.now) (c.requires.settled tells)) node stands kind).file in
     if_so _ _ c.put_in_entry.result
     (λ said is so. sym (cut_is c.args.volume.now (g.P.SectorView.space c.args.space.now) c.requires.stands tells (c.requires.settled tells) node stands kind file (same_files c.args.volume.now c.keep.new.self (g.P.SectorView.space c.args.space.now) c.requires.stands (stands_kept c.args.volume.now c.keep.new.self c.keep.ensures (g.P.SectorView.space c.args.space.now) c.requires.stands) tells (c.requires.settled tells) (settled_kept c.args.volume.now c.keep.new.self c.keep.ensures (g.P.SectorView.space c.args.space.now) (c.requires.settled tells)) node stands kind) put c.args.from (length c.args.value.now) (put_id ∙ sym number) at)
-    ∙ subst (λ (h : VolumeHeader). has_more file.data_fork.logical_size (c.args.from + length c.args.value.now) (blocks_for h.block_size file.data_fork.logical_size) file.data_fork.total_blocks ≡ false) (c.entry.ensures.reads.keeps.header ∙ c.keep.ensures.same.header) (is so))
-    (c.put_in_entry.ensures.no_cut (c.entry.ensures.reads.looks.same.tells ∙ tells) file (entry_is c.keep.new.self (g.P.SectorView.space c.args.space.now) (stands_kept c.args.volume.now c.keep.new.self c.keep.ensures (g.P.SectorView.space c.args.space.now) c.requires.stands) tells (settled_kept c.args.volume.now c.keep.new.self c.keep.ensures (g.P.SectorView.space c.args.space.now) (c.requires.settled tells)) node stands kind c.args.id c.in-Some.entry number it))
+    ∙ subst (λ (h : VolumeHeader). has_more file.data_fork.logical_size (c.args.from + length c.args.value.now) (blocks_for h.block_size file.data_fork.logical_size) file.data_fork.total_blocks ≡ false) (c.entry.ensures.looked.reads.keeps.header ∙ c.keep.ensures.same.header) (is so))
+    (c.put_in_entry.ensures.no_cut (c.entry.ensures.looked.reads.looks.same.tells ∙ tells) file (entry_is c.keep.new.self (g.P.SectorView.space c.args.space.now) (stands_kept c.args.volume.now c.keep.new.self c.keep.ensures (g.P.SectorView.space c.args.space.now) c.requires.stands) tells (settled_kept c.args.volume.now c.keep.new.self c.keep.ensures (g.P.SectorView.space c.args.space.now) (c.requires.settled tells)) node stands kind c.args.id c.in-Some.entry number it))
 
 pub returns-in-Some-clause-spent : goal.returns-in-Some-clause-spent
 returns-in-Some-clause-spent g c tells node stands number kind put put_id at =
@@ -119,25 +119,25 @@ returns-in-Some-clause-spent g c tells node stands number kind put put_id at =
     let same = same_files v k a c.requires.stands held tells was kept node stands kind in
     let size = file.data_fork.logical_size in
     let long = length c.args.value.now in
-    let like = alike_both v k u (alike_kept v k c.keep.ensures) (alike_read k u a b c.entry.ensures.reads) in
+    let like = alike_both v k u (alike_kept v k c.keep.ensures) (alike_read k u a b c.entry.ensures.looked.reads) in
     ⊎_elim
-    (λ none_put. inl (omega (arith, none_put, c.entry.ensures.reads.looks.spare)))
+    (λ none_put. inl (omega (arith, none_put, c.entry.ensures.looked.reads.looks.spare)))
     (λ some_put. inr (
       sym (cut_is v a c.requires.stands tells was node stands kind file same put c.args.from long (put_id ∙ sym number) at)
-          ∙ subst (λ (h : VolumeHeader). has_more size (c.args.from + long) (blocks_for h.block_size size) file.data_fork.total_blocks ≡ false) (c.entry.ensures.reads.keeps.header ∙ c.keep.ensures.same.header) some_put.0,
+          ∙ subst (λ (h : VolumeHeader). has_more size (c.args.from + long) (blocks_for h.block_size size) file.data_fork.total_blocks ≡ false) (c.entry.ensures.looked.reads.keeps.header ∙ c.keep.ensures.same.header) some_put.0,
       omega (
         arith,
         some_put.1,
-        c.entry.ensures.reads.looks.spare,
+        c.entry.ensures.looked.reads.looks.spare,
         load_alike v u like size c.args.from long,
         load_now v a c.requires.stands tells was node stands kind file same put c.args.from long at,
         spread_alike v u like size c.args.from long (records_held (volume_of b.content) file.fields.id) (records_held (volume_of a.content) file.fields.id) (length (extents_in b.content file)) (length (extents_in a.content file))
-            (c.entry.ensures.reads.keeps.extents.file.shape ∙ ap (λ (t : Tree). t.file.shape) c.keep.ensures.same.extents)
-            (ap (λ (x : Content). records_held (volume_of x) file.fields.id) (c.entry.ensures.reads.looks.content tells)) (ap (λ (x : Content). length (extents_in x file)) (c.entry.ensures.reads.looks.content tells)),
+            (c.entry.ensures.looked.reads.keeps.extents.file.shape ∙ ap (λ (t : Tree). t.file.shape) c.keep.ensures.same.extents)
+            (ap (λ (x : Content). records_held (volume_of x) file.fields.id) (c.entry.ensures.looked.reads.looks.content tells)) (ap (λ (x : Content). length (extents_in x file)) (c.entry.ensures.looked.reads.looks.content tells)),
         records_now v a c.requires.stands tells was node stands kind file same put c.args.from long (put_id ∙ sym number) at,
       ),
     ))
-    (c.put_in_entry.ensures.spent (c.entry.ensures.reads.looks.same.tells ∙ tells) file (entry_is k a held tells kept node stands kind c.args.id c.in-Some.entry number it))
+    (c.put_in_entry.ensures.spent (c.entry.ensures.looked.reads.looks.same.tells ∙ tells) file (entry_is k a held tells kept node stands kind c.args.id c.in-Some.entry number it))
 
 pub returns-in-Some-clause-puts : goal.returns-in-Some-clause-puts
 returns-in-Some-clause-puts g c tells =
@@ -149,60 +149,60 @@ returns-in-Some-clause-puts g c tells =
       file = file;
       number = number_is c.keep.new.self (g.P.SectorView.space c.args.space.now) (stands_kept c.args.volume.now c.keep.new.self c.keep.ensures (g.P.SectorView.space c.args.space.now) c.requires.stands) tells (settled_kept c.args.volume.now c.keep.new.self c.keep.ensures (g.P.SectorView.space c.args.space.now) (c.requires.settled tells)) there.0 there.1 there.3 file refl ∙ there.2;
       stands = has_it c.keep.new.self (g.P.SectorView.space c.args.space.now) (stands_kept c.args.volume.now c.keep.new.self c.keep.ensures (g.P.SectorView.space c.args.space.now) c.requires.stands) tells (settled_kept c.args.volume.now c.keep.new.self c.keep.ensures (g.P.SectorView.space c.args.space.now) (c.requires.settled tells)) there.0 there.1 there.3 file refl;
-      puts = puts_alike c.args.volume.now c.entry.new.self (alike_both c.args.volume.now c.keep.new.self c.entry.new.self (alike_kept c.args.volume.now c.keep.new.self c.keep.ensures) (alike_read c.keep.new.self c.entry.new.self (g.P.SectorView.space c.args.space.now) (g.P.SectorView.space c.entry.new.space) c.entry.ensures.reads)) file c.args.from c.args.value.now c.put_in_entry.new.volume (g.P.SectorView.space c.entry.new.space).content (g.P.SectorView.space c.args.space.now).content (g.P.SectorView.space c.put_in_entry.new.space).content (c.entry.ensures.reads.looks.content tells) (is so);
+      puts = puts_alike c.args.volume.now c.entry.new.self (alike_both c.args.volume.now c.keep.new.self c.entry.new.self (alike_kept c.args.volume.now c.keep.new.self c.keep.ensures) (alike_read c.keep.new.self c.entry.new.self (g.P.SectorView.space c.args.space.now) (g.P.SectorView.space c.entry.new.space) c.entry.ensures.looked.reads)) file c.args.from c.args.value.now c.put_in_entry.new.volume (g.P.SectorView.space c.entry.new.space).content (g.P.SectorView.space c.args.space.now).content (g.P.SectorView.space c.put_in_entry.new.space).content (c.entry.ensures.looked.reads.looks.content tells) (is so);
     })
-    (c.put_in_entry.ensures.puts (c.entry.ensures.reads.looks.same.tells ∙ tells) file (entry_is c.keep.new.self (g.P.SectorView.space c.args.space.now) (stands_kept c.args.volume.now c.keep.new.self c.keep.ensures (g.P.SectorView.space c.args.space.now) c.requires.stands) tells (settled_kept c.args.volume.now c.keep.new.self c.keep.ensures (g.P.SectorView.space c.args.space.now) (c.requires.settled tells)) there.0 there.1 there.3 c.args.id c.in-Some.entry there.2 it))
+    (c.put_in_entry.ensures.puts (c.entry.ensures.looked.reads.looks.same.tells ∙ tells) file (entry_is c.keep.new.self (g.P.SectorView.space c.args.space.now) (stands_kept c.args.volume.now c.keep.new.self c.keep.ensures (g.P.SectorView.space c.args.space.now) c.requires.stands) tells (settled_kept c.args.volume.now c.keep.new.self c.keep.ensures (g.P.SectorView.space c.args.space.now) (c.requires.settled tells)) there.0 there.1 there.3 c.args.id c.in-Some.entry there.2 it))
 
 pub returns-in-Some-clause-waits : goal.returns-in-Some-clause-waits
 returns-in-Some-clause-waits g c tells =
-    if_so _ _ c.put_in_entry.result (λ said is other. ((is other).0, (is other).1 ∙ c.entry.ensures.reads.looks.content tells)) (c.put_in_entry.ensures.waits (c.entry.ensures.reads.looks.same.tells ∙ tells))
+    if_so _ _ c.put_in_entry.result (λ said is other. ((is other).0, (is other).1 ∙ c.entry.ensures.looked.reads.looks.content tells)) (c.put_in_entry.ensures.waits (c.entry.ensures.looked.reads.looks.same.tells ∙ tells))
 
 pub returns-in-Some-clause-commit : goal.returns-in-Some-clause-commit
 returns-in-Some-clause-commit g c committed holds alike =
-    touches_both committed _ (g.P.SectorView.space c.args.space.now) (g.P.SectorView.space c.entry.new.space) (g.P.SectorView.space c.put_in_entry.new.space) (subst (λ (l : List ℕ). Touches committed (λ s. Contains l s) (g.P.SectorView.space c.args.space.now) (g.P.SectorView.space c.entry.new.space)) (own_kept c.args.volume.now c.keep.new.self c.keep.ensures) (touches_looks committed _ (g.P.SectorView.space c.args.space.now) (g.P.SectorView.space c.entry.new.space) c.entry.ensures.reads.looks))
-    (subst (λ (l : List ℕ). Touches committed (λ s. Contains l s) (g.P.SectorView.space c.entry.new.space) (g.P.SectorView.space c.put_in_entry.new.space)) (own_still c.keep.new.self c.entry.new.self (g.P.SectorView.space c.args.space.now) (g.P.SectorView.space c.entry.new.space) c.entry.ensures.reads ∙ own_kept c.args.volume.now c.keep.new.self c.keep.ensures) (c.put_in_entry.ensures.commit committed ((used_read c.keep.new.self c.entry.new.self (g.P.SectorView.space c.args.space.now) (g.P.SectorView.space c.entry.new.space) c.entry.ensures.reads).holds committed (holds_kept c.args.volume.now c.keep.new.self c.keep.ensures committed holds)) (laid_alike c.args.volume.now c.entry.new.self (alike_both c.args.volume.now c.keep.new.self c.entry.new.self (alike_kept c.args.volume.now c.keep.new.self c.keep.ensures) (alike_read c.keep.new.self c.entry.new.self (g.P.SectorView.space c.args.space.now) (g.P.SectorView.space c.entry.new.space) c.entry.ensures.reads)) committed alike)))
+    touches_both committed _ (g.P.SectorView.space c.args.space.now) (g.P.SectorView.space c.entry.new.space) (g.P.SectorView.space c.put_in_entry.new.space) (subst (λ (l : List ℕ). Touches committed (λ s. Contains l s) (g.P.SectorView.space c.args.space.now) (g.P.SectorView.space c.entry.new.space)) (own_kept c.args.volume.now c.keep.new.self c.keep.ensures) (touches_looks committed _ (g.P.SectorView.space c.args.space.now) (g.P.SectorView.space c.entry.new.space) c.entry.ensures.looked.reads.looks))
+    (subst (λ (l : List ℕ). Touches committed (λ s. Contains l s) (g.P.SectorView.space c.entry.new.space) (g.P.SectorView.space c.put_in_entry.new.space)) (own_still c.keep.new.self c.entry.new.self (g.P.SectorView.space c.args.space.now) (g.P.SectorView.space c.entry.new.space) c.entry.ensures.looked.reads ∙ own_kept c.args.volume.now c.keep.new.self c.keep.ensures) (c.put_in_entry.ensures.commit committed ((used_read c.keep.new.self c.entry.new.self (g.P.SectorView.space c.args.space.now) (g.P.SectorView.space c.entry.new.space) c.entry.ensures.looked.reads).holds committed (holds_kept c.args.volume.now c.keep.new.self c.keep.ensures committed holds)) (laid_alike c.args.volume.now c.entry.new.self (alike_both c.args.volume.now c.keep.new.self c.entry.new.self (alike_kept c.args.volume.now c.keep.new.self c.keep.ensures) (alike_read c.keep.new.self c.entry.new.self (g.P.SectorView.space c.args.space.now) (g.P.SectorView.space c.entry.new.space) c.entry.ensures.looked.reads)) committed alike)))
 
 pub returns-in-Some-clause-holds : goal.returns-in-Some-clause-holds
-returns-in-Some-clause-holds g c committed was = c.put_in_entry.ensures.holds committed ((used_read c.keep.new.self c.entry.new.self (g.P.SectorView.space c.args.space.now) (g.P.SectorView.space c.entry.new.space) c.entry.ensures.reads).holds committed (holds_kept c.args.volume.now c.keep.new.self c.keep.ensures committed was))
+returns-in-Some-clause-holds g c committed was = c.put_in_entry.ensures.holds committed ((used_read c.keep.new.self c.entry.new.self (g.P.SectorView.space c.args.space.now) (g.P.SectorView.space c.entry.new.space) c.entry.ensures.looked.reads).holds committed (holds_kept c.args.volume.now c.keep.new.self c.keep.ensures committed was))
 
 pub returns-in-Some-clause-same : goal.returns-in-Some-clause-same
-returns-in-Some-clause-same g c = (c.put_in_entry.ensures.same.0 ∙ c.entry.ensures.reads.keeps.private ∙ c.keep.ensures.same.private, c.put_in_entry.ensures.same.1 ∙ c.entry.ensures.reads.keeps.shrunk ∙ c.keep.ensures.same.shrunk, c.put_in_entry.ensures.same.2 ∙ c.entry.ensures.reads.keeps.capacity ∙ c.keep.ensures.same.capacity)
+returns-in-Some-clause-same g c = (c.put_in_entry.ensures.same.0 ∙ c.entry.ensures.looked.reads.keeps.private ∙ c.keep.ensures.same.private, c.put_in_entry.ensures.same.1 ∙ c.entry.ensures.looked.reads.keeps.shrunk ∙ c.keep.ensures.same.shrunk, c.put_in_entry.ensures.same.2 ∙ c.entry.ensures.looked.reads.keeps.capacity ∙ c.keep.ensures.same.capacity)
 
 pub returns-in-Some-clause-space : goal.returns-in-Some-clause-space
-returns-in-Some-clause-space g c = space_both (g.P.SectorView.space c.args.space.now) (g.P.SectorView.space c.entry.new.space) (g.P.SectorView.space c.put_in_entry.new.space) c.entry.ensures.reads.looks.same c.put_in_entry.ensures.space
+returns-in-Some-clause-space g c = space_both (g.P.SectorView.space c.args.space.now) (g.P.SectorView.space c.entry.new.space) (g.P.SectorView.space c.put_in_entry.new.space) c.entry.ensures.looked.reads.looks.same c.put_in_entry.ensures.space
 
 pub returns-in-Some-clause-below : goal.returns-in-Some-clause-below
-returns-in-Some-clause-below g c = g.met.P.SectorView.follows_trans c.args.space.now c.entry.new.space c.put_in_entry.new.space c.entry.ensures.below c.put_in_entry.ensures.below
+returns-in-Some-clause-below g c = g.met.P.SectorView.follows_trans c.args.space.now c.entry.new.space c.put_in_entry.new.space c.entry.ensures.looked.edits.ran.below c.put_in_entry.ensures.below
 
 pub returns-in-None-clause-commit : goal.returns-in-None-clause-commit
-returns-in-None-clause-commit g c committed holds alike = subst (λ (l : List ℕ). Touches committed (λ s. Contains l s) (g.P.SectorView.space c.args.space.now) (g.P.SectorView.space c.entry.new.space)) (own_kept c.args.volume.now c.keep.new.self c.keep.ensures) (touches_looks committed _ (g.P.SectorView.space c.args.space.now) (g.P.SectorView.space c.entry.new.space) c.entry.ensures.reads.looks)
+returns-in-None-clause-commit g c committed holds alike = subst (λ (l : List ℕ). Touches committed (λ s. Contains l s) (g.P.SectorView.space c.args.space.now) (g.P.SectorView.space c.entry.new.space)) (own_kept c.args.volume.now c.keep.new.self c.keep.ensures) (touches_looks committed _ (g.P.SectorView.space c.args.space.now) (g.P.SectorView.space c.entry.new.space) c.entry.ensures.looked.reads.looks)
 
 pub returns-in-None-clause-same : goal.returns-in-None-clause-same
-returns-in-None-clause-same g c = (c.entry.ensures.reads.keeps.private ∙ c.keep.ensures.same.private, c.entry.ensures.reads.keeps.shrunk ∙ c.keep.ensures.same.shrunk, c.entry.ensures.reads.keeps.capacity ∙ c.keep.ensures.same.capacity)
+returns-in-None-clause-same g c = (c.entry.ensures.looked.reads.keeps.private ∙ c.keep.ensures.same.private, c.entry.ensures.looked.reads.keeps.shrunk ∙ c.keep.ensures.same.shrunk, c.entry.ensures.looked.reads.keeps.capacity ∙ c.keep.ensures.same.capacity)
 
 pub returns-in-None-clause-space : goal.returns-in-None-clause-space
-returns-in-None-clause-space g c = c.entry.ensures.reads.looks.same
+returns-in-None-clause-space g c = c.entry.ensures.looked.reads.looks.same
 
 pub returns-in-None-clause-spent : goal.returns-in-None-clause-spent
-returns-in-None-clause-spent g c tells node stands number kind put put_id at = inl (omega (arith, c.entry.ensures.reads.looks.spare))
+returns-in-None-clause-spent g c tells node stands number kind put put_id at = inl (omega (arith, c.entry.ensures.looked.reads.looks.spare))
 
 pub returns-in-None-clause-service : goal.returns-in-None-clause-service
-returns-in-None-clause-service g c = c.entry.ensures.stands.service
+returns-in-None-clause-service g c = c.entry.ensures.looked.stands.service
 
 pub returns-in_err-entry-clause-commit : goal.returns-in_err-entry-clause-commit
-returns-in_err-entry-clause-commit g c committed holds alike = subst (λ (l : List ℕ). Touches committed (λ s. Contains l s) (g.P.SectorView.space c.args.space.now) (g.P.SectorView.space c.entry.new.space)) (own_kept c.args.volume.now c.keep.new.self c.keep.ensures) (touches_looks committed _ (g.P.SectorView.space c.args.space.now) (g.P.SectorView.space c.entry.new.space) c.entry.ensures.reads.looks)
+returns-in_err-entry-clause-commit g c committed holds alike = subst (λ (l : List ℕ). Touches committed (λ s. Contains l s) (g.P.SectorView.space c.args.space.now) (g.P.SectorView.space c.entry.new.space)) (own_kept c.args.volume.now c.keep.new.self c.keep.ensures) (touches_looks committed _ (g.P.SectorView.space c.args.space.now) (g.P.SectorView.space c.entry.new.space) c.entry.ensures.looked.reads.looks)
 
 pub returns-in_err-entry-clause-same : goal.returns-in_err-entry-clause-same
-returns-in_err-entry-clause-same g c = (c.entry.ensures.reads.keeps.private ∙ c.keep.ensures.same.private, c.entry.ensures.reads.keeps.shrunk ∙ c.keep.ensures.same.shrunk, c.entry.ensures.reads.keeps.capacity ∙ c.keep.ensures.same.capacity)
+returns-in_err-entry-clause-same g c = (c.entry.ensures.looked.reads.keeps.private ∙ c.keep.ensures.same.private, c.entry.ensures.looked.reads.keeps.shrunk ∙ c.keep.ensures.same.shrunk, c.entry.ensures.looked.reads.keeps.capacity ∙ c.keep.ensures.same.capacity)
 
 pub returns-in_err-entry-clause-space : goal.returns-in_err-entry-clause-space
-returns-in_err-entry-clause-space g c = c.entry.ensures.reads.looks.same
+returns-in_err-entry-clause-space g c = c.entry.ensures.looked.reads.looks.same
 
 pub returns-in_err-entry-clause-spent : goal.returns-in_err-entry-clause-spent
-returns-in_err-entry-clause-spent g c tells node stands number kind put put_id at = inl (omega (arith, c.entry.ensures.reads.looks.spare))
+returns-in_err-entry-clause-spent g c tells node stands number kind put put_id at = inl (omega (arith, c.entry.ensures.looked.reads.looks.spare))
 
 pub returns-in_err-entry-clause-service : goal.returns-in_err-entry-clause-service
-returns-in_err-entry-clause-service g c = c.entry.ensures.stands.service
+returns-in_err-entry-clause-service g c = c.entry.ensures.looked.stands.service
 
 pub returns-in-None-clause-exactly : goal.returns-in-None-clause-exactly
 returns-in-None-clause-exactly g c tells node stands number kind put put_id at other = absurd (not_none c.keep.new.self (g.P.SectorView.space c.args.space.now).content ((stands_kept c.args.volume.now c.keep.new.self c.keep.ensures (g.P.SectorView.space c.args.space.now) c.requires.stands).stands tells).trees (settled_kept c.args.volume.now c.keep.new.self c.keep.ensures (g.P.SectorView.space c.args.space.now) (c.requires.settled tells)) c.args.id node stands number (sym c.in-None.is ∙ c.in_ok-entry.ensures.found tells))
@@ -217,7 +217,7 @@ pub returns-in-None-clause-puts : goal.returns-in-None-clause-puts
 returns-in-None-clause-puts g c tells so = absurd (true≢false (sym so))
 
 pub returns-in-None-clause-waits : goal.returns-in-None-clause-waits
-returns-in-None-clause-waits g c tells other = (settled_still c.keep.new.self c.entry.new.self (g.P.SectorView.space c.args.space.now) (g.P.SectorView.space c.entry.new.space) c.entry.ensures.reads tells (settled_kept c.args.volume.now c.keep.new.self c.keep.ensures (g.P.SectorView.space c.args.space.now) (c.requires.settled tells)), c.entry.ensures.reads.looks.content tells)
+returns-in-None-clause-waits g c tells other = (settled_still c.keep.new.self c.entry.new.self (g.P.SectorView.space c.args.space.now) (g.P.SectorView.space c.entry.new.space) c.entry.ensures.looked.reads tells (settled_kept c.args.volume.now c.keep.new.self c.keep.ensures (g.P.SectorView.space c.args.space.now) (c.requires.settled tells)), c.entry.ensures.looked.reads.looks.content tells)
 
 pub returns-in-None-clause-holds : goal.returns-in-None-clause-holds
-returns-in-None-clause-holds g c committed was = (used_read c.keep.new.self c.entry.new.self (g.P.SectorView.space c.args.space.now) (g.P.SectorView.space c.entry.new.space) c.entry.ensures.reads).holds committed (holds_kept c.args.volume.now c.keep.new.self c.keep.ensures committed was)
+returns-in-None-clause-holds g c committed was = (used_read c.keep.new.self c.entry.new.self (g.P.SectorView.space c.args.space.now) (g.P.SectorView.space c.entry.new.space) c.entry.ensures.looked.reads).holds committed (holds_kept c.args.volume.now c.keep.new.self c.keep.ensures committed was)

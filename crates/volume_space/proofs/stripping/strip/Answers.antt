@@ -15,8 +15,8 @@ delete-requires-clause-room g c = room_for_edits 1 refl c.edits_have_room.ensure
 
 pub returns-clause-does : goal.returns-clause-does
 returns-clause-does g c tells =
-    let later = (c.delete.ensures.touches (g.P.SectorView.space c.args.space.now).content).same.tells ∙ tells in
-    bared_one c.args.volume.now c.delete.new.self (g.P.SectorView.space c.args.space.now) (g.P.SectorView.space c.delete.new.space) (c.requires.settled tells) (c.requires.stands.stands tells) (c.in_ok-delete.ensures.stands.stands later) c.requires.has c.args.id c.args.name.now
+    let later = (c.delete.ensures.edits.ran.touches (g.P.SectorView.space c.args.space.now).content).same.tells ∙ tells in
+    bared_one c.args.volume.now c.delete.new.self (g.P.SectorView.space c.args.space.now) (g.P.SectorView.space c.delete.new.space) (c.requires.settled tells) (c.requires.stands.stands tells) (c.in_ok-delete.ensures.edits.ran.stands.stands later) c.requires.has c.args.id c.args.name.now
     (c.in_ok-delete.ensures.deletes tells) (shrunk_of c.args.volume.now) (c.requires.waits tells) c.reclaim_drops_attributes_of_orphans.ensures c.reclaim_drops_an_attribute.ensures
 
 pub returns-clause-blocks : goal.returns-clause-blocks

@@ -25,10 +25,10 @@ touch-requires-clause-there g c tells =
 pub returns-clause-does : goal.returns-clause-does
 returns-clause-does g c tells =
     let later = (c.take_out.ensures.touches (g.P.SectorView.space c.args.space.now).content).same.tells ∙ tells in
-    let last = (c.touch.ensures.touches (g.P.SectorView.space c.args.space.now).content).same.tells ∙ later in
+    let last = (c.touch.ensures.edits.ran.touches (g.P.SectorView.space c.args.space.now).content).same.tells ∙ later in
     ok_both (StandsOver c.touch.new.self (g.P.SectorView.space c.touch.new.space)) (TouchesFolder c.args.entry.now.parent 0 1 c.take_out.new.volume c.touch.new.self (g.P.SectorView.space c.take_out.new.space).content (g.P.SectorView.space c.touch.new.space).content)
     (IsSettled c.touch.new.self (g.P.SectorView.space c.touch.new.space).content × DropsWaiting (shrunk_of c.args.volume.now) (g.P.SectorView.space c.args.space.now).content (g.P.SectorView.space c.touch.new.space).content)
-    c.touch.result c.touch.ensures.stands (c.touch.ensures.counts later)
+    c.touch.result c.touch.ensures.edits.ran.stands (c.touch.ensures.counts later)
     (λ stands t.
     unfiled c.args.volume.now (g.P.SectorView.space c.args.space.now) (c.requires.stands.stands tells) (c.requires.settled tells) (shrunk_of c.args.volume.now) c.args.entry.now (c.requires.waits tells) c.soundness_has_two_halves.ensures c.header_may_change.ensures c.take_out.new.volume (g.P.SectorView.space c.take_out.new.space) (c.in_ok-take_out.ensures.drops tells)
     c.touch.new.self (g.P.SectorView.space c.touch.new.space) (stands.stands last) t c.reclaim_drops_an_entry.ensures)
@@ -36,15 +36,15 @@ returns-clause-does g c tells =
 pub returns-clause-touches : goal.returns-clause-touches
 returns-clause-touches g c committed =
     touches_both committed _ (g.P.SectorView.space c.args.space.now) (g.P.SectorView.space c.take_out.new.space) (g.P.SectorView.space c.touch.new.space) (c.take_out.ensures.touches committed)
-    (subst (λ (l : List ℕ). Touches committed (λ s. Contains l s) (g.P.SectorView.space c.take_out.new.space) (g.P.SectorView.space c.touch.new.space)) c.take_out.ensures.own (c.touch.ensures.touches committed))
+    (subst (λ (l : List ℕ). Touches committed (λ s. Contains l s) (g.P.SectorView.space c.take_out.new.space) (g.P.SectorView.space c.touch.new.space)) c.take_out.ensures.own (c.touch.ensures.edits.ran.touches committed))
 
 pub returns-clause-spent : goal.returns-clause-spent
 returns-clause-spent g c tells =
     let later = (c.take_out.ensures.touches (g.P.SectorView.space c.args.space.now).content).same.tells ∙ tells in
-    omega (arith, c.take_out.ensures.spent tells, c.touch.ensures.spent later, ap (λ n. n / 512) (c.in_ok-take_out.ensures.drops tells).changes.nodes.1)
+    omega (arith, c.take_out.ensures.spent tells, c.touch.ensures.edits.ran.spent later, ap (λ n. n / 512) (c.in_ok-take_out.ensures.drops tells).changes.nodes.1)
 
 pub returns-clause-below : goal.returns-clause-below
-returns-clause-below g c = g.met.P.SectorView.follows_trans c.args.space.now c.take_out.new.space c.touch.new.space c.take_out.ensures.below c.touch.ensures.below
+returns-clause-below g c = g.met.P.SectorView.follows_trans c.args.space.now c.take_out.new.space c.touch.new.space c.take_out.ensures.below c.touch.ensures.edits.ran.below
 
 pub returns-clause-blocks : goal.returns-clause-blocks
-returns-clause-blocks g c = blocks_both c.args.volume.now c.take_out.new.volume c.touch.new.self c.take_out.ensures.blocks c.touch.ensures.blocks
+returns-clause-blocks g c = blocks_both c.args.volume.now c.take_out.new.volume c.touch.new.self c.take_out.ensures.blocks c.touch.ensures.edits.blocks

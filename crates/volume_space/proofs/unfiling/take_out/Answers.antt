@@ -34,7 +34,7 @@ pub returns-clause-drops : goal.returns-clause-drops
 returns-clause-drops g c tells =
     let later = c.count_file_off.ensures.within.same.tells ∙ tells in
     drops_file c.args.volume.now c.count_file_off.new.self (g.P.SectorView.space c.args.space.now) (g.P.SectorView.space c.count_file_off.new.space) c.count_file_off.ensures.rest (c.count_file_off.ensures.put tells) c.remove.new.self (g.P.SectorView.space c.remove.new.space)
-    (c.count_file_off.ensures.stands.stands later) later (c.in_ok-remove.ensures.stands.stands (c.remove.ensures.frame.space.same.tells ∙ later)) c.remove.ensures.frame c.remove.ensures.rest
+    (c.count_file_off.ensures.stands.stands later) later (c.in_ok-remove.ensures.edits.ran.stands.stands (c.remove.ensures.frame.space.same.tells ∙ later)) c.remove.ensures.frame c.remove.ensures.rest
     c.args.entry.now.parent c.args.entry.now.name c.in_ok-remove.field-0 c.count_file_off.ensures.header
     (stands_under c.args.volume.now (g.P.SectorView.space c.args.space.now) (c.requires.stands.stands tells) (c.requires.settled tells) (shrunk_of c.args.volume.now) c.args.entry.now (c.requires.waits tells))
     (c.in_ok-remove.ensures.answer later) (c.in_ok-remove.ensures.removed later)
@@ -56,13 +56,13 @@ pub returns-clause-touches : goal.returns-clause-touches
 returns-clause-touches g c committed =
     touches_both committed _ (g.P.SectorView.space c.args.space.now) (g.P.SectorView.space c.count_file_off.new.space) (g.P.SectorView.space c.remove.new.space)
     (touches_header c.args.volume.now committed (g.P.SectorView.space c.args.space.now) (g.P.SectorView.space c.count_file_off.new.space) c.count_file_off.ensures.within)
-    (subst (λ (l : List ℕ). Touches committed (λ s. Contains l s) (g.P.SectorView.space c.count_file_off.new.space) (g.P.SectorView.space c.remove.new.space)) (own_drawn c.args.volume.now c.count_file_off.new.self c.remove.new.self (g.P.SectorView.space c.count_file_off.new.space) (g.P.SectorView.space c.remove.new.space) c.count_file_off.ensures.rest c.remove.ensures.frame c.remove.ensures.rest) (c.remove.ensures.touches committed))
+    (subst (λ (l : List ℕ). Touches committed (λ s. Contains l s) (g.P.SectorView.space c.count_file_off.new.space) (g.P.SectorView.space c.remove.new.space)) (own_drawn c.args.volume.now c.count_file_off.new.self c.remove.new.self (g.P.SectorView.space c.count_file_off.new.space) (g.P.SectorView.space c.remove.new.space) c.count_file_off.ensures.rest c.remove.ensures.frame c.remove.ensures.rest) (c.remove.ensures.edits.ran.touches committed))
 
 pub returns-in_err-remove-clause-touches : goal.returns-in_err-remove-clause-touches
 returns-in_err-remove-clause-touches g c committed =
     touches_both committed _ (g.P.SectorView.space c.args.space.now) (g.P.SectorView.space c.count_file_off.new.space) (g.P.SectorView.space c.remove.new.space)
     (touches_header c.args.volume.now committed (g.P.SectorView.space c.args.space.now) (g.P.SectorView.space c.count_file_off.new.space) c.count_file_off.ensures.within)
-    (subst (λ (l : List ℕ). Touches committed (λ s. Contains l s) (g.P.SectorView.space c.count_file_off.new.space) (g.P.SectorView.space c.remove.new.space)) (own_drawn c.args.volume.now c.count_file_off.new.self c.remove.new.self (g.P.SectorView.space c.count_file_off.new.space) (g.P.SectorView.space c.remove.new.space) c.count_file_off.ensures.rest c.remove.ensures.frame c.remove.ensures.rest) (c.remove.ensures.touches committed))
+    (subst (λ (l : List ℕ). Touches committed (λ s. Contains l s) (g.P.SectorView.space c.count_file_off.new.space) (g.P.SectorView.space c.remove.new.space)) (own_drawn c.args.volume.now c.count_file_off.new.self c.remove.new.self (g.P.SectorView.space c.count_file_off.new.space) (g.P.SectorView.space c.remove.new.space) c.count_file_off.ensures.rest c.remove.ensures.frame c.remove.ensures.rest) (c.remove.ensures.edits.ran.touches committed))
 
 pub returns-clause-spent : goal.returns-clause-spent
 returns-clause-spent g c tells =
@@ -77,10 +77,10 @@ returns-in_err-remove-clause-spent g c tells =
     (subst (λ (t : Tree). TakesAtMost 2 516 (state_of [] t.file (g.P.SectorView.space c.count_file_off.new.space)) (state_of [] c.remove.new.self.catalog.file (g.P.SectorView.space c.remove.new.space))) (ap (λ (x : Volume). x.catalog) c.count_file_off.ensures.rest) (c.remove.ensures.takes [])) tells
 
 pub returns-clause-below : goal.returns-clause-below
-returns-clause-below g c = g.met.P.SectorView.follows_trans c.args.space.now c.count_file_off.new.space c.remove.new.space c.count_file_off.ensures.below c.remove.ensures.below
+returns-clause-below g c = g.met.P.SectorView.follows_trans c.args.space.now c.count_file_off.new.space c.remove.new.space c.count_file_off.ensures.below c.remove.ensures.edits.ran.below
 
 pub returns-in_err-remove-clause-below : goal.returns-in_err-remove-clause-below
-returns-in_err-remove-clause-below g c = g.met.P.SectorView.follows_trans c.args.space.now c.count_file_off.new.space c.remove.new.space c.count_file_off.ensures.below c.remove.ensures.below
+returns-in_err-remove-clause-below g c = g.met.P.SectorView.follows_trans c.args.space.now c.count_file_off.new.space c.remove.new.space c.count_file_off.ensures.below c.remove.ensures.edits.ran.below
 
 pub returns-clause-blocks : goal.returns-clause-blocks
 returns-clause-blocks g c = blocks_both c.args.volume.now c.count_file_off.new.self c.remove.new.self (blocks_header c.args.volume.now c.count_file_off.new.self c.count_file_off.ensures.rest) (blocks_edit c.count_file_off.new.self c.remove.new.self c.remove.ensures.rest)

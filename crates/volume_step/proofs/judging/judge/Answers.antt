@@ -27,7 +27,7 @@ pub returns-in-Some-clause-taken : goal.returns-in-Some-clause-taken
 returns-in-Some-clause-taken g c tells now =
     subst (λ (v : Verdict). IsTaken v now.grow) (sym c.verdict_of.ensures)
     (taken_weight (capacity_of c.args.volume.now) (takable_of c.args.volume.now) (g.P.SectorView.space c.args.space.now).content c.args.command.now c.spare.result c.requires.changes now.no_data now.load now.grow now.costs
-    (omega (arith, now.within, c.spare.ensures, c.weigh.ensures.reads.looks.spare)) c.in-Some.weight (weight_found c.in_ok-weight.field-0 c.in-Some.weight _ c.in-Some.is (c.in_ok-weight.ensures.answer tells)))
+    (omega (arith, now.within, c.spare.ensures, c.weigh.ensures.looked.reads.looks.spare)) c.in-Some.weight (weight_found c.in_ok-weight.field-0 c.in-Some.weight _ c.in-Some.is (c.in_ok-weight.ensures.answer tells)))
 
 pub returns-in-None-clause-taken : goal.returns-in-None-clause-taken
 returns-in-None-clause-taken g c tells now =
@@ -36,7 +36,7 @@ returns-in-None-clause-taken g c tells now =
 pub returns-in-Some-clause-puts : goal.returns-in-Some-clause-puts
 returns-in-Some-clause-puts g c tells puts =
     subst IsDirect (sym c.verdict_of.ensures)
-    (direct_weight c.args.volume.now (g.P.SectorView.space c.args.space.now) c.args.command.now puts c.in-Some.weight c.spare.result (weight_found c.in_ok-weight.field-0 c.in-Some.weight _ c.in-Some.is (c.in_ok-weight.ensures.answer tells)) (c.spare.ensures ∙ c.weigh.ensures.reads.looks.spare))
+    (direct_weight c.args.volume.now (g.P.SectorView.space c.args.space.now) c.args.command.now puts c.in-Some.weight c.spare.result (weight_found c.in_ok-weight.field-0 c.in-Some.weight _ c.in-Some.is (c.in_ok-weight.ensures.answer tells)) (c.spare.ensures ∙ c.weigh.ensures.looked.reads.looks.spare))
 
 pub returns-in-None-clause-puts : goal.returns-in-None-clause-puts
 returns-in-None-clause-puts g c tells puts =
@@ -47,7 +47,7 @@ returns-in-Some-clause-alike g c tells now =
     taken_alike c.verdict_of.result now.grow
     (subst (λ (v : Verdict). IsTaken v now.grow) (sym c.verdict_of.ensures)
     (alike_weight (capacity_of c.args.volume.now) (takable_of c.args.volume.now) (g.P.SectorView.space c.args.space.now).content c.args.command.now now.load now.grow now.affords now.costs c.spare.result
-    (omega (arith, now.within, c.spare.ensures, c.weigh.ensures.reads.looks.spare)) c.in-Some.weight (weight_found c.in_ok-weight.field-0 c.in-Some.weight _ c.in-Some.is (c.in_ok-weight.ensures.answer tells))))
+    (omega (arith, now.within, c.spare.ensures, c.weigh.ensures.looked.reads.looks.spare)) c.in-Some.weight (weight_found c.in_ok-weight.field-0 c.in-Some.weight _ c.in-Some.is (c.in_ok-weight.ensures.answer tells))))
 
 pub returns-in-None-clause-alike : goal.returns-in-None-clause-alike
 returns-in-None-clause-alike g c tells now = tt

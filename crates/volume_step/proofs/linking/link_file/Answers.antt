@@ -1,5 +1,5 @@
 use Rattle.volume_step.proofs.Loaded.{within, within_reads}
-use Rattle.std.proofs.Common.{ℕ, List, sym, ◌∙◌, ap, subst, refl}
+use Rattle.std.proofs.Common.{ℕ, List, sym, ◌∙◌, ap, subst, refl, []}
 use Rattle.std.specs.List.{Contains}
 use Rattle.sector_disk.specs.Lists.{Content}
 use Rattle.hfs_language.specs.declared.command.Command.TheVariants as command
@@ -21,78 +21,78 @@ use Rattle.volume_step.proofs.linking.link_file.Goals as goal
 
 pub returns-clause-answered : goal.returns-clause-answered
 returns-clause-answered g c tells =
-    subst (λ (k : Content). StepsTo (outcome.Answered c.in_ok-reply.reply c.in_ok-changes.changes) (capacity_of c.args.volume.now) c.args.number (command.Ln c.args.from.now c.args.to.now) k (g.P.SectorView.space c.ln.new.space).content) (c.change_linked.ensures.reads.looks.content tells)
+    subst (λ (k : Content). StepsTo (outcome.Answered c.in_ok-reply.reply c.in_ok-changes.changes) (capacity_of c.args.volume.now) c.args.number (command.Ln c.args.from.now c.args.to.now) k (g.P.SectorView.space c.ln.new.space).content) (c.change_linked.ensures.looked.reads.looks.content tells)
     (link_steps (capacity_of c.args.volume.now) c.args.number c.args.from.now c.args.to.now (g.P.SectorView.space c.change_linked.new.space).content (g.P.SectorView.space c.ln.new.space).content
-    (sound_here c.change_linked.new.self (g.P.SectorView.space c.change_linked.new.space) (c.change_linked.ensures.stands.stands (c.change_linked.ensures.reads.looks.same.tells ∙ tells)) (c.change_linked.ensures.settled tells))
-    (sound_here c.ln.new.volume (g.P.SectorView.space c.ln.new.space) (c.in_ok-reply.ensures.stands.stands ((c.ln.ensures.touches (g.P.SectorView.space c.args.space.now).content).same.tells ∙ (c.change_linked.ensures.reads.looks.same.tells ∙ tells))) (c.in_ok-reply.ensures.settled (c.change_linked.ensures.reads.looks.same.tells ∙ tells)))
-    (subst (λ (k : Content). Affords (capacity_of c.args.volume.now) (command.Ln c.args.from.now c.args.to.now) k) (sym (c.change_linked.ensures.reads.looks.content tells)) (c.requires.affords tells)) c.in_ok-reply.reply (c.in_ok-reply.ensures.reply (c.change_linked.ensures.reads.looks.same.tells ∙ tells)) (c.in_ok-reply.ensures.tree (c.change_linked.ensures.reads.looks.same.tells ∙ tells)) (c.in_ok-reply.ensures.lists (c.change_linked.ensures.reads.looks.same.tells ∙ tells)) c.in_ok-changes.changes
-    (λ not_own goal_not_own pair is. c.in_ok-changes.ensures.told tells not_own goal_not_own pair (ap (λ (k : Content). to_ln (tree_of k) c.args.from.now c.args.to.now) (sym (c.change_linked.ensures.reads.looks.content tells)) ∙ is)))
+    (sound_here c.change_linked.new.self (g.P.SectorView.space c.change_linked.new.space) (c.change_linked.ensures.looked.stands.stands (c.change_linked.ensures.looked.reads.looks.same.tells ∙ tells)) (c.change_linked.ensures.serves.settled (c.change_linked.ensures.looked.reads.looks.same.tells ∙ tells)))
+    (sound_here c.ln.new.volume (g.P.SectorView.space c.ln.new.space) (c.in_ok-reply.ensures.edits.ran.stands.stands ((c.ln.ensures.edits.ran.touches (g.P.SectorView.space c.args.space.now).content).same.tells ∙ (c.change_linked.ensures.looked.reads.looks.same.tells ∙ tells))) (c.in_ok-reply.ensures.serves.settled ((c.ln.ensures.edits.ran.touches []).same.tells ∙ (c.change_linked.ensures.looked.reads.looks.same.tells ∙ tells))))
+    (subst (λ (k : Content). Affords (capacity_of c.args.volume.now) (command.Ln c.args.from.now c.args.to.now) k) (sym (c.change_linked.ensures.looked.reads.looks.content tells)) (c.requires.affords tells)) c.in_ok-reply.reply (c.in_ok-reply.ensures.reply (c.change_linked.ensures.looked.reads.looks.same.tells ∙ tells)) (c.in_ok-reply.ensures.tree (c.change_linked.ensures.looked.reads.looks.same.tells ∙ tells)) (c.in_ok-reply.ensures.lists (c.change_linked.ensures.looked.reads.looks.same.tells ∙ tells)) c.in_ok-changes.changes
+    (λ not_own goal_not_own pair is. c.in_ok-changes.ensures.told tells not_own goal_not_own pair (ap (λ (k : Content). to_ln (tree_of k) c.args.from.now c.args.to.now) (sym (c.change_linked.ensures.looked.reads.looks.content tells)) ∙ is)))
 
 pub returns-clause-place : goal.returns-clause-place
 returns-clause-place g c tells =
-    subst (λ (k : Content). KeepsJournal k (g.P.SectorView.space c.ln.new.space).content) (c.change_linked.ensures.reads.looks.content tells)
+    subst (λ (k : Content). KeepsJournal k (g.P.SectorView.space c.ln.new.space).content) (c.change_linked.ensures.looked.reads.looks.content tells)
     (link_place (capacity_of c.args.volume.now) c.args.number c.args.from.now c.args.to.now (g.P.SectorView.space c.change_linked.new.space).content (g.P.SectorView.space c.ln.new.space).content
-    (sound_here c.change_linked.new.self (g.P.SectorView.space c.change_linked.new.space) (c.change_linked.ensures.stands.stands (c.change_linked.ensures.reads.looks.same.tells ∙ tells)) (c.change_linked.ensures.settled tells))
-    (sound_here c.ln.new.volume (g.P.SectorView.space c.ln.new.space) (c.in_ok-reply.ensures.stands.stands ((c.ln.ensures.touches (g.P.SectorView.space c.args.space.now).content).same.tells ∙ (c.change_linked.ensures.reads.looks.same.tells ∙ tells))) (c.in_ok-reply.ensures.settled (c.change_linked.ensures.reads.looks.same.tells ∙ tells)))
-    (subst (λ (k : Content). Affords (capacity_of c.args.volume.now) (command.Ln c.args.from.now c.args.to.now) k) (sym (c.change_linked.ensures.reads.looks.content tells)) (c.requires.affords tells)) c.in_ok-reply.reply (c.in_ok-reply.ensures.reply (c.change_linked.ensures.reads.looks.same.tells ∙ tells)) (c.in_ok-reply.ensures.tree (c.change_linked.ensures.reads.looks.same.tells ∙ tells)) (c.in_ok-reply.ensures.lists (c.change_linked.ensures.reads.looks.same.tells ∙ tells)))
+    (sound_here c.change_linked.new.self (g.P.SectorView.space c.change_linked.new.space) (c.change_linked.ensures.looked.stands.stands (c.change_linked.ensures.looked.reads.looks.same.tells ∙ tells)) (c.change_linked.ensures.serves.settled (c.change_linked.ensures.looked.reads.looks.same.tells ∙ tells)))
+    (sound_here c.ln.new.volume (g.P.SectorView.space c.ln.new.space) (c.in_ok-reply.ensures.edits.ran.stands.stands ((c.ln.ensures.edits.ran.touches (g.P.SectorView.space c.args.space.now).content).same.tells ∙ (c.change_linked.ensures.looked.reads.looks.same.tells ∙ tells))) (c.in_ok-reply.ensures.serves.settled ((c.ln.ensures.edits.ran.touches []).same.tells ∙ (c.change_linked.ensures.looked.reads.looks.same.tells ∙ tells))))
+    (subst (λ (k : Content). Affords (capacity_of c.args.volume.now) (command.Ln c.args.from.now c.args.to.now) k) (sym (c.change_linked.ensures.looked.reads.looks.content tells)) (c.requires.affords tells)) c.in_ok-reply.reply (c.in_ok-reply.ensures.reply (c.change_linked.ensures.looked.reads.looks.same.tells ∙ tells)) (c.in_ok-reply.ensures.tree (c.change_linked.ensures.looked.reads.looks.same.tells ∙ tells)) (c.in_ok-reply.ensures.lists (c.change_linked.ensures.looked.reads.looks.same.tells ∙ tells)))
 
 pub returns-clause-holds : goal.returns-clause-holds
-returns-clause-holds g c committed was = holds_kept committed c.change_linked.new.self c.ln.new.volume c.ln.ensures.blocks.map (holds_kept committed c.args.volume.now c.change_linked.new.self c.change_linked.ensures.reads.keeps.map was)
+returns-clause-holds g c committed was = holds_kept committed c.change_linked.new.self c.ln.new.volume c.ln.ensures.edits.blocks.map (holds_kept committed c.args.volume.now c.change_linked.new.self c.change_linked.ensures.looked.reads.keeps.map was)
 
 pub returns-clause-below : goal.returns-clause-below
-returns-clause-below g c = g.met.P.SectorView.follows_trans c.args.space.now c.change_linked.new.space c.ln.new.space c.change_linked.ensures.below c.ln.ensures.below
+returns-clause-below g c = g.met.P.SectorView.follows_trans c.args.space.now c.change_linked.new.space c.ln.new.space c.change_linked.ensures.looked.edits.ran.below c.ln.ensures.edits.ran.below
 
 pub returns-clause-touches : goal.returns-clause-touches
 returns-clause-touches g c committed =
-    touches_both committed _ (g.P.SectorView.space c.args.space.now) (g.P.SectorView.space c.change_linked.new.space) (g.P.SectorView.space c.ln.new.space) (touches_looks committed _ (g.P.SectorView.space c.args.space.now) (g.P.SectorView.space c.change_linked.new.space) c.change_linked.ensures.reads.looks)
-    (subst (λ (l : List ℕ). Touches committed (λ s. Contains l s) (g.P.SectorView.space c.change_linked.new.space) (g.P.SectorView.space c.ln.new.space)) (own_still c.args.volume.now c.change_linked.new.self (g.P.SectorView.space c.args.space.now) (g.P.SectorView.space c.change_linked.new.space) c.change_linked.ensures.reads) (c.ln.ensures.touches committed))
+    touches_both committed _ (g.P.SectorView.space c.args.space.now) (g.P.SectorView.space c.change_linked.new.space) (g.P.SectorView.space c.ln.new.space) (touches_looks committed _ (g.P.SectorView.space c.args.space.now) (g.P.SectorView.space c.change_linked.new.space) c.change_linked.ensures.looked.reads.looks)
+    (subst (λ (l : List ℕ). Touches committed (λ s. Contains l s) (g.P.SectorView.space c.change_linked.new.space) (g.P.SectorView.space c.ln.new.space)) (own_still c.args.volume.now c.change_linked.new.self (g.P.SectorView.space c.args.space.now) (g.P.SectorView.space c.change_linked.new.space) c.change_linked.ensures.looked.reads) (c.ln.ensures.edits.ran.touches committed))
 
 pub returns-in_err-reply-clause-touches : goal.returns-in_err-reply-clause-touches
 returns-in_err-reply-clause-touches g c committed =
-    touches_both committed _ (g.P.SectorView.space c.args.space.now) (g.P.SectorView.space c.change_linked.new.space) (g.P.SectorView.space c.ln.new.space) (touches_looks committed _ (g.P.SectorView.space c.args.space.now) (g.P.SectorView.space c.change_linked.new.space) c.change_linked.ensures.reads.looks)
-    (subst (λ (l : List ℕ). Touches committed (λ s. Contains l s) (g.P.SectorView.space c.change_linked.new.space) (g.P.SectorView.space c.ln.new.space)) (own_still c.args.volume.now c.change_linked.new.self (g.P.SectorView.space c.args.space.now) (g.P.SectorView.space c.change_linked.new.space) c.change_linked.ensures.reads) (c.ln.ensures.touches committed))
+    touches_both committed _ (g.P.SectorView.space c.args.space.now) (g.P.SectorView.space c.change_linked.new.space) (g.P.SectorView.space c.ln.new.space) (touches_looks committed _ (g.P.SectorView.space c.args.space.now) (g.P.SectorView.space c.change_linked.new.space) c.change_linked.ensures.looked.reads.looks)
+    (subst (λ (l : List ℕ). Touches committed (λ s. Contains l s) (g.P.SectorView.space c.change_linked.new.space) (g.P.SectorView.space c.ln.new.space)) (own_still c.args.volume.now c.change_linked.new.self (g.P.SectorView.space c.args.space.now) (g.P.SectorView.space c.change_linked.new.space) c.change_linked.ensures.looked.reads) (c.ln.ensures.edits.ran.touches committed))
 
 pub returns-in_err-changes-clause-touches : goal.returns-in_err-changes-clause-touches
-returns-in_err-changes-clause-touches g c committed = touches_looks committed _ (g.P.SectorView.space c.args.space.now) (g.P.SectorView.space c.change_linked.new.space) c.change_linked.ensures.reads.looks
+returns-in_err-changes-clause-touches g c committed = touches_looks committed _ (g.P.SectorView.space c.args.space.now) (g.P.SectorView.space c.change_linked.new.space) c.change_linked.ensures.looked.reads.looks
 
 pub returns-then-not-fits_make-clause-touches : goal.returns-then-not-fits_make-clause-touches
-returns-then-not-fits_make-clause-touches g c committed = touches_looks committed _ (g.P.SectorView.space c.args.space.now) (g.P.SectorView.space c.change_linked.new.space) c.change_linked.ensures.reads.looks
+returns-then-not-fits_make-clause-touches g c committed = touches_looks committed _ (g.P.SectorView.space c.args.space.now) (g.P.SectorView.space c.change_linked.new.space) c.change_linked.ensures.looked.reads.looks
 
 pub returns-clause-capacity : goal.returns-clause-capacity
-returns-clause-capacity g c = c.ln.ensures.blocks.capacity ∙ c.change_linked.ensures.reads.keeps.capacity
+returns-clause-capacity g c = c.ln.ensures.edits.blocks.capacity ∙ c.change_linked.ensures.looked.reads.keeps.capacity
 
 pub returns-clause-shrunk : goal.returns-clause-shrunk
-returns-clause-shrunk g c = c.ln.ensures.blocks.shrunk ∙ c.change_linked.ensures.reads.keeps.shrunk
+returns-clause-shrunk g c = c.ln.ensures.edits.blocks.shrunk ∙ c.change_linked.ensures.looked.reads.keeps.shrunk
 
 pub returns-in_err-reply-clause-capacity : goal.returns-in_err-reply-clause-capacity
-returns-in_err-reply-clause-capacity g c = c.ln.ensures.blocks.capacity ∙ c.change_linked.ensures.reads.keeps.capacity
+returns-in_err-reply-clause-capacity g c = c.ln.ensures.edits.blocks.capacity ∙ c.change_linked.ensures.looked.reads.keeps.capacity
 
 pub returns-in_err-reply-clause-shrunk : goal.returns-in_err-reply-clause-shrunk
-returns-in_err-reply-clause-shrunk g c = c.ln.ensures.blocks.shrunk ∙ c.change_linked.ensures.reads.keeps.shrunk
+returns-in_err-reply-clause-shrunk g c = c.ln.ensures.edits.blocks.shrunk ∙ c.change_linked.ensures.looked.reads.keeps.shrunk
 
 pub returns-clause-done : goal.returns-clause-done
 returns-clause-done g c tells met =
-    replied (capacity_of c.args.volume.now) (command.Ln c.args.from.now c.args.to.now) (g.P.SectorView.space c.args.space.now).content (g.P.SectorView.space c.change_linked.new.space).content (c.change_linked.ensures.reads.looks.content tells) refl (c.requires.affords tells) c.in_ok-reply.reply c.in_ok-changes.changes (c.in_ok-reply.ensures.reply (c.change_linked.ensures.reads.looks.same.tells ∙ tells))
+    replied (capacity_of c.args.volume.now) (command.Ln c.args.from.now c.args.to.now) (g.P.SectorView.space c.args.space.now).content (g.P.SectorView.space c.change_linked.new.space).content (c.change_linked.ensures.looked.reads.looks.content tells) refl (c.requires.affords tells) c.in_ok-reply.reply c.in_ok-changes.changes (c.in_ok-reply.ensures.reply (c.change_linked.ensures.looked.reads.looks.same.tells ∙ tells))
 
 pub returns-then-not-fits_make-clause-done : goal.returns-then-not-fits_make-clause-done
 returns-then-not-fits_make-clause-done g c tells met =
     let asked = edits_of (tree_of (g.P.SectorView.space c.args.space.now).content) (command.Ln c.args.from.now c.args.to.now) in
-    absurd (true≢false (sym (c.fits_make.ensures.met (c.change_linked.ensures.reads.looks.same.tells ∙ tells)
-    (fewer_are c.a_load_says_enough.ensures c.a_load_is_of_parts.ensures c.trees_grow_by_enough.ensures c.trees_hold_three.ensures c.change_linked.new.self (g.P.SectorView.space c.change_linked.new.space) (sound_here c.change_linked.new.self (g.P.SectorView.space c.change_linked.new.space) (c.change_linked.ensures.stands.stands (c.change_linked.ensures.reads.looks.same.tells ∙ tells)) (c.change_linked.ensures.settled tells)) (edits 1 2 0 1) asked (link_fewer (tree_of (g.P.SectorView.space c.args.space.now).content) c.args.from.now c.args.to.now (c.requires.affords tells).no_refusal)
-    (met_still c.args.volume.now c.change_linked.new.self (g.P.SectorView.space c.args.space.now) (g.P.SectorView.space c.change_linked.new.space) c.change_linked.ensures.reads tells asked met)))
+    absurd (true≢false (sym (c.fits_make.ensures.met (c.change_linked.ensures.looked.reads.looks.same.tells ∙ tells)
+    (fewer_are c.a_load_says_enough.ensures c.a_load_is_of_parts.ensures c.trees_grow_by_enough.ensures c.trees_hold_three.ensures c.change_linked.new.self (g.P.SectorView.space c.change_linked.new.space) (sound_here c.change_linked.new.self (g.P.SectorView.space c.change_linked.new.space) (c.change_linked.ensures.looked.stands.stands (c.change_linked.ensures.looked.reads.looks.same.tells ∙ tells)) (c.change_linked.ensures.serves.settled (c.change_linked.ensures.looked.reads.looks.same.tells ∙ tells))) (edits 1 2 0 1) asked (link_fewer (tree_of (g.P.SectorView.space c.args.space.now).content) c.args.from.now c.args.to.now (c.requires.affords tells).no_refusal)
+    (met_still c.args.volume.now c.change_linked.new.self (g.P.SectorView.space c.args.space.now) (g.P.SectorView.space c.change_linked.new.space) c.change_linked.ensures.looked.reads tells asked met)))
     ∙ c.if-not-fits_make.true))
 
 pub returns-clause-loads : goal.returns-clause-loads
-returns-clause-loads g c tells = within (command.Ln c.args.from.now c.args.to.now) c.args.volume.now c.change_linked.new.self (g.P.SectorView.space c.args.space.now) (g.P.SectorView.space c.change_linked.new.space) (g.P.SectorView.space c.ln.new.space) c.change_linked.ensures.reads tells refl refl (c.requires.affords tells) (c.ln.ensures.loads (c.change_linked.ensures.reads.looks.same.tells ∙ tells))
+returns-clause-loads g c tells = within (command.Ln c.args.from.now c.args.to.now) c.args.volume.now c.change_linked.new.self (g.P.SectorView.space c.args.space.now) (g.P.SectorView.space c.change_linked.new.space) (g.P.SectorView.space c.ln.new.space) c.change_linked.ensures.looked.reads tells refl refl (c.requires.affords tells) (c.ln.ensures.loads (c.change_linked.ensures.looked.reads.looks.same.tells ∙ tells))
 
 pub returns-then-not-fits_make-clause-loads : goal.returns-then-not-fits_make-clause-loads
-returns-then-not-fits_make-clause-loads g c tells = within_reads (command.Ln c.args.from.now c.args.to.now) c.args.volume.now c.change_linked.new.self (g.P.SectorView.space c.args.space.now) (g.P.SectorView.space c.change_linked.new.space) c.change_linked.ensures.reads
+returns-then-not-fits_make-clause-loads g c tells = within_reads (command.Ln c.args.from.now c.args.to.now) c.args.volume.now c.change_linked.new.self (g.P.SectorView.space c.args.space.now) (g.P.SectorView.space c.change_linked.new.space) c.change_linked.ensures.looked.reads
 
 pub returns-in_err-reply-clause-below : goal.returns-in_err-reply-clause-below
-returns-in_err-reply-clause-below g c = g.met.P.SectorView.follows_trans c.args.space.now c.change_linked.new.space c.ln.new.space c.change_linked.ensures.below c.ln.ensures.below
+returns-in_err-reply-clause-below g c = g.met.P.SectorView.follows_trans c.args.space.now c.change_linked.new.space c.ln.new.space c.change_linked.ensures.looked.edits.ran.below c.ln.ensures.edits.ran.below
 
 pub returns-in_err-reply-clause-loads : goal.returns-in_err-reply-clause-loads
-returns-in_err-reply-clause-loads g c tells = within (command.Ln c.args.from.now c.args.to.now) c.args.volume.now c.change_linked.new.self (g.P.SectorView.space c.args.space.now) (g.P.SectorView.space c.change_linked.new.space) (g.P.SectorView.space c.ln.new.space) c.change_linked.ensures.reads tells refl refl (c.requires.affords tells) (c.ln.ensures.loads (c.change_linked.ensures.reads.looks.same.tells ∙ tells))
+returns-in_err-reply-clause-loads g c tells = within (command.Ln c.args.from.now c.args.to.now) c.args.volume.now c.change_linked.new.self (g.P.SectorView.space c.args.space.now) (g.P.SectorView.space c.change_linked.new.space) (g.P.SectorView.space c.ln.new.space) c.change_linked.ensures.looked.reads tells refl refl (c.requires.affords tells) (c.ln.ensures.loads (c.change_linked.ensures.looked.reads.looks.same.tells ∙ tells))
 
 pub returns-in_err-changes-clause-loads : goal.returns-in_err-changes-clause-loads
-returns-in_err-changes-clause-loads g c tells = within_reads (command.Ln c.args.from.now c.args.to.now) c.args.volume.now c.change_linked.new.self (g.P.SectorView.space c.args.space.now) (g.P.SectorView.space c.change_linked.new.space) c.change_linked.ensures.reads
+returns-in_err-changes-clause-loads g c tells = within_reads (command.Ln c.args.from.now c.args.to.now) c.args.volume.now c.change_linked.new.self (g.P.SectorView.space c.args.space.now) (g.P.SectorView.space c.change_linked.new.space) c.change_linked.ensures.looked.reads

@@ -1,4 +1,4 @@
-use Rattle.std.proofs.Common.{refl, sym, ◌∙◌, ap, arith}
+use Rattle.std.proofs.Common.{refl, sym, ◌∙◌, ap, arith, []}
 use Rattle.std.proofs.lemmas.Bool.{true≢false}
 use Rattle.hfs_language.specs.declared.command.Command.TheVariants as command
 use Rattle.hfs_language.specs.declared.reply.Reply.TheVariants as reply
@@ -16,7 +16,7 @@ pub returns-clause-answered : goal.returns-clause-answered
 returns-clause-answered g c tells =
     mkdir_steps (capacity_of c.args.volume.now) c.args.number c.args.path.now (g.P.SectorView.space c.args.space.now).content (g.P.SectorView.space c.mkdir.new.space).content
     (sound_here c.args.volume.now (g.P.SectorView.space c.args.space.now) (c.requires.stands.stands tells) (c.requires.settled tells))
-    (sound_here c.mkdir.new.volume (g.P.SectorView.space c.mkdir.new.space) (c.in_ok-changes.ensures.stands.stands ((c.mkdir.ensures.touches (g.P.SectorView.space c.args.space.now).content).same.tells ∙ tells)) (c.in_ok-changes.ensures.settled tells))
+    (sound_here c.mkdir.new.volume (g.P.SectorView.space c.mkdir.new.space) (c.in_ok-changes.ensures.edits.ran.stands.stands ((c.mkdir.ensures.edits.ran.touches (g.P.SectorView.space c.args.space.now).content).same.tells ∙ tells)) (c.in_ok-changes.ensures.serves.settled ((c.mkdir.ensures.edits.ran.touches []).same.tells ∙ tells)))
     reply.Ok (c.requires.affords tells) (sym (line_ok (tree_of (g.P.SectorView.space c.args.space.now).content) (command.Mkdir c.args.path.now) refl (c.requires.affords tells).no_refusal)) (c.in_ok-changes.ensures.tree tells) (λ fine. c.in_ok-changes.ensures.lists tells) c.in_ok-changes.changes
     (λ not_own at is. c.in_ok-changes.ensures.told tells ∙ ap (of_made c.args.number (tree_of (g.P.SectorView.space c.args.space.now).content)) is)
 
@@ -24,11 +24,11 @@ pub returns-clause-place : goal.returns-clause-place
 returns-clause-place g c tells =
     mkdir_place (capacity_of c.args.volume.now) c.args.number c.args.path.now (g.P.SectorView.space c.args.space.now).content (g.P.SectorView.space c.mkdir.new.space).content
     (sound_here c.args.volume.now (g.P.SectorView.space c.args.space.now) (c.requires.stands.stands tells) (c.requires.settled tells))
-    (sound_here c.mkdir.new.volume (g.P.SectorView.space c.mkdir.new.space) (c.in_ok-changes.ensures.stands.stands ((c.mkdir.ensures.touches (g.P.SectorView.space c.args.space.now).content).same.tells ∙ tells)) (c.in_ok-changes.ensures.settled tells))
+    (sound_here c.mkdir.new.volume (g.P.SectorView.space c.mkdir.new.space) (c.in_ok-changes.ensures.edits.ran.stands.stands ((c.mkdir.ensures.edits.ran.touches (g.P.SectorView.space c.args.space.now).content).same.tells ∙ tells)) (c.in_ok-changes.ensures.serves.settled ((c.mkdir.ensures.edits.ran.touches []).same.tells ∙ tells)))
     reply.Ok (c.requires.affords tells) (sym (line_ok (tree_of (g.P.SectorView.space c.args.space.now).content) (command.Mkdir c.args.path.now) refl (c.requires.affords tells).no_refusal)) (c.in_ok-changes.ensures.tree tells) (λ fine. c.in_ok-changes.ensures.lists tells)
 
 pub returns-clause-holds : goal.returns-clause-holds
-returns-clause-holds g c committed was = holds_kept committed c.args.volume.now c.mkdir.new.volume c.mkdir.ensures.blocks.map was
+returns-clause-holds g c committed was = holds_kept committed c.args.volume.now c.mkdir.new.volume c.mkdir.ensures.edits.blocks.map was
 
 pub returns-clause-done : goal.returns-clause-done
 returns-clause-done g c tells met =
@@ -44,19 +44,19 @@ pub returns-then-not-fits_make-clause-loads : goal.returns-then-not-fits_make-cl
 returns-then-not-fits_make-clause-loads g c tells = within_none (command.Mkdir c.args.path.now) c.args.volume.now (g.P.SectorView.space c.args.space.now) (g.P.SectorView.space c.args.space.now) (omega arith)
 
 pub returns-clause-capacity : goal.returns-clause-capacity
-returns-clause-capacity g c = c.mkdir.ensures.blocks.capacity
+returns-clause-capacity g c = c.mkdir.ensures.edits.blocks.capacity
 
 pub returns-clause-shrunk : goal.returns-clause-shrunk
-returns-clause-shrunk g c = c.mkdir.ensures.blocks.shrunk
+returns-clause-shrunk g c = c.mkdir.ensures.edits.blocks.shrunk
 
 pub returns-clause-loads : goal.returns-clause-loads
 returns-clause-loads g c tells = within_now (command.Mkdir c.args.path.now) c.args.volume.now (g.P.SectorView.space c.args.space.now) (g.P.SectorView.space c.mkdir.new.space) refl refl (c.requires.affords tells) (c.mkdir.ensures.loads tells)
 
 pub returns-in_err-changes-clause-capacity : goal.returns-in_err-changes-clause-capacity
-returns-in_err-changes-clause-capacity g c = c.mkdir.ensures.blocks.capacity
+returns-in_err-changes-clause-capacity g c = c.mkdir.ensures.edits.blocks.capacity
 
 pub returns-in_err-changes-clause-shrunk : goal.returns-in_err-changes-clause-shrunk
-returns-in_err-changes-clause-shrunk g c = c.mkdir.ensures.blocks.shrunk
+returns-in_err-changes-clause-shrunk g c = c.mkdir.ensures.edits.blocks.shrunk
 
 pub returns-in_err-changes-clause-loads : goal.returns-in_err-changes-clause-loads
 returns-in_err-changes-clause-loads g c tells = within_now (command.Mkdir c.args.path.now) c.args.volume.now (g.P.SectorView.space c.args.space.now) (g.P.SectorView.space c.mkdir.new.space) refl refl (c.requires.affords tells) (c.mkdir.ensures.loads tells)

@@ -1,4 +1,4 @@
-use Rattle.std.proofs.Common.{ℕ, List, sym, ◌∙◌, ap, subst, refl}
+use Rattle.std.proofs.Common.{ℕ, List, sym, ◌∙◌, ap, subst, refl, []}
 use Rattle.std.proofs.lemmas.Bool.{true≢false}
 use Rattle.std.specs.List.{Contains}
 use Rattle.sector_disk.specs.Lists.{Content}
@@ -20,74 +20,74 @@ use Rattle.volume_step.proofs.making.move_entry.Goals as goal
 
 pub returns-clause-answered : goal.returns-clause-answered
 returns-clause-answered g c tells =
-    subst (λ (k : Content). StepsTo (outcome.Answered c.in_ok-reply.reply c.in_ok-changes.changes) (capacity_of c.args.volume.now) c.args.number (command.Mv c.args.from.now c.args.to.now) k (g.P.SectorView.space c.mv.new.space).content) (c.change_moved.ensures.reads.looks.content tells)
+    subst (λ (k : Content). StepsTo (outcome.Answered c.in_ok-reply.reply c.in_ok-changes.changes) (capacity_of c.args.volume.now) c.args.number (command.Mv c.args.from.now c.args.to.now) k (g.P.SectorView.space c.mv.new.space).content) (c.change_moved.ensures.looked.reads.looks.content tells)
     (move_steps (capacity_of c.args.volume.now) c.args.number c.args.from.now c.args.to.now (g.P.SectorView.space c.change_moved.new.space).content (g.P.SectorView.space c.mv.new.space).content
-    (sound_here c.change_moved.new.self (g.P.SectorView.space c.change_moved.new.space) (c.change_moved.ensures.stands.stands (c.change_moved.ensures.reads.looks.same.tells ∙ tells)) (c.change_moved.ensures.settled tells))
-    (sound_here c.mv.new.volume (g.P.SectorView.space c.mv.new.space) (c.in_ok-reply.ensures.stands.stands ((c.mv.ensures.touches (g.P.SectorView.space c.args.space.now).content).same.tells ∙ (c.change_moved.ensures.reads.looks.same.tells ∙ tells))) (c.in_ok-reply.ensures.settled (c.change_moved.ensures.reads.looks.same.tells ∙ tells)))
-    (subst (λ (k : Content). Affords (capacity_of c.args.volume.now) (command.Mv c.args.from.now c.args.to.now) k) (sym (c.change_moved.ensures.reads.looks.content tells)) (c.requires.affords tells)) c.in_ok-reply.reply (c.in_ok-reply.ensures.reply (c.change_moved.ensures.reads.looks.same.tells ∙ tells)) (c.in_ok-reply.ensures.tree (c.change_moved.ensures.reads.looks.same.tells ∙ tells)) (c.in_ok-reply.ensures.lists (c.change_moved.ensures.reads.looks.same.tells ∙ tells)) c.in_ok-changes.changes
-    (λ not_own goal_not_own pair is. c.in_ok-changes.ensures.told tells not_own goal_not_own pair (ap (λ (k : Content). to_mv (tree_of k) c.args.from.now c.args.to.now) (sym (c.change_moved.ensures.reads.looks.content tells)) ∙ is)))
+    (sound_here c.change_moved.new.self (g.P.SectorView.space c.change_moved.new.space) (c.change_moved.ensures.looked.stands.stands (c.change_moved.ensures.looked.reads.looks.same.tells ∙ tells)) (c.change_moved.ensures.serves.settled (c.change_moved.ensures.looked.reads.looks.same.tells ∙ tells)))
+    (sound_here c.mv.new.volume (g.P.SectorView.space c.mv.new.space) (c.in_ok-reply.ensures.edits.ran.stands.stands ((c.mv.ensures.edits.ran.touches (g.P.SectorView.space c.args.space.now).content).same.tells ∙ (c.change_moved.ensures.looked.reads.looks.same.tells ∙ tells))) (c.in_ok-reply.ensures.serves.settled ((c.mv.ensures.edits.ran.touches []).same.tells ∙ (c.change_moved.ensures.looked.reads.looks.same.tells ∙ tells))))
+    (subst (λ (k : Content). Affords (capacity_of c.args.volume.now) (command.Mv c.args.from.now c.args.to.now) k) (sym (c.change_moved.ensures.looked.reads.looks.content tells)) (c.requires.affords tells)) c.in_ok-reply.reply (c.in_ok-reply.ensures.reply (c.change_moved.ensures.looked.reads.looks.same.tells ∙ tells)) (c.in_ok-reply.ensures.tree (c.change_moved.ensures.looked.reads.looks.same.tells ∙ tells)) (c.in_ok-reply.ensures.lists (c.change_moved.ensures.looked.reads.looks.same.tells ∙ tells)) c.in_ok-changes.changes
+    (λ not_own goal_not_own pair is. c.in_ok-changes.ensures.told tells not_own goal_not_own pair (ap (λ (k : Content). to_mv (tree_of k) c.args.from.now c.args.to.now) (sym (c.change_moved.ensures.looked.reads.looks.content tells)) ∙ is)))
 
 pub returns-clause-place : goal.returns-clause-place
 returns-clause-place g c tells =
-    subst (λ (k : Content). KeepsJournal k (g.P.SectorView.space c.mv.new.space).content) (c.change_moved.ensures.reads.looks.content tells)
+    subst (λ (k : Content). KeepsJournal k (g.P.SectorView.space c.mv.new.space).content) (c.change_moved.ensures.looked.reads.looks.content tells)
     (move_place (capacity_of c.args.volume.now) c.args.number c.args.from.now c.args.to.now (g.P.SectorView.space c.change_moved.new.space).content (g.P.SectorView.space c.mv.new.space).content
-    (sound_here c.change_moved.new.self (g.P.SectorView.space c.change_moved.new.space) (c.change_moved.ensures.stands.stands (c.change_moved.ensures.reads.looks.same.tells ∙ tells)) (c.change_moved.ensures.settled tells))
-    (sound_here c.mv.new.volume (g.P.SectorView.space c.mv.new.space) (c.in_ok-reply.ensures.stands.stands ((c.mv.ensures.touches (g.P.SectorView.space c.args.space.now).content).same.tells ∙ (c.change_moved.ensures.reads.looks.same.tells ∙ tells))) (c.in_ok-reply.ensures.settled (c.change_moved.ensures.reads.looks.same.tells ∙ tells)))
-    (subst (λ (k : Content). Affords (capacity_of c.args.volume.now) (command.Mv c.args.from.now c.args.to.now) k) (sym (c.change_moved.ensures.reads.looks.content tells)) (c.requires.affords tells)) c.in_ok-reply.reply (c.in_ok-reply.ensures.reply (c.change_moved.ensures.reads.looks.same.tells ∙ tells)) (c.in_ok-reply.ensures.tree (c.change_moved.ensures.reads.looks.same.tells ∙ tells)) (c.in_ok-reply.ensures.lists (c.change_moved.ensures.reads.looks.same.tells ∙ tells)))
+    (sound_here c.change_moved.new.self (g.P.SectorView.space c.change_moved.new.space) (c.change_moved.ensures.looked.stands.stands (c.change_moved.ensures.looked.reads.looks.same.tells ∙ tells)) (c.change_moved.ensures.serves.settled (c.change_moved.ensures.looked.reads.looks.same.tells ∙ tells)))
+    (sound_here c.mv.new.volume (g.P.SectorView.space c.mv.new.space) (c.in_ok-reply.ensures.edits.ran.stands.stands ((c.mv.ensures.edits.ran.touches (g.P.SectorView.space c.args.space.now).content).same.tells ∙ (c.change_moved.ensures.looked.reads.looks.same.tells ∙ tells))) (c.in_ok-reply.ensures.serves.settled ((c.mv.ensures.edits.ran.touches []).same.tells ∙ (c.change_moved.ensures.looked.reads.looks.same.tells ∙ tells))))
+    (subst (λ (k : Content). Affords (capacity_of c.args.volume.now) (command.Mv c.args.from.now c.args.to.now) k) (sym (c.change_moved.ensures.looked.reads.looks.content tells)) (c.requires.affords tells)) c.in_ok-reply.reply (c.in_ok-reply.ensures.reply (c.change_moved.ensures.looked.reads.looks.same.tells ∙ tells)) (c.in_ok-reply.ensures.tree (c.change_moved.ensures.looked.reads.looks.same.tells ∙ tells)) (c.in_ok-reply.ensures.lists (c.change_moved.ensures.looked.reads.looks.same.tells ∙ tells)))
 
 pub returns-clause-holds : goal.returns-clause-holds
-returns-clause-holds g c committed was = holds_kept committed c.change_moved.new.self c.mv.new.volume c.mv.ensures.blocks.map (holds_kept committed c.args.volume.now c.change_moved.new.self c.change_moved.ensures.reads.keeps.map was)
+returns-clause-holds g c committed was = holds_kept committed c.change_moved.new.self c.mv.new.volume c.mv.ensures.edits.blocks.map (holds_kept committed c.args.volume.now c.change_moved.new.self c.change_moved.ensures.looked.reads.keeps.map was)
 
 pub returns-clause-below : goal.returns-clause-below
-returns-clause-below g c = g.met.P.SectorView.follows_trans c.args.space.now c.change_moved.new.space c.mv.new.space c.change_moved.ensures.below c.mv.ensures.below
+returns-clause-below g c = g.met.P.SectorView.follows_trans c.args.space.now c.change_moved.new.space c.mv.new.space c.change_moved.ensures.looked.edits.ran.below c.mv.ensures.edits.ran.below
 
 pub returns-clause-touches : goal.returns-clause-touches
 returns-clause-touches g c committed =
-    touches_both committed _ (g.P.SectorView.space c.args.space.now) (g.P.SectorView.space c.change_moved.new.space) (g.P.SectorView.space c.mv.new.space) (touches_looks committed _ (g.P.SectorView.space c.args.space.now) (g.P.SectorView.space c.change_moved.new.space) c.change_moved.ensures.reads.looks)
-    (subst (λ (l : List ℕ). Touches committed (λ s. Contains l s) (g.P.SectorView.space c.change_moved.new.space) (g.P.SectorView.space c.mv.new.space)) (own_still c.args.volume.now c.change_moved.new.self (g.P.SectorView.space c.args.space.now) (g.P.SectorView.space c.change_moved.new.space) c.change_moved.ensures.reads) (c.mv.ensures.touches committed))
+    touches_both committed _ (g.P.SectorView.space c.args.space.now) (g.P.SectorView.space c.change_moved.new.space) (g.P.SectorView.space c.mv.new.space) (touches_looks committed _ (g.P.SectorView.space c.args.space.now) (g.P.SectorView.space c.change_moved.new.space) c.change_moved.ensures.looked.reads.looks)
+    (subst (λ (l : List ℕ). Touches committed (λ s. Contains l s) (g.P.SectorView.space c.change_moved.new.space) (g.P.SectorView.space c.mv.new.space)) (own_still c.args.volume.now c.change_moved.new.self (g.P.SectorView.space c.args.space.now) (g.P.SectorView.space c.change_moved.new.space) c.change_moved.ensures.looked.reads) (c.mv.ensures.edits.ran.touches committed))
 
 pub returns-in_err-reply-clause-touches : goal.returns-in_err-reply-clause-touches
 returns-in_err-reply-clause-touches g c committed =
-    touches_both committed _ (g.P.SectorView.space c.args.space.now) (g.P.SectorView.space c.change_moved.new.space) (g.P.SectorView.space c.mv.new.space) (touches_looks committed _ (g.P.SectorView.space c.args.space.now) (g.P.SectorView.space c.change_moved.new.space) c.change_moved.ensures.reads.looks)
-    (subst (λ (l : List ℕ). Touches committed (λ s. Contains l s) (g.P.SectorView.space c.change_moved.new.space) (g.P.SectorView.space c.mv.new.space)) (own_still c.args.volume.now c.change_moved.new.self (g.P.SectorView.space c.args.space.now) (g.P.SectorView.space c.change_moved.new.space) c.change_moved.ensures.reads) (c.mv.ensures.touches committed))
+    touches_both committed _ (g.P.SectorView.space c.args.space.now) (g.P.SectorView.space c.change_moved.new.space) (g.P.SectorView.space c.mv.new.space) (touches_looks committed _ (g.P.SectorView.space c.args.space.now) (g.P.SectorView.space c.change_moved.new.space) c.change_moved.ensures.looked.reads.looks)
+    (subst (λ (l : List ℕ). Touches committed (λ s. Contains l s) (g.P.SectorView.space c.change_moved.new.space) (g.P.SectorView.space c.mv.new.space)) (own_still c.args.volume.now c.change_moved.new.self (g.P.SectorView.space c.args.space.now) (g.P.SectorView.space c.change_moved.new.space) c.change_moved.ensures.looked.reads) (c.mv.ensures.edits.ran.touches committed))
 
 pub returns-in_err-changes-clause-touches : goal.returns-in_err-changes-clause-touches
-returns-in_err-changes-clause-touches g c committed = touches_looks committed _ (g.P.SectorView.space c.args.space.now) (g.P.SectorView.space c.change_moved.new.space) c.change_moved.ensures.reads.looks
+returns-in_err-changes-clause-touches g c committed = touches_looks committed _ (g.P.SectorView.space c.args.space.now) (g.P.SectorView.space c.change_moved.new.space) c.change_moved.ensures.looked.reads.looks
 
 pub returns-then-not-fits_move-clause-touches : goal.returns-then-not-fits_move-clause-touches
-returns-then-not-fits_move-clause-touches g c committed = touches_looks committed _ (g.P.SectorView.space c.args.space.now) (g.P.SectorView.space c.change_moved.new.space) c.change_moved.ensures.reads.looks
+returns-then-not-fits_move-clause-touches g c committed = touches_looks committed _ (g.P.SectorView.space c.args.space.now) (g.P.SectorView.space c.change_moved.new.space) c.change_moved.ensures.looked.reads.looks
 
 pub returns-clause-capacity : goal.returns-clause-capacity
-returns-clause-capacity g c = c.mv.ensures.blocks.capacity ∙ c.change_moved.ensures.reads.keeps.capacity
+returns-clause-capacity g c = c.mv.ensures.edits.blocks.capacity ∙ c.change_moved.ensures.looked.reads.keeps.capacity
 
 pub returns-clause-shrunk : goal.returns-clause-shrunk
-returns-clause-shrunk g c = c.mv.ensures.blocks.shrunk ∙ c.change_moved.ensures.reads.keeps.shrunk
+returns-clause-shrunk g c = c.mv.ensures.edits.blocks.shrunk ∙ c.change_moved.ensures.looked.reads.keeps.shrunk
 
 pub returns-in_err-reply-clause-capacity : goal.returns-in_err-reply-clause-capacity
-returns-in_err-reply-clause-capacity g c = c.mv.ensures.blocks.capacity ∙ c.change_moved.ensures.reads.keeps.capacity
+returns-in_err-reply-clause-capacity g c = c.mv.ensures.edits.blocks.capacity ∙ c.change_moved.ensures.looked.reads.keeps.capacity
 
 pub returns-in_err-reply-clause-shrunk : goal.returns-in_err-reply-clause-shrunk
-returns-in_err-reply-clause-shrunk g c = c.mv.ensures.blocks.shrunk ∙ c.change_moved.ensures.reads.keeps.shrunk
+returns-in_err-reply-clause-shrunk g c = c.mv.ensures.edits.blocks.shrunk ∙ c.change_moved.ensures.looked.reads.keeps.shrunk
 
 pub returns-clause-done : goal.returns-clause-done
 returns-clause-done g c tells met =
-    replied (capacity_of c.args.volume.now) (command.Mv c.args.from.now c.args.to.now) (g.P.SectorView.space c.args.space.now).content (g.P.SectorView.space c.change_moved.new.space).content (c.change_moved.ensures.reads.looks.content tells) refl (c.requires.affords tells) c.in_ok-reply.reply c.in_ok-changes.changes (c.in_ok-reply.ensures.reply (c.change_moved.ensures.reads.looks.same.tells ∙ tells))
+    replied (capacity_of c.args.volume.now) (command.Mv c.args.from.now c.args.to.now) (g.P.SectorView.space c.args.space.now).content (g.P.SectorView.space c.change_moved.new.space).content (c.change_moved.ensures.looked.reads.looks.content tells) refl (c.requires.affords tells) c.in_ok-reply.reply c.in_ok-changes.changes (c.in_ok-reply.ensures.reply (c.change_moved.ensures.looked.reads.looks.same.tells ∙ tells))
 
 pub returns-then-not-fits_move-clause-done : goal.returns-then-not-fits_move-clause-done
 returns-then-not-fits_move-clause-done g c tells met =
-    absurd (true≢false (sym (c.fits_move.ensures.met (c.change_moved.ensures.reads.looks.same.tells ∙ tells) (met_still c.args.volume.now c.change_moved.new.self (g.P.SectorView.space c.args.space.now) (g.P.SectorView.space c.change_moved.new.space) c.change_moved.ensures.reads tells (edits 0 3 0 3) met)) ∙ c.if-not-fits_move.true))
+    absurd (true≢false (sym (c.fits_move.ensures.met (c.change_moved.ensures.looked.reads.looks.same.tells ∙ tells) (met_still c.args.volume.now c.change_moved.new.self (g.P.SectorView.space c.args.space.now) (g.P.SectorView.space c.change_moved.new.space) c.change_moved.ensures.looked.reads tells (edits 0 3 0 3) met)) ∙ c.if-not-fits_move.true))
 
 pub returns-in_err-reply-clause-below : goal.returns-in_err-reply-clause-below
-returns-in_err-reply-clause-below g c = g.met.P.SectorView.follows_trans c.args.space.now c.change_moved.new.space c.mv.new.space c.change_moved.ensures.below c.mv.ensures.below
+returns-in_err-reply-clause-below g c = g.met.P.SectorView.follows_trans c.args.space.now c.change_moved.new.space c.mv.new.space c.change_moved.ensures.looked.edits.ran.below c.mv.ensures.edits.ran.below
 
 pub returns-clause-loads : goal.returns-clause-loads
-returns-clause-loads g c tells = within (command.Mv c.args.from.now c.args.to.now) c.args.volume.now c.change_moved.new.self (g.P.SectorView.space c.args.space.now) (g.P.SectorView.space c.change_moved.new.space) (g.P.SectorView.space c.mv.new.space) c.change_moved.ensures.reads tells refl refl (c.requires.affords tells) (c.mv.ensures.loads (c.change_moved.ensures.reads.looks.same.tells ∙ tells))
+returns-clause-loads g c tells = within (command.Mv c.args.from.now c.args.to.now) c.args.volume.now c.change_moved.new.self (g.P.SectorView.space c.args.space.now) (g.P.SectorView.space c.change_moved.new.space) (g.P.SectorView.space c.mv.new.space) c.change_moved.ensures.looked.reads tells refl refl (c.requires.affords tells) (c.mv.ensures.loads (c.change_moved.ensures.looked.reads.looks.same.tells ∙ tells))
 
 pub returns-in_err-reply-clause-loads : goal.returns-in_err-reply-clause-loads
-returns-in_err-reply-clause-loads g c tells = within (command.Mv c.args.from.now c.args.to.now) c.args.volume.now c.change_moved.new.self (g.P.SectorView.space c.args.space.now) (g.P.SectorView.space c.change_moved.new.space) (g.P.SectorView.space c.mv.new.space) c.change_moved.ensures.reads tells refl refl (c.requires.affords tells) (c.mv.ensures.loads (c.change_moved.ensures.reads.looks.same.tells ∙ tells))
+returns-in_err-reply-clause-loads g c tells = within (command.Mv c.args.from.now c.args.to.now) c.args.volume.now c.change_moved.new.self (g.P.SectorView.space c.args.space.now) (g.P.SectorView.space c.change_moved.new.space) (g.P.SectorView.space c.mv.new.space) c.change_moved.ensures.looked.reads tells refl refl (c.requires.affords tells) (c.mv.ensures.loads (c.change_moved.ensures.looked.reads.looks.same.tells ∙ tells))
 
 pub returns-in_err-changes-clause-loads : goal.returns-in_err-changes-clause-loads
-returns-in_err-changes-clause-loads g c tells = within_reads (command.Mv c.args.from.now c.args.to.now) c.args.volume.now c.change_moved.new.self (g.P.SectorView.space c.args.space.now) (g.P.SectorView.space c.change_moved.new.space) c.change_moved.ensures.reads
+returns-in_err-changes-clause-loads g c tells = within_reads (command.Mv c.args.from.now c.args.to.now) c.args.volume.now c.change_moved.new.self (g.P.SectorView.space c.args.space.now) (g.P.SectorView.space c.change_moved.new.space) c.change_moved.ensures.looked.reads
 
 pub returns-then-not-fits_move-clause-loads : goal.returns-then-not-fits_move-clause-loads
-returns-then-not-fits_move-clause-loads g c tells = within_reads (command.Mv c.args.from.now c.args.to.now) c.args.volume.now c.change_moved.new.self (g.P.SectorView.space c.args.space.now) (g.P.SectorView.space c.change_moved.new.space) c.change_moved.ensures.reads
+returns-then-not-fits_move-clause-loads g c tells = within_reads (command.Mv c.args.from.now c.args.to.now) c.args.volume.now c.change_moved.new.self (g.P.SectorView.space c.args.space.now) (g.P.SectorView.space c.change_moved.new.space) c.change_moved.ensures.looked.reads

@@ -1,4 +1,4 @@
-use Rattle.std.proofs.Common.{ℕ, List, sym, ◌∙◌, ap, subst, refl}
+use Rattle.std.proofs.Common.{ℕ, List, sym, ◌∙◌, ap, subst, refl, []}
 use Rattle.std.proofs.lemmas.Bool.{true≢false}
 use Rattle.std.specs.List.{Contains}
 use Rattle.sector_disk.specs.Lists.{Content}
@@ -20,62 +20,62 @@ use Rattle.volume_step.proofs.owning.delete_attribute.Goals as goal
 
 pub returns-clause-answered : goal.returns-clause-answered
 returns-clause-answered g c tells =
-    subst (λ (k : Content). StepsTo (outcome.Answered c.in_ok-reply.reply c.in_ok-changes.changes) (capacity_of c.args.volume.now) c.args.number (command.DelAttr c.args.path.now c.args.name.now) k (g.P.SectorView.space c.delattr.new.space).content) (c.change_at.ensures.reads.looks.content tells)
+    subst (λ (k : Content). StepsTo (outcome.Answered c.in_ok-reply.reply c.in_ok-changes.changes) (capacity_of c.args.volume.now) c.args.number (command.DelAttr c.args.path.now c.args.name.now) k (g.P.SectorView.space c.delattr.new.space).content) (c.change_at.ensures.looked.reads.looks.content tells)
     (delete_steps (capacity_of c.args.volume.now) c.args.number c.args.path.now c.args.name.now (g.P.SectorView.space c.change_at.new.space).content (g.P.SectorView.space c.delattr.new.space).content
-    (sound_here c.change_at.new.self (g.P.SectorView.space c.change_at.new.space) (c.change_at.ensures.stands.stands (c.change_at.ensures.reads.looks.same.tells ∙ tells)) (c.change_at.ensures.settled tells))
-    (sound_here c.delattr.new.volume (g.P.SectorView.space c.delattr.new.space) (c.in_ok-reply.ensures.stands.stands ((c.delattr.ensures.touches (g.P.SectorView.space c.args.space.now).content).same.tells ∙ (c.change_at.ensures.reads.looks.same.tells ∙ tells))) (c.in_ok-reply.ensures.settled (c.change_at.ensures.reads.looks.same.tells ∙ tells)))
-    (subst (λ (k : Content). Affords (capacity_of c.args.volume.now) (command.DelAttr c.args.path.now c.args.name.now) k) (sym (c.change_at.ensures.reads.looks.content tells)) (c.requires.affords tells)) c.in_ok-reply.reply (c.in_ok-reply.ensures.reply (c.change_at.ensures.reads.looks.same.tells ∙ tells)) (c.in_ok-reply.ensures.tree (c.change_at.ensures.reads.looks.same.tells ∙ tells)) (c.in_ok-reply.ensures.lists (c.change_at.ensures.reads.looks.same.tells ∙ tells)) c.in_ok-changes.changes
-    (λ not_own entry is. c.in_ok-changes.ensures.told tells not_own entry (ap (λ (k : Content). reached (tree_of k) c.args.path.now) (sym (c.change_at.ensures.reads.looks.content tells)) ∙ is)))
+    (sound_here c.change_at.new.self (g.P.SectorView.space c.change_at.new.space) (c.change_at.ensures.looked.stands.stands (c.change_at.ensures.looked.reads.looks.same.tells ∙ tells)) (c.change_at.ensures.serves.settled (c.change_at.ensures.looked.reads.looks.same.tells ∙ tells)))
+    (sound_here c.delattr.new.volume (g.P.SectorView.space c.delattr.new.space) (c.in_ok-reply.ensures.edits.ran.stands.stands ((c.delattr.ensures.edits.ran.touches (g.P.SectorView.space c.args.space.now).content).same.tells ∙ (c.change_at.ensures.looked.reads.looks.same.tells ∙ tells))) (c.in_ok-reply.ensures.serves.settled ((c.delattr.ensures.edits.ran.touches []).same.tells ∙ (c.change_at.ensures.looked.reads.looks.same.tells ∙ tells))))
+    (subst (λ (k : Content). Affords (capacity_of c.args.volume.now) (command.DelAttr c.args.path.now c.args.name.now) k) (sym (c.change_at.ensures.looked.reads.looks.content tells)) (c.requires.affords tells)) c.in_ok-reply.reply (c.in_ok-reply.ensures.reply (c.change_at.ensures.looked.reads.looks.same.tells ∙ tells)) (c.in_ok-reply.ensures.tree (c.change_at.ensures.looked.reads.looks.same.tells ∙ tells)) (c.in_ok-reply.ensures.lists (c.change_at.ensures.looked.reads.looks.same.tells ∙ tells)) c.in_ok-changes.changes
+    (λ not_own entry is. c.in_ok-changes.ensures.told tells not_own entry (ap (λ (k : Content). reached (tree_of k) c.args.path.now) (sym (c.change_at.ensures.looked.reads.looks.content tells)) ∙ is)))
 
 pub returns-clause-place : goal.returns-clause-place
 returns-clause-place g c tells =
-    subst (λ (k : Content). KeepsJournal k (g.P.SectorView.space c.delattr.new.space).content) (c.change_at.ensures.reads.looks.content tells)
+    subst (λ (k : Content). KeepsJournal k (g.P.SectorView.space c.delattr.new.space).content) (c.change_at.ensures.looked.reads.looks.content tells)
     (delete_place (capacity_of c.args.volume.now) c.args.number c.args.path.now c.args.name.now (g.P.SectorView.space c.change_at.new.space).content (g.P.SectorView.space c.delattr.new.space).content
-    (sound_here c.change_at.new.self (g.P.SectorView.space c.change_at.new.space) (c.change_at.ensures.stands.stands (c.change_at.ensures.reads.looks.same.tells ∙ tells)) (c.change_at.ensures.settled tells))
-    (sound_here c.delattr.new.volume (g.P.SectorView.space c.delattr.new.space) (c.in_ok-reply.ensures.stands.stands ((c.delattr.ensures.touches (g.P.SectorView.space c.args.space.now).content).same.tells ∙ (c.change_at.ensures.reads.looks.same.tells ∙ tells))) (c.in_ok-reply.ensures.settled (c.change_at.ensures.reads.looks.same.tells ∙ tells)))
-    (subst (λ (k : Content). Affords (capacity_of c.args.volume.now) (command.DelAttr c.args.path.now c.args.name.now) k) (sym (c.change_at.ensures.reads.looks.content tells)) (c.requires.affords tells)) c.in_ok-reply.reply (c.in_ok-reply.ensures.reply (c.change_at.ensures.reads.looks.same.tells ∙ tells)) (c.in_ok-reply.ensures.tree (c.change_at.ensures.reads.looks.same.tells ∙ tells)) (c.in_ok-reply.ensures.lists (c.change_at.ensures.reads.looks.same.tells ∙ tells)))
+    (sound_here c.change_at.new.self (g.P.SectorView.space c.change_at.new.space) (c.change_at.ensures.looked.stands.stands (c.change_at.ensures.looked.reads.looks.same.tells ∙ tells)) (c.change_at.ensures.serves.settled (c.change_at.ensures.looked.reads.looks.same.tells ∙ tells)))
+    (sound_here c.delattr.new.volume (g.P.SectorView.space c.delattr.new.space) (c.in_ok-reply.ensures.edits.ran.stands.stands ((c.delattr.ensures.edits.ran.touches (g.P.SectorView.space c.args.space.now).content).same.tells ∙ (c.change_at.ensures.looked.reads.looks.same.tells ∙ tells))) (c.in_ok-reply.ensures.serves.settled ((c.delattr.ensures.edits.ran.touches []).same.tells ∙ (c.change_at.ensures.looked.reads.looks.same.tells ∙ tells))))
+    (subst (λ (k : Content). Affords (capacity_of c.args.volume.now) (command.DelAttr c.args.path.now c.args.name.now) k) (sym (c.change_at.ensures.looked.reads.looks.content tells)) (c.requires.affords tells)) c.in_ok-reply.reply (c.in_ok-reply.ensures.reply (c.change_at.ensures.looked.reads.looks.same.tells ∙ tells)) (c.in_ok-reply.ensures.tree (c.change_at.ensures.looked.reads.looks.same.tells ∙ tells)) (c.in_ok-reply.ensures.lists (c.change_at.ensures.looked.reads.looks.same.tells ∙ tells)))
 
 pub returns-clause-holds : goal.returns-clause-holds
-returns-clause-holds g c committed was = holds_kept committed c.change_at.new.self c.delattr.new.volume c.delattr.ensures.map (holds_kept committed c.args.volume.now c.change_at.new.self c.change_at.ensures.reads.keeps.map was)
+returns-clause-holds g c committed was = holds_kept committed c.change_at.new.self c.delattr.new.volume c.delattr.ensures.edits.blocks.map (holds_kept committed c.args.volume.now c.change_at.new.self c.change_at.ensures.looked.reads.keeps.map was)
 
 pub returns-clause-below : goal.returns-clause-below
-returns-clause-below g c = g.met.P.SectorView.follows_trans c.args.space.now c.change_at.new.space c.delattr.new.space c.change_at.ensures.below c.delattr.ensures.below
+returns-clause-below g c = g.met.P.SectorView.follows_trans c.args.space.now c.change_at.new.space c.delattr.new.space c.change_at.ensures.looked.edits.ran.below c.delattr.ensures.edits.ran.below
 
 pub returns-clause-touches : goal.returns-clause-touches
 returns-clause-touches g c committed =
-    touches_both committed _ (g.P.SectorView.space c.args.space.now) (g.P.SectorView.space c.change_at.new.space) (g.P.SectorView.space c.delattr.new.space) (touches_looks committed _ (g.P.SectorView.space c.args.space.now) (g.P.SectorView.space c.change_at.new.space) c.change_at.ensures.reads.looks)
-    (subst (λ (l : List ℕ). Touches committed (λ s. Contains l s) (g.P.SectorView.space c.change_at.new.space) (g.P.SectorView.space c.delattr.new.space)) (own_still c.args.volume.now c.change_at.new.self (g.P.SectorView.space c.args.space.now) (g.P.SectorView.space c.change_at.new.space) c.change_at.ensures.reads) (c.delattr.ensures.touches committed))
+    touches_both committed _ (g.P.SectorView.space c.args.space.now) (g.P.SectorView.space c.change_at.new.space) (g.P.SectorView.space c.delattr.new.space) (touches_looks committed _ (g.P.SectorView.space c.args.space.now) (g.P.SectorView.space c.change_at.new.space) c.change_at.ensures.looked.reads.looks)
+    (subst (λ (l : List ℕ). Touches committed (λ s. Contains l s) (g.P.SectorView.space c.change_at.new.space) (g.P.SectorView.space c.delattr.new.space)) (own_still c.args.volume.now c.change_at.new.self (g.P.SectorView.space c.args.space.now) (g.P.SectorView.space c.change_at.new.space) c.change_at.ensures.looked.reads) (c.delattr.ensures.edits.ran.touches committed))
 
 pub returns-in_err-reply-clause-touches : goal.returns-in_err-reply-clause-touches
 returns-in_err-reply-clause-touches g c committed =
-    touches_both committed _ (g.P.SectorView.space c.args.space.now) (g.P.SectorView.space c.change_at.new.space) (g.P.SectorView.space c.delattr.new.space) (touches_looks committed _ (g.P.SectorView.space c.args.space.now) (g.P.SectorView.space c.change_at.new.space) c.change_at.ensures.reads.looks)
-    (subst (λ (l : List ℕ). Touches committed (λ s. Contains l s) (g.P.SectorView.space c.change_at.new.space) (g.P.SectorView.space c.delattr.new.space)) (own_still c.args.volume.now c.change_at.new.self (g.P.SectorView.space c.args.space.now) (g.P.SectorView.space c.change_at.new.space) c.change_at.ensures.reads) (c.delattr.ensures.touches committed))
+    touches_both committed _ (g.P.SectorView.space c.args.space.now) (g.P.SectorView.space c.change_at.new.space) (g.P.SectorView.space c.delattr.new.space) (touches_looks committed _ (g.P.SectorView.space c.args.space.now) (g.P.SectorView.space c.change_at.new.space) c.change_at.ensures.looked.reads.looks)
+    (subst (λ (l : List ℕ). Touches committed (λ s. Contains l s) (g.P.SectorView.space c.change_at.new.space) (g.P.SectorView.space c.delattr.new.space)) (own_still c.args.volume.now c.change_at.new.self (g.P.SectorView.space c.args.space.now) (g.P.SectorView.space c.change_at.new.space) c.change_at.ensures.looked.reads) (c.delattr.ensures.edits.ran.touches committed))
 
 pub returns-in_err-changes-clause-touches : goal.returns-in_err-changes-clause-touches
-returns-in_err-changes-clause-touches g c committed = touches_looks committed _ (g.P.SectorView.space c.args.space.now) (g.P.SectorView.space c.change_at.new.space) c.change_at.ensures.reads.looks
+returns-in_err-changes-clause-touches g c committed = touches_looks committed _ (g.P.SectorView.space c.args.space.now) (g.P.SectorView.space c.change_at.new.space) c.change_at.ensures.looked.reads.looks
 
 pub returns-then-not-fits_delattr-clause-touches : goal.returns-then-not-fits_delattr-clause-touches
-returns-then-not-fits_delattr-clause-touches g c committed = touches_looks committed _ (g.P.SectorView.space c.args.space.now) (g.P.SectorView.space c.change_at.new.space) c.change_at.ensures.reads.looks
+returns-then-not-fits_delattr-clause-touches g c committed = touches_looks committed _ (g.P.SectorView.space c.args.space.now) (g.P.SectorView.space c.change_at.new.space) c.change_at.ensures.looked.reads.looks
 
 pub returns-in_err-reply-clause-below : goal.returns-in_err-reply-clause-below
-returns-in_err-reply-clause-below g c = g.met.P.SectorView.follows_trans c.args.space.now c.change_at.new.space c.delattr.new.space c.change_at.ensures.below c.delattr.ensures.below
+returns-in_err-reply-clause-below g c = g.met.P.SectorView.follows_trans c.args.space.now c.change_at.new.space c.delattr.new.space c.change_at.ensures.looked.edits.ran.below c.delattr.ensures.edits.ran.below
 
 pub returns-clause-done : goal.returns-clause-done
 returns-clause-done g c tells met =
-    replied (capacity_of c.args.volume.now) (command.DelAttr c.args.path.now c.args.name.now) (g.P.SectorView.space c.args.space.now).content (g.P.SectorView.space c.change_at.new.space).content (c.change_at.ensures.reads.looks.content tells) refl (c.requires.affords tells) c.in_ok-reply.reply c.in_ok-changes.changes (c.in_ok-reply.ensures.reply (c.change_at.ensures.reads.looks.same.tells ∙ tells))
+    replied (capacity_of c.args.volume.now) (command.DelAttr c.args.path.now c.args.name.now) (g.P.SectorView.space c.args.space.now).content (g.P.SectorView.space c.change_at.new.space).content (c.change_at.ensures.looked.reads.looks.content tells) refl (c.requires.affords tells) c.in_ok-reply.reply c.in_ok-changes.changes (c.in_ok-reply.ensures.reply (c.change_at.ensures.looked.reads.looks.same.tells ∙ tells))
 
 pub returns-then-not-fits_delattr-clause-done : goal.returns-then-not-fits_delattr-clause-done
 returns-then-not-fits_delattr-clause-done g c tells met =
-    absurd (true≢false (sym (c.fits_delattr.ensures.met (c.change_at.ensures.reads.looks.same.tells ∙ tells) (met_still c.args.volume.now c.change_at.new.self (g.P.SectorView.space c.args.space.now) (g.P.SectorView.space c.change_at.new.space) c.change_at.ensures.reads tells (edits 0 0 1 1) met)) ∙ c.if-not-fits_delattr.true))
+    absurd (true≢false (sym (c.fits_delattr.ensures.met (c.change_at.ensures.looked.reads.looks.same.tells ∙ tells) (met_still c.args.volume.now c.change_at.new.self (g.P.SectorView.space c.args.space.now) (g.P.SectorView.space c.change_at.new.space) c.change_at.ensures.looked.reads tells (edits 0 0 1 1) met)) ∙ c.if-not-fits_delattr.true))
 
 pub returns-clause-loads : goal.returns-clause-loads
-returns-clause-loads g c tells = within (command.DelAttr c.args.path.now c.args.name.now) c.args.volume.now c.change_at.new.self (g.P.SectorView.space c.args.space.now) (g.P.SectorView.space c.change_at.new.space) (g.P.SectorView.space c.delattr.new.space) c.change_at.ensures.reads tells refl refl (c.requires.affords tells) (c.delattr.ensures.loads (c.change_at.ensures.reads.looks.same.tells ∙ tells))
+returns-clause-loads g c tells = within (command.DelAttr c.args.path.now c.args.name.now) c.args.volume.now c.change_at.new.self (g.P.SectorView.space c.args.space.now) (g.P.SectorView.space c.change_at.new.space) (g.P.SectorView.space c.delattr.new.space) c.change_at.ensures.looked.reads tells refl refl (c.requires.affords tells) (c.delattr.ensures.loads (c.change_at.ensures.looked.reads.looks.same.tells ∙ tells))
 
 pub returns-in_err-reply-clause-loads : goal.returns-in_err-reply-clause-loads
-returns-in_err-reply-clause-loads g c tells = within (command.DelAttr c.args.path.now c.args.name.now) c.args.volume.now c.change_at.new.self (g.P.SectorView.space c.args.space.now) (g.P.SectorView.space c.change_at.new.space) (g.P.SectorView.space c.delattr.new.space) c.change_at.ensures.reads tells refl refl (c.requires.affords tells) (c.delattr.ensures.loads (c.change_at.ensures.reads.looks.same.tells ∙ tells))
+returns-in_err-reply-clause-loads g c tells = within (command.DelAttr c.args.path.now c.args.name.now) c.args.volume.now c.change_at.new.self (g.P.SectorView.space c.args.space.now) (g.P.SectorView.space c.change_at.new.space) (g.P.SectorView.space c.delattr.new.space) c.change_at.ensures.looked.reads tells refl refl (c.requires.affords tells) (c.delattr.ensures.loads (c.change_at.ensures.looked.reads.looks.same.tells ∙ tells))
 
 pub returns-in_err-changes-clause-loads : goal.returns-in_err-changes-clause-loads
-returns-in_err-changes-clause-loads g c tells = within_reads (command.DelAttr c.args.path.now c.args.name.now) c.args.volume.now c.change_at.new.self (g.P.SectorView.space c.args.space.now) (g.P.SectorView.space c.change_at.new.space) c.change_at.ensures.reads
+returns-in_err-changes-clause-loads g c tells = within_reads (command.DelAttr c.args.path.now c.args.name.now) c.args.volume.now c.change_at.new.self (g.P.SectorView.space c.args.space.now) (g.P.SectorView.space c.change_at.new.space) c.change_at.ensures.looked.reads
 
 pub returns-then-not-fits_delattr-clause-loads : goal.returns-then-not-fits_delattr-clause-loads
-returns-then-not-fits_delattr-clause-loads g c tells = within_reads (command.DelAttr c.args.path.now c.args.name.now) c.args.volume.now c.change_at.new.self (g.P.SectorView.space c.args.space.now) (g.P.SectorView.space c.change_at.new.space) c.change_at.ensures.reads
+returns-then-not-fits_delattr-clause-loads g c tells = within_reads (command.DelAttr c.args.path.now c.args.name.now) c.args.volume.now c.change_at.new.self (g.P.SectorView.space c.args.space.now) (g.P.SectorView.space c.change_at.new.space) c.change_at.ensures.looked.reads

@@ -20,42 +20,42 @@ use Rattle.volume_step.proofs.removing.remove_folder.Goals as goal
 
 pub remove_with-requires-clause-affords : goal.remove_with-requires-clause-affords
 remove_with-requires-clause-affords g c told =
-    subst (λ (k : ℕ × Content). Affords k.0 (command.Rmdir c.args.path.now) k.1) {x = ((capacity_of c.args.volume.now), (g.P.SectorView.space c.args.space.now).content)} {y = (capacity_of c.bare_count.new.volume, (g.P.SectorView.space c.bare_count.new.space).content)} (λ i. (sym c.bare_count.ensures.reads.keeps.capacity i, sym (c.bare_count.ensures.reads.looks.content (sym c.bare_count.ensures.reads.looks.same.tells ∙ told)) i))
-    (c.requires.affords (sym c.bare_count.ensures.reads.looks.same.tells ∙ told))
+    subst (λ (k : ℕ × Content). Affords k.0 (command.Rmdir c.args.path.now) k.1) {x = ((capacity_of c.args.volume.now), (g.P.SectorView.space c.args.space.now).content)} {y = (capacity_of c.bare_count.new.volume, (g.P.SectorView.space c.bare_count.new.space).content)} (λ i. (sym c.bare_count.ensures.looked.reads.keeps.capacity i, sym (c.bare_count.ensures.looked.reads.looks.content (sym c.bare_count.ensures.looked.reads.looks.same.tells ∙ told)) i))
+    (c.requires.affords (sym c.bare_count.ensures.looked.reads.looks.same.tells ∙ told))
 
 pub returns-clause-answered : goal.returns-clause-answered
 returns-clause-answered g c tells =
-    subst (λ (k : ℕ × Content). IfOk c.remove_with.result (λ (o : Outcome). StepsTo o k.0 c.args.number (command.Rmdir c.args.path.now) k.1 (g.P.SectorView.space c.remove_with.new.space).content)) {x = (capacity_of c.bare_count.new.volume, (g.P.SectorView.space c.bare_count.new.space).content)} {y = ((capacity_of c.args.volume.now), (g.P.SectorView.space c.args.space.now).content)} (λ i. (c.bare_count.ensures.reads.keeps.capacity i, c.bare_count.ensures.reads.looks.content tells i)) (c.remove_with.ensures.answered (c.bare_count.ensures.reads.looks.same.tells ∙ tells))
+    subst (λ (k : ℕ × Content). IfOk c.remove_with.result (λ (o : Outcome). StepsTo o k.0 c.args.number (command.Rmdir c.args.path.now) k.1 (g.P.SectorView.space c.remove_with.new.space).content)) {x = (capacity_of c.bare_count.new.volume, (g.P.SectorView.space c.bare_count.new.space).content)} {y = ((capacity_of c.args.volume.now), (g.P.SectorView.space c.args.space.now).content)} (λ i. (c.bare_count.ensures.looked.reads.keeps.capacity i, c.bare_count.ensures.looked.reads.looks.content tells i)) (c.remove_with.ensures.answered (c.bare_count.ensures.looked.reads.looks.same.tells ∙ tells))
 
 pub returns-clause-place : goal.returns-clause-place
-returns-clause-place g c tells = subst (λ (k : Content). OnOk c.remove_with.result (KeepsJournal k (g.P.SectorView.space c.remove_with.new.space).content)) (c.bare_count.ensures.reads.looks.content tells) (c.remove_with.ensures.place (c.bare_count.ensures.reads.looks.same.tells ∙ tells))
+returns-clause-place g c tells = subst (λ (k : Content). OnOk c.remove_with.result (KeepsJournal k (g.P.SectorView.space c.remove_with.new.space).content)) (c.bare_count.ensures.looked.reads.looks.content tells) (c.remove_with.ensures.place (c.bare_count.ensures.looked.reads.looks.same.tells ∙ tells))
 
 pub returns-clause-holds : goal.returns-clause-holds
-returns-clause-holds g c committed was = c.remove_with.ensures.holds committed (holds_kept committed c.args.volume.now c.bare_count.new.volume c.bare_count.ensures.reads.keeps.map was)
+returns-clause-holds g c committed was = c.remove_with.ensures.holds committed (holds_kept committed c.args.volume.now c.bare_count.new.volume c.bare_count.ensures.looked.reads.keeps.map was)
 
 pub returns-clause-touches : goal.returns-clause-touches
 returns-clause-touches g c committed =
-    touches_both committed _ (g.P.SectorView.space c.args.space.now) (g.P.SectorView.space c.bare_count.new.space) (g.P.SectorView.space c.remove_with.new.space) (touches_looks committed _ (g.P.SectorView.space c.args.space.now) (g.P.SectorView.space c.bare_count.new.space) c.bare_count.ensures.reads.looks)
-    (subst (λ (l : List ℕ). Touches committed (λ s. Contains l s) (g.P.SectorView.space c.bare_count.new.space) (g.P.SectorView.space c.remove_with.new.space)) (own_still c.args.volume.now c.bare_count.new.volume (g.P.SectorView.space c.args.space.now) (g.P.SectorView.space c.bare_count.new.space) c.bare_count.ensures.reads) (c.remove_with.ensures.touches committed))
+    touches_both committed _ (g.P.SectorView.space c.args.space.now) (g.P.SectorView.space c.bare_count.new.space) (g.P.SectorView.space c.remove_with.new.space) (touches_looks committed _ (g.P.SectorView.space c.args.space.now) (g.P.SectorView.space c.bare_count.new.space) c.bare_count.ensures.looked.reads.looks)
+    (subst (λ (l : List ℕ). Touches committed (λ s. Contains l s) (g.P.SectorView.space c.bare_count.new.space) (g.P.SectorView.space c.remove_with.new.space)) (own_still c.args.volume.now c.bare_count.new.volume (g.P.SectorView.space c.args.space.now) (g.P.SectorView.space c.bare_count.new.space) c.bare_count.ensures.looked.reads) (c.remove_with.ensures.touches committed))
 
 pub returns-in_err-many-clause-touches : goal.returns-in_err-many-clause-touches
-returns-in_err-many-clause-touches g c committed = touches_looks committed _ (g.P.SectorView.space c.args.space.now) (g.P.SectorView.space c.bare_count.new.space) c.bare_count.ensures.reads.looks
+returns-in_err-many-clause-touches g c committed = touches_looks committed _ (g.P.SectorView.space c.args.space.now) (g.P.SectorView.space c.bare_count.new.space) c.bare_count.ensures.looked.reads.looks
 
 pub returns-clause-settled : goal.returns-clause-settled
-returns-clause-settled g c tells = c.remove_with.ensures.settled (c.bare_count.ensures.reads.looks.same.tells ∙ tells)
+returns-clause-settled g c tells = c.remove_with.ensures.settled (c.bare_count.ensures.looked.reads.looks.same.tells ∙ tells)
 
 pub returns-clause-done : goal.returns-clause-done
 returns-clause-done g c tells met =
     let tree = tree_of (g.P.SectorView.space c.args.space.now).content in
     let one = removes_one tree c.args.path.now (c.requires.affords tells).no_refusal in
     let many = c.in_ok-many.ensures.told tells (free_path c.args.path.now (line_free tree (command.Rmdir c.args.path.now) (c.requires.affords tells).no_refusal)) one.0 one.1 in
-    c.remove_with.ensures.done (c.bare_count.ensures.reads.looks.same.tells ∙ tells)
-    (met_still c.args.volume.now c.bare_count.new.volume (g.P.SectorView.space c.args.space.now) (g.P.SectorView.space c.bare_count.new.space) c.bare_count.ensures.reads tells (edits 0 2 c.in_ok-many.many 1) (subst (λ (e : Edits). AreMet e c.args.volume.now (g.P.SectorView.space c.args.space.now)) (removal_edits tree c.args.path.now one.0 one.1 ∙ (λ i. edits 0 2 (sym many i) 1)) met))
-    (λ lacks. c.in_ok-many.ensures.none tells (sym (ap (λ (l : VolumeState). has_attributes l.head) (c.requires.settled tells).lists) ∙ ap (λ (k : Content). has_attributes (volume_of k).head) (sym (c.bare_count.ensures.reads.looks.content tells)) ∙ lacks))
+    c.remove_with.ensures.done (c.bare_count.ensures.looked.reads.looks.same.tells ∙ tells)
+    (met_still c.args.volume.now c.bare_count.new.volume (g.P.SectorView.space c.args.space.now) (g.P.SectorView.space c.bare_count.new.space) c.bare_count.ensures.looked.reads tells (edits 0 2 c.in_ok-many.many 1) (subst (λ (e : Edits). AreMet e c.args.volume.now (g.P.SectorView.space c.args.space.now)) (removal_edits tree c.args.path.now one.0 one.1 ∙ (λ i. edits 0 2 (sym many i) 1)) met))
+    (λ lacks. c.in_ok-many.ensures.none tells (sym (ap (λ (l : VolumeState). has_attributes l.head) (c.requires.settled tells).lists) ∙ ap (λ (k : Content). has_attributes (volume_of k).head) (sym (c.bare_count.ensures.looked.reads.looks.content tells)) ∙ lacks))
 
 pub returns-clause-loads : goal.returns-clause-loads
 returns-clause-loads g c tells =
-    within_behind (command.Rmdir c.args.path.now) c.args.volume.now c.bare_count.new.volume (g.P.SectorView.space c.args.space.now) (g.P.SectorView.space c.bare_count.new.space) (g.P.SectorView.space c.remove_with.new.space) c.bare_count.ensures.reads tells (c.remove_with.ensures.loads (c.bare_count.ensures.reads.looks.same.tells ∙ tells))
+    within_behind (command.Rmdir c.args.path.now) c.args.volume.now c.bare_count.new.volume (g.P.SectorView.space c.args.space.now) (g.P.SectorView.space c.bare_count.new.space) (g.P.SectorView.space c.remove_with.new.space) c.bare_count.ensures.looked.reads tells (c.remove_with.ensures.loads (c.bare_count.ensures.looked.reads.looks.same.tells ∙ tells))
 
 pub returns-in_err-many-clause-loads : goal.returns-in_err-many-clause-loads
-returns-in_err-many-clause-loads g c tells = within_reads (command.Rmdir c.args.path.now) c.args.volume.now c.bare_count.new.volume (g.P.SectorView.space c.args.space.now) (g.P.SectorView.space c.bare_count.new.space) c.bare_count.ensures.reads
+returns-in_err-many-clause-loads g c tells = within_reads (command.Rmdir c.args.path.now) c.args.volume.now c.bare_count.new.volume (g.P.SectorView.space c.args.space.now) (g.P.SectorView.space c.bare_count.new.space) c.bare_count.ensures.looked.reads

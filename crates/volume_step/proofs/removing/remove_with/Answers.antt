@@ -1,4 +1,4 @@
-use Rattle.std.proofs.Common.{ℕ, List, sym, ◌∙◌, ap, subst, refl}
+use Rattle.std.proofs.Common.{ℕ, List, sym, ◌∙◌, ap, subst, refl, []}
 use Rattle.std.specs.List.{Contains}
 use Rattle.sector_disk.specs.Lists.{Content}
 use Rattle.hfs_language.specs.declared.command.Command.TheVariants as command
@@ -22,89 +22,89 @@ use Rattle.volume_step.proofs.removing.remove_with.Goals as goal
 
 pub returns-clause-answered : goal.returns-clause-answered
 returns-clause-answered g c tells =
-    subst (λ (k : Content). StepsTo (outcome.Answered c.in_ok-reply.reply c.in_ok-changes.changes) (capacity_of c.args.volume.now) c.args.number (command.Rmdir c.args.path.now) k (g.P.SectorView.space c.rmdir.new.space).content) (c.change_at.ensures.reads.looks.content tells)
+    subst (λ (k : Content). StepsTo (outcome.Answered c.in_ok-reply.reply c.in_ok-changes.changes) (capacity_of c.args.volume.now) c.args.number (command.Rmdir c.args.path.now) k (g.P.SectorView.space c.rmdir.new.space).content) (c.change_at.ensures.looked.reads.looks.content tells)
     (remove_steps (capacity_of c.args.volume.now) c.args.number c.args.path.now (g.P.SectorView.space c.change_at.new.space).content (g.P.SectorView.space c.rmdir.new.space).content
-    (sound_here c.change_at.new.self (g.P.SectorView.space c.change_at.new.space) (c.change_at.ensures.stands.stands (c.change_at.ensures.reads.looks.same.tells ∙ tells)) (c.change_at.ensures.settled tells))
-    (sound_here c.rmdir.new.volume (g.P.SectorView.space c.rmdir.new.space) (c.in_ok-reply.ensures.stands.stands ((c.rmdir.ensures.touches (g.P.SectorView.space c.args.space.now).content).same.tells ∙ (c.change_at.ensures.reads.looks.same.tells ∙ tells))) (c.in_ok-reply.ensures.settled (c.change_at.ensures.reads.looks.same.tells ∙ tells)))
-    (subst (λ (k : Content). Affords (capacity_of c.args.volume.now) (command.Rmdir c.args.path.now) k) (sym (c.change_at.ensures.reads.looks.content tells)) (c.requires.affords tells)) c.in_ok-reply.reply (c.in_ok-reply.ensures.reply (c.change_at.ensures.reads.looks.same.tells ∙ tells)) (c.in_ok-reply.ensures.tree (c.change_at.ensures.reads.looks.same.tells ∙ tells)) (c.in_ok-reply.ensures.lists (c.change_at.ensures.reads.looks.same.tells ∙ tells)) c.in_ok-changes.changes
-    (λ not_own entry is. c.in_ok-changes.ensures.told tells not_own entry (ap (λ (k : Content). reached (tree_of k) c.args.path.now) (sym (c.change_at.ensures.reads.looks.content tells)) ∙ is)))
+    (sound_here c.change_at.new.self (g.P.SectorView.space c.change_at.new.space) (c.change_at.ensures.looked.stands.stands (c.change_at.ensures.looked.reads.looks.same.tells ∙ tells)) (c.change_at.ensures.serves.settled (c.change_at.ensures.looked.reads.looks.same.tells ∙ tells)))
+    (sound_here c.rmdir.new.volume (g.P.SectorView.space c.rmdir.new.space) (c.in_ok-reply.ensures.edits.ran.stands.stands ((c.rmdir.ensures.edits.ran.touches (g.P.SectorView.space c.args.space.now).content).same.tells ∙ (c.change_at.ensures.looked.reads.looks.same.tells ∙ tells))) (c.in_ok-reply.ensures.serves.settled ((c.rmdir.ensures.edits.ran.touches []).same.tells ∙ (c.change_at.ensures.looked.reads.looks.same.tells ∙ tells))))
+    (subst (λ (k : Content). Affords (capacity_of c.args.volume.now) (command.Rmdir c.args.path.now) k) (sym (c.change_at.ensures.looked.reads.looks.content tells)) (c.requires.affords tells)) c.in_ok-reply.reply (c.in_ok-reply.ensures.reply (c.change_at.ensures.looked.reads.looks.same.tells ∙ tells)) (c.in_ok-reply.ensures.tree (c.change_at.ensures.looked.reads.looks.same.tells ∙ tells)) (c.in_ok-reply.ensures.lists (c.change_at.ensures.looked.reads.looks.same.tells ∙ tells)) c.in_ok-changes.changes
+    (λ not_own entry is. c.in_ok-changes.ensures.told tells not_own entry (ap (λ (k : Content). reached (tree_of k) c.args.path.now) (sym (c.change_at.ensures.looked.reads.looks.content tells)) ∙ is)))
 
 pub returns-clause-place : goal.returns-clause-place
 returns-clause-place g c tells =
-    subst (λ (k : Content). KeepsJournal k (g.P.SectorView.space c.rmdir.new.space).content) (c.change_at.ensures.reads.looks.content tells)
+    subst (λ (k : Content). KeepsJournal k (g.P.SectorView.space c.rmdir.new.space).content) (c.change_at.ensures.looked.reads.looks.content tells)
     (remove_place (capacity_of c.args.volume.now) c.args.number c.args.path.now (g.P.SectorView.space c.change_at.new.space).content (g.P.SectorView.space c.rmdir.new.space).content
-    (sound_here c.change_at.new.self (g.P.SectorView.space c.change_at.new.space) (c.change_at.ensures.stands.stands (c.change_at.ensures.reads.looks.same.tells ∙ tells)) (c.change_at.ensures.settled tells))
-    (sound_here c.rmdir.new.volume (g.P.SectorView.space c.rmdir.new.space) (c.in_ok-reply.ensures.stands.stands ((c.rmdir.ensures.touches (g.P.SectorView.space c.args.space.now).content).same.tells ∙ (c.change_at.ensures.reads.looks.same.tells ∙ tells))) (c.in_ok-reply.ensures.settled (c.change_at.ensures.reads.looks.same.tells ∙ tells)))
-    (subst (λ (k : Content). Affords (capacity_of c.args.volume.now) (command.Rmdir c.args.path.now) k) (sym (c.change_at.ensures.reads.looks.content tells)) (c.requires.affords tells)) c.in_ok-reply.reply (c.in_ok-reply.ensures.reply (c.change_at.ensures.reads.looks.same.tells ∙ tells)) (c.in_ok-reply.ensures.tree (c.change_at.ensures.reads.looks.same.tells ∙ tells)) (c.in_ok-reply.ensures.lists (c.change_at.ensures.reads.looks.same.tells ∙ tells)))
+    (sound_here c.change_at.new.self (g.P.SectorView.space c.change_at.new.space) (c.change_at.ensures.looked.stands.stands (c.change_at.ensures.looked.reads.looks.same.tells ∙ tells)) (c.change_at.ensures.serves.settled (c.change_at.ensures.looked.reads.looks.same.tells ∙ tells)))
+    (sound_here c.rmdir.new.volume (g.P.SectorView.space c.rmdir.new.space) (c.in_ok-reply.ensures.edits.ran.stands.stands ((c.rmdir.ensures.edits.ran.touches (g.P.SectorView.space c.args.space.now).content).same.tells ∙ (c.change_at.ensures.looked.reads.looks.same.tells ∙ tells))) (c.in_ok-reply.ensures.serves.settled ((c.rmdir.ensures.edits.ran.touches []).same.tells ∙ (c.change_at.ensures.looked.reads.looks.same.tells ∙ tells))))
+    (subst (λ (k : Content). Affords (capacity_of c.args.volume.now) (command.Rmdir c.args.path.now) k) (sym (c.change_at.ensures.looked.reads.looks.content tells)) (c.requires.affords tells)) c.in_ok-reply.reply (c.in_ok-reply.ensures.reply (c.change_at.ensures.looked.reads.looks.same.tells ∙ tells)) (c.in_ok-reply.ensures.tree (c.change_at.ensures.looked.reads.looks.same.tells ∙ tells)) (c.in_ok-reply.ensures.lists (c.change_at.ensures.looked.reads.looks.same.tells ∙ tells)))
 
 pub returns-clause-holds : goal.returns-clause-holds
-returns-clause-holds g c committed was = holds_kept committed c.change_at.new.self c.rmdir.new.volume c.rmdir.ensures.blocks.map (holds_kept committed c.args.volume.now c.change_at.new.self c.change_at.ensures.reads.keeps.map was)
+returns-clause-holds g c committed was = holds_kept committed c.change_at.new.self c.rmdir.new.volume c.rmdir.ensures.edits.blocks.map (holds_kept committed c.args.volume.now c.change_at.new.self c.change_at.ensures.looked.reads.keeps.map was)
 
 pub returns-clause-below : goal.returns-clause-below
-returns-clause-below g c = g.met.P.SectorView.follows_trans c.args.space.now c.change_at.new.space c.rmdir.new.space c.change_at.ensures.below c.rmdir.ensures.below
+returns-clause-below g c = g.met.P.SectorView.follows_trans c.args.space.now c.change_at.new.space c.rmdir.new.space c.change_at.ensures.looked.edits.ran.below c.rmdir.ensures.edits.ran.below
 
 pub returns-clause-touches : goal.returns-clause-touches
 returns-clause-touches g c committed =
-    touches_both committed _ (g.P.SectorView.space c.args.space.now) (g.P.SectorView.space c.change_at.new.space) (g.P.SectorView.space c.rmdir.new.space) (touches_looks committed _ (g.P.SectorView.space c.args.space.now) (g.P.SectorView.space c.change_at.new.space) c.change_at.ensures.reads.looks)
-    (subst (λ (l : List ℕ). Touches committed (λ s. Contains l s) (g.P.SectorView.space c.change_at.new.space) (g.P.SectorView.space c.rmdir.new.space)) (own_still c.args.volume.now c.change_at.new.self (g.P.SectorView.space c.args.space.now) (g.P.SectorView.space c.change_at.new.space) c.change_at.ensures.reads) (c.rmdir.ensures.touches committed))
+    touches_both committed _ (g.P.SectorView.space c.args.space.now) (g.P.SectorView.space c.change_at.new.space) (g.P.SectorView.space c.rmdir.new.space) (touches_looks committed _ (g.P.SectorView.space c.args.space.now) (g.P.SectorView.space c.change_at.new.space) c.change_at.ensures.looked.reads.looks)
+    (subst (λ (l : List ℕ). Touches committed (λ s. Contains l s) (g.P.SectorView.space c.change_at.new.space) (g.P.SectorView.space c.rmdir.new.space)) (own_still c.args.volume.now c.change_at.new.self (g.P.SectorView.space c.args.space.now) (g.P.SectorView.space c.change_at.new.space) c.change_at.ensures.looked.reads) (c.rmdir.ensures.edits.ran.touches committed))
 
 pub returns-in_err-reply-clause-below : goal.returns-in_err-reply-clause-below
-returns-in_err-reply-clause-below g c = g.met.P.SectorView.follows_trans c.args.space.now c.change_at.new.space c.rmdir.new.space c.change_at.ensures.below c.rmdir.ensures.below
+returns-in_err-reply-clause-below g c = g.met.P.SectorView.follows_trans c.args.space.now c.change_at.new.space c.rmdir.new.space c.change_at.ensures.looked.edits.ran.below c.rmdir.ensures.edits.ran.below
 
 pub returns-in_err-reply-clause-touches : goal.returns-in_err-reply-clause-touches
 returns-in_err-reply-clause-touches g c committed =
-    touches_both committed _ (g.P.SectorView.space c.args.space.now) (g.P.SectorView.space c.change_at.new.space) (g.P.SectorView.space c.rmdir.new.space) (touches_looks committed _ (g.P.SectorView.space c.args.space.now) (g.P.SectorView.space c.change_at.new.space) c.change_at.ensures.reads.looks)
-    (subst (λ (l : List ℕ). Touches committed (λ s. Contains l s) (g.P.SectorView.space c.change_at.new.space) (g.P.SectorView.space c.rmdir.new.space)) (own_still c.args.volume.now c.change_at.new.self (g.P.SectorView.space c.args.space.now) (g.P.SectorView.space c.change_at.new.space) c.change_at.ensures.reads) (c.rmdir.ensures.touches committed))
+    touches_both committed _ (g.P.SectorView.space c.args.space.now) (g.P.SectorView.space c.change_at.new.space) (g.P.SectorView.space c.rmdir.new.space) (touches_looks committed _ (g.P.SectorView.space c.args.space.now) (g.P.SectorView.space c.change_at.new.space) c.change_at.ensures.looked.reads.looks)
+    (subst (λ (l : List ℕ). Touches committed (λ s. Contains l s) (g.P.SectorView.space c.change_at.new.space) (g.P.SectorView.space c.rmdir.new.space)) (own_still c.args.volume.now c.change_at.new.self (g.P.SectorView.space c.args.space.now) (g.P.SectorView.space c.change_at.new.space) c.change_at.ensures.looked.reads) (c.rmdir.ensures.edits.ran.touches committed))
 
 pub returns-in_err-changes-clause-touches : goal.returns-in_err-changes-clause-touches
-returns-in_err-changes-clause-touches g c committed = touches_looks committed _ (g.P.SectorView.space c.args.space.now) (g.P.SectorView.space c.change_at.new.space) c.change_at.ensures.reads.looks
+returns-in_err-changes-clause-touches g c committed = touches_looks committed _ (g.P.SectorView.space c.args.space.now) (g.P.SectorView.space c.change_at.new.space) c.change_at.ensures.looked.reads.looks
 
 pub returns-then-not-fits_remove-clause-touches : goal.returns-then-not-fits_remove-clause-touches
-returns-then-not-fits_remove-clause-touches g c committed = touches_looks committed _ (g.P.SectorView.space c.args.space.now) (g.P.SectorView.space c.change_at.new.space) c.change_at.ensures.reads.looks
+returns-then-not-fits_remove-clause-touches g c committed = touches_looks committed _ (g.P.SectorView.space c.args.space.now) (g.P.SectorView.space c.change_at.new.space) c.change_at.ensures.looked.reads.looks
 
 pub returns-then-not-fits_bare-clause-touches : goal.returns-then-not-fits_bare-clause-touches
-returns-then-not-fits_bare-clause-touches g c committed = touches_looks committed _ (g.P.SectorView.space c.args.space.now) (g.P.SectorView.space c.change_at.new.space) c.change_at.ensures.reads.looks
+returns-then-not-fits_bare-clause-touches g c committed = touches_looks committed _ (g.P.SectorView.space c.args.space.now) (g.P.SectorView.space c.change_at.new.space) c.change_at.ensures.looked.reads.looks
 
 pub returns-clause-capacity : goal.returns-clause-capacity
-returns-clause-capacity g c = c.rmdir.ensures.blocks.capacity ∙ c.change_at.ensures.reads.keeps.capacity
+returns-clause-capacity g c = c.rmdir.ensures.edits.blocks.capacity ∙ c.change_at.ensures.looked.reads.keeps.capacity
 
 pub returns-clause-shrunk : goal.returns-clause-shrunk
-returns-clause-shrunk g c = c.rmdir.ensures.blocks.shrunk ∙ c.change_at.ensures.reads.keeps.shrunk
+returns-clause-shrunk g c = c.rmdir.ensures.edits.blocks.shrunk ∙ c.change_at.ensures.looked.reads.keeps.shrunk
 
 pub returns-in_err-reply-clause-capacity : goal.returns-in_err-reply-clause-capacity
-returns-in_err-reply-clause-capacity g c = c.rmdir.ensures.blocks.capacity ∙ c.change_at.ensures.reads.keeps.capacity
+returns-in_err-reply-clause-capacity g c = c.rmdir.ensures.edits.blocks.capacity ∙ c.change_at.ensures.looked.reads.keeps.capacity
 
 pub returns-in_err-reply-clause-shrunk : goal.returns-in_err-reply-clause-shrunk
-returns-in_err-reply-clause-shrunk g c = c.rmdir.ensures.blocks.shrunk ∙ c.change_at.ensures.reads.keeps.shrunk
+returns-in_err-reply-clause-shrunk g c = c.rmdir.ensures.edits.blocks.shrunk ∙ c.change_at.ensures.looked.reads.keeps.shrunk
 
 pub returns-clause-done : goal.returns-clause-done
 returns-clause-done g c tells met none =
-    replied (capacity_of c.args.volume.now) (command.Rmdir c.args.path.now) (g.P.SectorView.space c.args.space.now).content (g.P.SectorView.space c.change_at.new.space).content (c.change_at.ensures.reads.looks.content tells) refl (c.requires.affords tells) c.in_ok-reply.reply c.in_ok-changes.changes (c.in_ok-reply.ensures.reply (c.change_at.ensures.reads.looks.same.tells ∙ tells))
+    replied (capacity_of c.args.volume.now) (command.Rmdir c.args.path.now) (g.P.SectorView.space c.args.space.now).content (g.P.SectorView.space c.change_at.new.space).content (c.change_at.ensures.looked.reads.looks.content tells) refl (c.requires.affords tells) c.in_ok-reply.reply c.in_ok-changes.changes (c.in_ok-reply.ensures.reply (c.change_at.ensures.looked.reads.looks.same.tells ∙ tells))
 
 pub returns-then-not-fits_remove-clause-done : goal.returns-then-not-fits_remove-clause-done
 returns-then-not-fits_remove-clause-done g c tells met none =
-    absurd (true≢false (sym (c.fits_remove.ensures.met (c.change_at.ensures.reads.looks.same.tells ∙ tells)
-    (fewer_are c.a_load_says_enough.ensures c.a_load_is_of_parts.ensures c.trees_grow_by_enough.ensures c.trees_hold_three.ensures c.change_at.new.self (g.P.SectorView.space c.change_at.new.space) (sound_here c.change_at.new.self (g.P.SectorView.space c.change_at.new.space) (c.change_at.ensures.stands.stands (c.change_at.ensures.reads.looks.same.tells ∙ tells)) (c.change_at.ensures.settled tells)) (edits 0 2 0 1) (edits 0 2 c.args.many 1) (bare_fewer c.args.many) (met_still c.args.volume.now c.change_at.new.self (g.P.SectorView.space c.args.space.now) (g.P.SectorView.space c.change_at.new.space) c.change_at.ensures.reads tells (edits 0 2 c.args.many 1) met)))
+    absurd (true≢false (sym (c.fits_remove.ensures.met (c.change_at.ensures.looked.reads.looks.same.tells ∙ tells)
+    (fewer_are c.a_load_says_enough.ensures c.a_load_is_of_parts.ensures c.trees_grow_by_enough.ensures c.trees_hold_three.ensures c.change_at.new.self (g.P.SectorView.space c.change_at.new.space) (sound_here c.change_at.new.self (g.P.SectorView.space c.change_at.new.space) (c.change_at.ensures.looked.stands.stands (c.change_at.ensures.looked.reads.looks.same.tells ∙ tells)) (c.change_at.ensures.serves.settled (c.change_at.ensures.looked.reads.looks.same.tells ∙ tells))) (edits 0 2 0 1) (edits 0 2 c.args.many 1) (bare_fewer c.args.many) (met_still c.args.volume.now c.change_at.new.self (g.P.SectorView.space c.args.space.now) (g.P.SectorView.space c.change_at.new.space) c.change_at.ensures.looked.reads tells (edits 0 2 c.args.many 1) met)))
     ∙ c.if-not-fits_remove.true))
 
 pub returns-then-not-fits_bare-clause-done : goal.returns-then-not-fits_bare-clause-done
 returns-then-not-fits_bare-clause-done g c tells met none =
-    absurd (true≢false (sym (c.fits_bare.ensures.met (c.change_at.ensures.reads.looks.same.tells ∙ tells)
-    (λ lacks. none (ap (λ (l : VolumeState). has_attributes l.head) (c.requires.settled tells).lists ∙ sym (ap (λ (h : VolumeHeader). has_attributes h) c.change_at.ensures.reads.keeps.header) ∙ lacks))
-    (met_still c.args.volume.now c.change_at.new.self (g.P.SectorView.space c.args.space.now) (g.P.SectorView.space c.change_at.new.space) c.change_at.ensures.reads tells (edits 0 2 c.args.many 1) met))
+    absurd (true≢false (sym (c.fits_bare.ensures.met (c.change_at.ensures.looked.reads.looks.same.tells ∙ tells)
+    (λ lacks. none (ap (λ (l : VolumeState). has_attributes l.head) (c.requires.settled tells).lists ∙ sym (ap (λ (h : VolumeHeader). has_attributes h) c.change_at.ensures.looked.reads.keeps.header) ∙ lacks))
+    (met_still c.args.volume.now c.change_at.new.self (g.P.SectorView.space c.args.space.now) (g.P.SectorView.space c.change_at.new.space) c.change_at.ensures.looked.reads tells (edits 0 2 c.args.many 1) met))
     ∙ c.if-not-fits_bare.true))
 
 pub returns-clause-loads : goal.returns-clause-loads
-returns-clause-loads g c tells = within (command.Rmdir c.args.path.now) c.args.volume.now c.change_at.new.self (g.P.SectorView.space c.args.space.now) (g.P.SectorView.space c.change_at.new.space) (g.P.SectorView.space c.rmdir.new.space) c.change_at.ensures.reads tells refl refl (c.requires.affords tells) (c.rmdir.ensures.loads (c.change_at.ensures.reads.looks.same.tells ∙ tells))
+returns-clause-loads g c tells = within (command.Rmdir c.args.path.now) c.args.volume.now c.change_at.new.self (g.P.SectorView.space c.args.space.now) (g.P.SectorView.space c.change_at.new.space) (g.P.SectorView.space c.rmdir.new.space) c.change_at.ensures.looked.reads tells refl refl (c.requires.affords tells) (c.rmdir.ensures.loads (c.change_at.ensures.looked.reads.looks.same.tells ∙ tells))
 
 pub returns-in_err-reply-clause-loads : goal.returns-in_err-reply-clause-loads
-returns-in_err-reply-clause-loads g c tells = within (command.Rmdir c.args.path.now) c.args.volume.now c.change_at.new.self (g.P.SectorView.space c.args.space.now) (g.P.SectorView.space c.change_at.new.space) (g.P.SectorView.space c.rmdir.new.space) c.change_at.ensures.reads tells refl refl (c.requires.affords tells) (c.rmdir.ensures.loads (c.change_at.ensures.reads.looks.same.tells ∙ tells))
+returns-in_err-reply-clause-loads g c tells = within (command.Rmdir c.args.path.now) c.args.volume.now c.change_at.new.self (g.P.SectorView.space c.args.space.now) (g.P.SectorView.space c.change_at.new.space) (g.P.SectorView.space c.rmdir.new.space) c.change_at.ensures.looked.reads tells refl refl (c.requires.affords tells) (c.rmdir.ensures.loads (c.change_at.ensures.looked.reads.looks.same.tells ∙ tells))
 
 pub returns-in_err-changes-clause-loads : goal.returns-in_err-changes-clause-loads
-returns-in_err-changes-clause-loads g c tells = within_reads (command.Rmdir c.args.path.now) c.args.volume.now c.change_at.new.self (g.P.SectorView.space c.args.space.now) (g.P.SectorView.space c.change_at.new.space) c.change_at.ensures.reads
+returns-in_err-changes-clause-loads g c tells = within_reads (command.Rmdir c.args.path.now) c.args.volume.now c.change_at.new.self (g.P.SectorView.space c.args.space.now) (g.P.SectorView.space c.change_at.new.space) c.change_at.ensures.looked.reads
 
 pub returns-then-not-fits_remove-clause-loads : goal.returns-then-not-fits_remove-clause-loads
-returns-then-not-fits_remove-clause-loads g c tells = within_reads (command.Rmdir c.args.path.now) c.args.volume.now c.change_at.new.self (g.P.SectorView.space c.args.space.now) (g.P.SectorView.space c.change_at.new.space) c.change_at.ensures.reads
+returns-then-not-fits_remove-clause-loads g c tells = within_reads (command.Rmdir c.args.path.now) c.args.volume.now c.change_at.new.self (g.P.SectorView.space c.args.space.now) (g.P.SectorView.space c.change_at.new.space) c.change_at.ensures.looked.reads
 
 pub returns-then-not-fits_bare-clause-loads : goal.returns-then-not-fits_bare-clause-loads
-returns-then-not-fits_bare-clause-loads g c tells = within_reads (command.Rmdir c.args.path.now) c.args.volume.now c.change_at.new.self (g.P.SectorView.space c.args.space.now) (g.P.SectorView.space c.change_at.new.space) c.change_at.ensures.reads
+returns-then-not-fits_bare-clause-loads g c tells = within_reads (command.Rmdir c.args.path.now) c.args.volume.now c.change_at.new.self (g.P.SectorView.space c.args.space.now) (g.P.SectorView.space c.change_at.new.space) c.change_at.ensures.looked.reads

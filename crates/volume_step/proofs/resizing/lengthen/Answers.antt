@@ -24,96 +24,96 @@ use Rattle.volume_step.proofs.resizing.lengthen.Goals as goal
 
 pub lengthen-requires-clause-closed : goal.lengthen-requires-clause-closed
 lengthen-requires-clause-closed g c told at shut =
-    let tells = sym c.change_at.ensures.reads.looks.same.tells ∙ told in
-    subst (λ (k : Content). IsJournalSector k at) (sym (c.change_at.ensures.reads.looks.content tells)) (c.requires.closed tells at ((c.change_at.ensures.reads.looks.closed tells at).0 shut))
+    let tells = sym c.change_at.ensures.looked.reads.looks.same.tells ∙ told in
+    subst (λ (k : Content). IsJournalSector k at) (sym (c.change_at.ensures.looked.reads.looks.content tells)) (c.requires.closed tells at ((c.change_at.ensures.looked.reads.looks.closed tells at).0 shut))
 
 pub returns-in-Some-clause-answered : goal.returns-in-Some-clause-answered
 returns-in-Some-clause-answered g c tells =
-    subst (λ (k : Content). StepsTo (outcome.Answered c.in-Some.reply c.in_ok-changes.changes) (capacity_of c.args.volume.now) c.args.number (command.Trunc c.args.path.now c.args.size) k (g.P.SectorView.space c.lengthen.new.space).content) (c.change_at.ensures.reads.looks.content tells)
+    subst (λ (k : Content). StepsTo (outcome.Answered c.in-Some.reply c.in_ok-changes.changes) (capacity_of c.args.volume.now) c.args.number (command.Trunc c.args.path.now c.args.size) k (g.P.SectorView.space c.lengthen.new.space).content) (c.change_at.ensures.looked.reads.looks.content tells)
     (size_steps (capacity_of c.args.volume.now) c.args.number c.args.path.now c.args.size (g.P.SectorView.space c.change_at.new.space).content (g.P.SectorView.space c.lengthen.new.space).content
-    (sound_here c.change_at.new.self (g.P.SectorView.space c.change_at.new.space) (c.change_at.ensures.stands.stands (c.change_at.ensures.reads.looks.same.tells ∙ tells)) (c.change_at.ensures.settled tells))
-    (sound_here c.lengthen.new.volume (g.P.SectorView.space c.lengthen.new.space) (c.in_ok-reply.ensures.stands.stands (c.lengthen.ensures.same.tells ∙ (c.change_at.ensures.reads.looks.same.tells ∙ tells))) (c.in_ok-reply.ensures.settled (c.change_at.ensures.reads.looks.same.tells ∙ tells)))
-    (subst (λ (k : Content). Affords (capacity_of c.args.volume.now) (command.Trunc c.args.path.now c.args.size) k) (sym (c.change_at.ensures.reads.looks.content tells)) (c.requires.affords tells))
-    c.in-Some.reply (subst (λ (o : Option Reply). IfSome o (λ reply. reply ≡ (step_line (tree_of (g.P.SectorView.space c.change_at.new.space).content) (Ok (command.Trunc c.args.path.now c.args.size))).0)) c.in-Some.is (c.in_ok-reply.ensures.reply (c.change_at.ensures.reads.looks.same.tells ∙ tells)))
-    (subst (λ (o : Option Reply). IfSome o (λ reply. tree_of (g.P.SectorView.space c.lengthen.new.space).content ≡ (step_line (tree_of (g.P.SectorView.space c.change_at.new.space).content) (Ok (command.Trunc c.args.path.now c.args.size))).1)) c.in-Some.is (c.in_ok-reply.ensures.tree (c.change_at.ensures.reads.looks.same.tells ∙ tells)))
-    (λ ok. c.in_ok-reply.ensures.lists (c.change_at.ensures.reads.looks.same.tells ∙ tells) (c.in-Some.is ∙ ap Some ok)) c.in_ok-changes.changes
-    (λ not_own entry is. c.in_ok-changes.ensures.told tells not_own entry (ap (λ (k : Content). reached (tree_of k) c.args.path.now) (sym (c.change_at.ensures.reads.looks.content tells)) ∙ is)))
+    (sound_here c.change_at.new.self (g.P.SectorView.space c.change_at.new.space) (c.change_at.ensures.looked.stands.stands (c.change_at.ensures.looked.reads.looks.same.tells ∙ tells)) (c.change_at.ensures.serves.settled (c.change_at.ensures.looked.reads.looks.same.tells ∙ tells)))
+    (sound_here c.lengthen.new.volume (g.P.SectorView.space c.lengthen.new.space) (c.in_ok-reply.ensures.stands.stands (c.lengthen.ensures.same.tells ∙ (c.change_at.ensures.looked.reads.looks.same.tells ∙ tells))) (c.in_ok-reply.ensures.settled (c.change_at.ensures.looked.reads.looks.same.tells ∙ tells)))
+    (subst (λ (k : Content). Affords (capacity_of c.args.volume.now) (command.Trunc c.args.path.now c.args.size) k) (sym (c.change_at.ensures.looked.reads.looks.content tells)) (c.requires.affords tells))
+    c.in-Some.reply (subst (λ (o : Option Reply). IfSome o (λ reply. reply ≡ (step_line (tree_of (g.P.SectorView.space c.change_at.new.space).content) (Ok (command.Trunc c.args.path.now c.args.size))).0)) c.in-Some.is (c.in_ok-reply.ensures.reply (c.change_at.ensures.looked.reads.looks.same.tells ∙ tells)))
+    (subst (λ (o : Option Reply). IfSome o (λ reply. tree_of (g.P.SectorView.space c.lengthen.new.space).content ≡ (step_line (tree_of (g.P.SectorView.space c.change_at.new.space).content) (Ok (command.Trunc c.args.path.now c.args.size))).1)) c.in-Some.is (c.in_ok-reply.ensures.tree (c.change_at.ensures.looked.reads.looks.same.tells ∙ tells)))
+    (λ ok. c.in_ok-reply.ensures.lists (c.change_at.ensures.looked.reads.looks.same.tells ∙ tells) (c.in-Some.is ∙ ap Some ok)) c.in_ok-changes.changes
+    (λ not_own entry is. c.in_ok-changes.ensures.told tells not_own entry (ap (λ (k : Content). reached (tree_of k) c.args.path.now) (sym (c.change_at.ensures.looked.reads.looks.content tells)) ∙ is)))
 
 pub returns-in-Some-clause-place : goal.returns-in-Some-clause-place
 returns-in-Some-clause-place g c tells =
-    subst (λ (k : Content). KeepsJournal k (g.P.SectorView.space c.lengthen.new.space).content) (c.change_at.ensures.reads.looks.content tells)
+    subst (λ (k : Content). KeepsJournal k (g.P.SectorView.space c.lengthen.new.space).content) (c.change_at.ensures.looked.reads.looks.content tells)
     (size_place (capacity_of c.args.volume.now) c.args.number c.args.path.now c.args.size (g.P.SectorView.space c.change_at.new.space).content (g.P.SectorView.space c.lengthen.new.space).content
-    (sound_here c.change_at.new.self (g.P.SectorView.space c.change_at.new.space) (c.change_at.ensures.stands.stands (c.change_at.ensures.reads.looks.same.tells ∙ tells)) (c.change_at.ensures.settled tells))
-    (sound_here c.lengthen.new.volume (g.P.SectorView.space c.lengthen.new.space) (c.in_ok-reply.ensures.stands.stands (c.lengthen.ensures.same.tells ∙ (c.change_at.ensures.reads.looks.same.tells ∙ tells))) (c.in_ok-reply.ensures.settled (c.change_at.ensures.reads.looks.same.tells ∙ tells)))
-    (subst (λ (k : Content). Affords (capacity_of c.args.volume.now) (command.Trunc c.args.path.now c.args.size) k) (sym (c.change_at.ensures.reads.looks.content tells)) (c.requires.affords tells))
-    c.in-Some.reply (subst (λ (o : Option Reply). IfSome o (λ reply. reply ≡ (step_line (tree_of (g.P.SectorView.space c.change_at.new.space).content) (Ok (command.Trunc c.args.path.now c.args.size))).0)) c.in-Some.is (c.in_ok-reply.ensures.reply (c.change_at.ensures.reads.looks.same.tells ∙ tells)))
-    (subst (λ (o : Option Reply). IfSome o (λ reply. tree_of (g.P.SectorView.space c.lengthen.new.space).content ≡ (step_line (tree_of (g.P.SectorView.space c.change_at.new.space).content) (Ok (command.Trunc c.args.path.now c.args.size))).1)) c.in-Some.is (c.in_ok-reply.ensures.tree (c.change_at.ensures.reads.looks.same.tells ∙ tells)))
-    (λ ok. c.in_ok-reply.ensures.lists (c.change_at.ensures.reads.looks.same.tells ∙ tells) (c.in-Some.is ∙ ap Some ok)))
+    (sound_here c.change_at.new.self (g.P.SectorView.space c.change_at.new.space) (c.change_at.ensures.looked.stands.stands (c.change_at.ensures.looked.reads.looks.same.tells ∙ tells)) (c.change_at.ensures.serves.settled (c.change_at.ensures.looked.reads.looks.same.tells ∙ tells)))
+    (sound_here c.lengthen.new.volume (g.P.SectorView.space c.lengthen.new.space) (c.in_ok-reply.ensures.stands.stands (c.lengthen.ensures.same.tells ∙ (c.change_at.ensures.looked.reads.looks.same.tells ∙ tells))) (c.in_ok-reply.ensures.settled (c.change_at.ensures.looked.reads.looks.same.tells ∙ tells)))
+    (subst (λ (k : Content). Affords (capacity_of c.args.volume.now) (command.Trunc c.args.path.now c.args.size) k) (sym (c.change_at.ensures.looked.reads.looks.content tells)) (c.requires.affords tells))
+    c.in-Some.reply (subst (λ (o : Option Reply). IfSome o (λ reply. reply ≡ (step_line (tree_of (g.P.SectorView.space c.change_at.new.space).content) (Ok (command.Trunc c.args.path.now c.args.size))).0)) c.in-Some.is (c.in_ok-reply.ensures.reply (c.change_at.ensures.looked.reads.looks.same.tells ∙ tells)))
+    (subst (λ (o : Option Reply). IfSome o (λ reply. tree_of (g.P.SectorView.space c.lengthen.new.space).content ≡ (step_line (tree_of (g.P.SectorView.space c.change_at.new.space).content) (Ok (command.Trunc c.args.path.now c.args.size))).1)) c.in-Some.is (c.in_ok-reply.ensures.tree (c.change_at.ensures.looked.reads.looks.same.tells ∙ tells)))
+    (λ ok. c.in_ok-reply.ensures.lists (c.change_at.ensures.looked.reads.looks.same.tells ∙ tells) (c.in-Some.is ∙ ap Some ok)))
 
 pub returns-in-Some-clause-holds : goal.returns-in-Some-clause-holds
-returns-in-Some-clause-holds g c committed was = c.in_ok-reply.ensures.holds committed (holds_kept committed c.args.volume.now c.change_at.new.self c.change_at.ensures.reads.keeps.map was)
+returns-in-Some-clause-holds g c committed was = c.in_ok-reply.ensures.holds committed (holds_kept committed c.args.volume.now c.change_at.new.self c.change_at.ensures.looked.reads.keeps.map was)
 
 pub returns-in-Some-clause-below : goal.returns-in-Some-clause-below
-returns-in-Some-clause-below g c = g.met.P.SectorView.follows_trans c.args.space.now c.change_at.new.space c.lengthen.new.space c.change_at.ensures.below c.lengthen.ensures.below
+returns-in-Some-clause-below g c = g.met.P.SectorView.follows_trans c.args.space.now c.change_at.new.space c.lengthen.new.space c.change_at.ensures.looked.edits.ran.below c.lengthen.ensures.below
 
 pub returns-in-Some-clause-touches : goal.returns-in-Some-clause-touches
 returns-in-Some-clause-touches g c committed holds laid =
-    touches_both committed _ (g.P.SectorView.space c.args.space.now) (g.P.SectorView.space c.change_at.new.space) (g.P.SectorView.space c.lengthen.new.space) (touches_looks committed _ (g.P.SectorView.space c.args.space.now) (g.P.SectorView.space c.change_at.new.space) c.change_at.ensures.reads.looks)
-    (subst (λ (l : List ℕ). Touches committed (λ s. Contains l s) (g.P.SectorView.space c.change_at.new.space) (g.P.SectorView.space c.lengthen.new.space)) (own_still c.args.volume.now c.change_at.new.self (g.P.SectorView.space c.args.space.now) (g.P.SectorView.space c.change_at.new.space) c.change_at.ensures.reads) (c.lengthen.ensures.touches committed (holds_kept committed c.args.volume.now c.change_at.new.self c.change_at.ensures.reads.keeps.map holds) (laid_still committed c.args.volume.now c.change_at.new.self c.change_at.ensures.reads.keeps.header c.change_at.ensures.reads.keeps.map laid)))
+    touches_both committed _ (g.P.SectorView.space c.args.space.now) (g.P.SectorView.space c.change_at.new.space) (g.P.SectorView.space c.lengthen.new.space) (touches_looks committed _ (g.P.SectorView.space c.args.space.now) (g.P.SectorView.space c.change_at.new.space) c.change_at.ensures.looked.reads.looks)
+    (subst (λ (l : List ℕ). Touches committed (λ s. Contains l s) (g.P.SectorView.space c.change_at.new.space) (g.P.SectorView.space c.lengthen.new.space)) (own_still c.args.volume.now c.change_at.new.self (g.P.SectorView.space c.args.space.now) (g.P.SectorView.space c.change_at.new.space) c.change_at.ensures.looked.reads) (c.lengthen.ensures.touches committed (holds_kept committed c.args.volume.now c.change_at.new.self c.change_at.ensures.looked.reads.keeps.map holds) (laid_still committed c.args.volume.now c.change_at.new.self c.change_at.ensures.looked.reads.keeps.header c.change_at.ensures.looked.reads.keeps.map laid)))
 
 pub returns-in-Some-clause-same : goal.returns-in-Some-clause-same
-returns-in-Some-clause-same g c = space_both _ _ _ c.change_at.ensures.reads.looks.same c.lengthen.ensures.same
+returns-in-Some-clause-same g c = space_both _ _ _ c.change_at.ensures.looked.reads.looks.same c.lengthen.ensures.same
 
 pub returns-in-None-clause-answered : goal.returns-in-None-clause-answered
-returns-in-None-clause-answered g c tells = (subst (λ (o : Option Reply). IfNone o ((g.P.SectorView.space c.lengthen.new.space).content ≡ (g.P.SectorView.space c.change_at.new.space).content)) c.in-None.is (c.in_ok-reply.ensures.waits (c.change_at.ensures.reads.looks.same.tells ∙ tells))) ∙ c.change_at.ensures.reads.looks.content tells
+returns-in-None-clause-answered g c tells = (subst (λ (o : Option Reply). IfNone o ((g.P.SectorView.space c.lengthen.new.space).content ≡ (g.P.SectorView.space c.change_at.new.space).content)) c.in-None.is (c.in_ok-reply.ensures.waits (c.change_at.ensures.looked.reads.looks.same.tells ∙ tells))) ∙ c.change_at.ensures.looked.reads.looks.content tells
 
 pub returns-in-None-clause-place : goal.returns-in-None-clause-place
-returns-in-None-clause-place g c tells = same_place (g.P.SectorView.space c.args.space.now).content (g.P.SectorView.space c.lengthen.new.space).content ((subst (λ (o : Option Reply). IfNone o ((g.P.SectorView.space c.lengthen.new.space).content ≡ (g.P.SectorView.space c.change_at.new.space).content)) c.in-None.is (c.in_ok-reply.ensures.waits (c.change_at.ensures.reads.looks.same.tells ∙ tells))) ∙ c.change_at.ensures.reads.looks.content tells)
+returns-in-None-clause-place g c tells = same_place (g.P.SectorView.space c.args.space.now).content (g.P.SectorView.space c.lengthen.new.space).content ((subst (λ (o : Option Reply). IfNone o ((g.P.SectorView.space c.lengthen.new.space).content ≡ (g.P.SectorView.space c.change_at.new.space).content)) c.in-None.is (c.in_ok-reply.ensures.waits (c.change_at.ensures.looked.reads.looks.same.tells ∙ tells))) ∙ c.change_at.ensures.looked.reads.looks.content tells)
 
 pub returns-in-None-clause-holds : goal.returns-in-None-clause-holds
-returns-in-None-clause-holds g c committed was = c.in_ok-reply.ensures.holds committed (holds_kept committed c.args.volume.now c.change_at.new.self c.change_at.ensures.reads.keeps.map was)
+returns-in-None-clause-holds g c committed was = c.in_ok-reply.ensures.holds committed (holds_kept committed c.args.volume.now c.change_at.new.self c.change_at.ensures.looked.reads.keeps.map was)
 
 pub returns-in-None-clause-below : goal.returns-in-None-clause-below
-returns-in-None-clause-below g c = g.met.P.SectorView.follows_trans c.args.space.now c.change_at.new.space c.lengthen.new.space c.change_at.ensures.below c.lengthen.ensures.below
+returns-in-None-clause-below g c = g.met.P.SectorView.follows_trans c.args.space.now c.change_at.new.space c.lengthen.new.space c.change_at.ensures.looked.edits.ran.below c.lengthen.ensures.below
 
 pub returns-in-None-clause-touches : goal.returns-in-None-clause-touches
 returns-in-None-clause-touches g c committed holds laid =
-    touches_both committed _ (g.P.SectorView.space c.args.space.now) (g.P.SectorView.space c.change_at.new.space) (g.P.SectorView.space c.lengthen.new.space) (touches_looks committed _ (g.P.SectorView.space c.args.space.now) (g.P.SectorView.space c.change_at.new.space) c.change_at.ensures.reads.looks)
-    (subst (λ (l : List ℕ). Touches committed (λ s. Contains l s) (g.P.SectorView.space c.change_at.new.space) (g.P.SectorView.space c.lengthen.new.space)) (own_still c.args.volume.now c.change_at.new.self (g.P.SectorView.space c.args.space.now) (g.P.SectorView.space c.change_at.new.space) c.change_at.ensures.reads) (c.lengthen.ensures.touches committed (holds_kept committed c.args.volume.now c.change_at.new.self c.change_at.ensures.reads.keeps.map holds) (laid_still committed c.args.volume.now c.change_at.new.self c.change_at.ensures.reads.keeps.header c.change_at.ensures.reads.keeps.map laid)))
+    touches_both committed _ (g.P.SectorView.space c.args.space.now) (g.P.SectorView.space c.change_at.new.space) (g.P.SectorView.space c.lengthen.new.space) (touches_looks committed _ (g.P.SectorView.space c.args.space.now) (g.P.SectorView.space c.change_at.new.space) c.change_at.ensures.looked.reads.looks)
+    (subst (λ (l : List ℕ). Touches committed (λ s. Contains l s) (g.P.SectorView.space c.change_at.new.space) (g.P.SectorView.space c.lengthen.new.space)) (own_still c.args.volume.now c.change_at.new.self (g.P.SectorView.space c.args.space.now) (g.P.SectorView.space c.change_at.new.space) c.change_at.ensures.looked.reads) (c.lengthen.ensures.touches committed (holds_kept committed c.args.volume.now c.change_at.new.self c.change_at.ensures.looked.reads.keeps.map holds) (laid_still committed c.args.volume.now c.change_at.new.self c.change_at.ensures.looked.reads.keeps.header c.change_at.ensures.looked.reads.keeps.map laid)))
 
 pub returns-in-None-clause-same : goal.returns-in-None-clause-same
-returns-in-None-clause-same g c = space_both _ _ _ c.change_at.ensures.reads.looks.same c.lengthen.ensures.same
+returns-in-None-clause-same g c = space_both _ _ _ c.change_at.ensures.looked.reads.looks.same c.lengthen.ensures.same
 
 pub returns-in_err-reply-clause-touches : goal.returns-in_err-reply-clause-touches
 returns-in_err-reply-clause-touches g c committed holds laid =
-    touches_both committed _ (g.P.SectorView.space c.args.space.now) (g.P.SectorView.space c.change_at.new.space) (g.P.SectorView.space c.lengthen.new.space) (touches_looks committed _ (g.P.SectorView.space c.args.space.now) (g.P.SectorView.space c.change_at.new.space) c.change_at.ensures.reads.looks)
-    (subst (λ (l : List ℕ). Touches committed (λ s. Contains l s) (g.P.SectorView.space c.change_at.new.space) (g.P.SectorView.space c.lengthen.new.space)) (own_still c.args.volume.now c.change_at.new.self (g.P.SectorView.space c.args.space.now) (g.P.SectorView.space c.change_at.new.space) c.change_at.ensures.reads) (c.lengthen.ensures.touches committed (holds_kept committed c.args.volume.now c.change_at.new.self c.change_at.ensures.reads.keeps.map holds) (laid_still committed c.args.volume.now c.change_at.new.self c.change_at.ensures.reads.keeps.header c.change_at.ensures.reads.keeps.map laid)))
+    touches_both committed _ (g.P.SectorView.space c.args.space.now) (g.P.SectorView.space c.change_at.new.space) (g.P.SectorView.space c.lengthen.new.space) (touches_looks committed _ (g.P.SectorView.space c.args.space.now) (g.P.SectorView.space c.change_at.new.space) c.change_at.ensures.looked.reads.looks)
+    (subst (λ (l : List ℕ). Touches committed (λ s. Contains l s) (g.P.SectorView.space c.change_at.new.space) (g.P.SectorView.space c.lengthen.new.space)) (own_still c.args.volume.now c.change_at.new.self (g.P.SectorView.space c.args.space.now) (g.P.SectorView.space c.change_at.new.space) c.change_at.ensures.looked.reads) (c.lengthen.ensures.touches committed (holds_kept committed c.args.volume.now c.change_at.new.self c.change_at.ensures.looked.reads.keeps.map holds) (laid_still committed c.args.volume.now c.change_at.new.self c.change_at.ensures.looked.reads.keeps.header c.change_at.ensures.looked.reads.keeps.map laid)))
 
 pub returns-in_err-reply-clause-same : goal.returns-in_err-reply-clause-same
-returns-in_err-reply-clause-same g c = space_both _ _ _ c.change_at.ensures.reads.looks.same c.lengthen.ensures.same
+returns-in_err-reply-clause-same g c = space_both _ _ _ c.change_at.ensures.looked.reads.looks.same c.lengthen.ensures.same
 
 pub returns-in_err-changes-clause-touches : goal.returns-in_err-changes-clause-touches
-returns-in_err-changes-clause-touches g c committed holds laid = touches_looks committed _ (g.P.SectorView.space c.args.space.now) (g.P.SectorView.space c.change_at.new.space) c.change_at.ensures.reads.looks
+returns-in_err-changes-clause-touches g c committed holds laid = touches_looks committed _ (g.P.SectorView.space c.args.space.now) (g.P.SectorView.space c.change_at.new.space) c.change_at.ensures.looked.reads.looks
 
 pub returns-in-None-clause-puts : goal.returns-in-None-clause-puts
 returns-in-None-clause-puts g c tells met =
-    absurd (put_none c.in_ok-reply.field-0 _ c.in-None.is (c.in_ok-reply.ensures.met (c.change_at.ensures.reads.looks.same.tells ∙ tells))
-    (data_still (command.Trunc c.args.path.now c.args.size) c.args.volume.now c.change_at.new.self (g.P.SectorView.space c.args.space.now) (g.P.SectorView.space c.change_at.new.space) c.change_at.ensures.reads tells met))
+    absurd (put_none c.in_ok-reply.field-0 _ c.in-None.is (c.in_ok-reply.ensures.met (c.change_at.ensures.looked.reads.looks.same.tells ∙ tells))
+    (data_still (command.Trunc c.args.path.now c.args.size) c.args.volume.now c.change_at.new.self (g.P.SectorView.space c.args.space.now) (g.P.SectorView.space c.change_at.new.space) c.change_at.ensures.looked.reads tells met))
 
 pub returns-in-Some-clause-loads : goal.returns-in-Some-clause-loads
 returns-in-Some-clause-loads g c tells =
-    within_behind (command.Trunc c.args.path.now c.args.size) c.args.volume.now c.change_at.new.self (g.P.SectorView.space c.args.space.now) (g.P.SectorView.space c.change_at.new.space) (g.P.SectorView.space c.lengthen.new.space) c.change_at.ensures.reads tells
-    (λ load grow is. c.lengthen.ensures.loads (c.change_at.ensures.reads.looks.same.tells ∙ tells) load grow is)
+    within_behind (command.Trunc c.args.path.now c.args.size) c.args.volume.now c.change_at.new.self (g.P.SectorView.space c.args.space.now) (g.P.SectorView.space c.change_at.new.space) (g.P.SectorView.space c.lengthen.new.space) c.change_at.ensures.looked.reads tells
+    (λ load grow is. c.lengthen.ensures.loads (c.change_at.ensures.looked.reads.looks.same.tells ∙ tells) load grow is)
 
 pub returns-in-None-clause-loads : goal.returns-in-None-clause-loads
 returns-in-None-clause-loads g c tells =
-    within_behind (command.Trunc c.args.path.now c.args.size) c.args.volume.now c.change_at.new.self (g.P.SectorView.space c.args.space.now) (g.P.SectorView.space c.change_at.new.space) (g.P.SectorView.space c.lengthen.new.space) c.change_at.ensures.reads tells
-    (λ load grow is. c.lengthen.ensures.loads (c.change_at.ensures.reads.looks.same.tells ∙ tells) load grow is)
+    within_behind (command.Trunc c.args.path.now c.args.size) c.args.volume.now c.change_at.new.self (g.P.SectorView.space c.args.space.now) (g.P.SectorView.space c.change_at.new.space) (g.P.SectorView.space c.lengthen.new.space) c.change_at.ensures.looked.reads tells
+    (λ load grow is. c.lengthen.ensures.loads (c.change_at.ensures.looked.reads.looks.same.tells ∙ tells) load grow is)
 
 pub returns-in_err-reply-clause-loads : goal.returns-in_err-reply-clause-loads
 returns-in_err-reply-clause-loads g c tells =
-    within_behind (command.Trunc c.args.path.now c.args.size) c.args.volume.now c.change_at.new.self (g.P.SectorView.space c.args.space.now) (g.P.SectorView.space c.change_at.new.space) (g.P.SectorView.space c.lengthen.new.space) c.change_at.ensures.reads tells
-    (λ load grow is. c.lengthen.ensures.loads (c.change_at.ensures.reads.looks.same.tells ∙ tells) load grow is)
+    within_behind (command.Trunc c.args.path.now c.args.size) c.args.volume.now c.change_at.new.self (g.P.SectorView.space c.args.space.now) (g.P.SectorView.space c.change_at.new.space) (g.P.SectorView.space c.lengthen.new.space) c.change_at.ensures.looked.reads tells
+    (λ load grow is. c.lengthen.ensures.loads (c.change_at.ensures.looked.reads.looks.same.tells ∙ tells) load grow is)
 
 pub returns-in_err-changes-clause-loads : goal.returns-in_err-changes-clause-loads
-returns-in_err-changes-clause-loads g c tells = within_reads (command.Trunc c.args.path.now c.args.size) c.args.volume.now c.change_at.new.self (g.P.SectorView.space c.args.space.now) (g.P.SectorView.space c.change_at.new.space) c.change_at.ensures.reads
+returns-in_err-changes-clause-loads g c tells = within_reads (command.Trunc c.args.path.now c.args.size) c.args.volume.now c.change_at.new.self (g.P.SectorView.space c.args.space.now) (g.P.SectorView.space c.change_at.new.space) c.change_at.ensures.looked.reads

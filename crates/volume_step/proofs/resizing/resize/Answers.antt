@@ -31,158 +31,158 @@ use Rattle.volume_step.proofs.resizing.resize.Goals as goal
 
 pub returns-in-Some-clause-answered : goal.returns-in-Some-clause-answered
 returns-in-Some-clause-answered g c tells =
-    subst (λ (k : Content). StepsTo (outcome.Answered c.in-Some.reply c.in_ok-changes.changes) (capacity_of c.args.volume.now) c.args.number (command.Trunc c.args.path.now c.args.size) k (g.P.SectorView.space c.shorten.new.space).content) (c.change_at.ensures.reads.looks.content tells)
+    subst (λ (k : Content). StepsTo (outcome.Answered c.in-Some.reply c.in_ok-changes.changes) (capacity_of c.args.volume.now) c.args.number (command.Trunc c.args.path.now c.args.size) k (g.P.SectorView.space c.shorten.new.space).content) (c.change_at.ensures.looked.reads.looks.content tells)
     (trunc_steps (capacity_of c.args.volume.now) c.args.number c.args.path.now c.args.size (g.P.SectorView.space c.change_at.new.space).content (g.P.SectorView.space c.shorten.new.space).content
-    (sound_here c.change_at.new.self (g.P.SectorView.space c.change_at.new.space) (c.change_at.ensures.stands.stands (c.change_at.ensures.reads.looks.same.tells ∙ tells)) (c.change_at.ensures.settled tells))
-    (sound_here c.shorten.new.volume (g.P.SectorView.space c.shorten.new.space) (c.in_ok-reply.ensures.stands.stands ((c.shorten.ensures.touches (g.P.SectorView.space c.args.space.now).content).same.tells ∙ (c.change_at.ensures.reads.looks.same.tells ∙ tells))) (c.in_ok-reply.ensures.settled (c.change_at.ensures.reads.looks.same.tells ∙ tells)))
-    (subst (λ (k : Content). Affords (capacity_of c.args.volume.now) (command.Trunc c.args.path.now c.args.size) k) (sym (c.change_at.ensures.reads.looks.content tells)) (c.requires.affords tells))
-    c.in-Some.reply (subst (λ (o : Option Reply). IfSome o (λ reply. reply ≡ (step_line (tree_of (g.P.SectorView.space c.change_at.new.space).content) (Ok (command.Trunc c.args.path.now c.args.size))).0)) c.in-Some.is (c.in_ok-reply.ensures.reply (c.change_at.ensures.reads.looks.same.tells ∙ tells)))
-    (subst (λ (o : Option Reply). IfSome o (λ reply. tree_of (g.P.SectorView.space c.shorten.new.space).content ≡ (step_line (tree_of (g.P.SectorView.space c.change_at.new.space).content) (Ok (command.Trunc c.args.path.now c.args.size))).1)) c.in-Some.is (c.in_ok-reply.ensures.tree (c.change_at.ensures.reads.looks.same.tells ∙ tells)))
-    (λ ok. c.in_ok-reply.ensures.lists (c.change_at.ensures.reads.looks.same.tells ∙ tells) (c.in-Some.is ∙ ap Some ok)) c.in_ok-changes.changes
-    (λ not_own entry is. c.in_ok-changes.ensures.told tells not_own entry (ap (λ (k : Content). reached (tree_of k) c.args.path.now) (sym (c.change_at.ensures.reads.looks.content tells)) ∙ is)))
+    (sound_here c.change_at.new.self (g.P.SectorView.space c.change_at.new.space) (c.change_at.ensures.looked.stands.stands (c.change_at.ensures.looked.reads.looks.same.tells ∙ tells)) (c.change_at.ensures.serves.settled (c.change_at.ensures.looked.reads.looks.same.tells ∙ tells)))
+    (sound_here c.shorten.new.volume (g.P.SectorView.space c.shorten.new.space) (c.in_ok-reply.ensures.stands.stands ((c.shorten.ensures.touches (g.P.SectorView.space c.args.space.now).content).same.tells ∙ (c.change_at.ensures.looked.reads.looks.same.tells ∙ tells))) (c.in_ok-reply.ensures.settled (c.change_at.ensures.looked.reads.looks.same.tells ∙ tells)))
+    (subst (λ (k : Content). Affords (capacity_of c.args.volume.now) (command.Trunc c.args.path.now c.args.size) k) (sym (c.change_at.ensures.looked.reads.looks.content tells)) (c.requires.affords tells))
+    c.in-Some.reply (subst (λ (o : Option Reply). IfSome o (λ reply. reply ≡ (step_line (tree_of (g.P.SectorView.space c.change_at.new.space).content) (Ok (command.Trunc c.args.path.now c.args.size))).0)) c.in-Some.is (c.in_ok-reply.ensures.reply (c.change_at.ensures.looked.reads.looks.same.tells ∙ tells)))
+    (subst (λ (o : Option Reply). IfSome o (λ reply. tree_of (g.P.SectorView.space c.shorten.new.space).content ≡ (step_line (tree_of (g.P.SectorView.space c.change_at.new.space).content) (Ok (command.Trunc c.args.path.now c.args.size))).1)) c.in-Some.is (c.in_ok-reply.ensures.tree (c.change_at.ensures.looked.reads.looks.same.tells ∙ tells)))
+    (λ ok. c.in_ok-reply.ensures.lists (c.change_at.ensures.looked.reads.looks.same.tells ∙ tells) (c.in-Some.is ∙ ap Some ok)) c.in_ok-changes.changes
+    (λ not_own entry is. c.in_ok-changes.ensures.told tells not_own entry (ap (λ (k : Content). reached (tree_of k) c.args.path.now) (sym (c.change_at.ensures.looked.reads.looks.content tells)) ∙ is)))
 
 pub returns-in-Some-clause-place : goal.returns-in-Some-clause-place
 returns-in-Some-clause-place g c tells =
-    subst (λ (k : Content). KeepsJournal k (g.P.SectorView.space c.shorten.new.space).content) (c.change_at.ensures.reads.looks.content tells)
+    subst (λ (k : Content). KeepsJournal k (g.P.SectorView.space c.shorten.new.space).content) (c.change_at.ensures.looked.reads.looks.content tells)
     (trunc_place (capacity_of c.args.volume.now) c.args.number c.args.path.now c.args.size (g.P.SectorView.space c.change_at.new.space).content (g.P.SectorView.space c.shorten.new.space).content
-    (sound_here c.change_at.new.self (g.P.SectorView.space c.change_at.new.space) (c.change_at.ensures.stands.stands (c.change_at.ensures.reads.looks.same.tells ∙ tells)) (c.change_at.ensures.settled tells))
-    (sound_here c.shorten.new.volume (g.P.SectorView.space c.shorten.new.space) (c.in_ok-reply.ensures.stands.stands ((c.shorten.ensures.touches (g.P.SectorView.space c.args.space.now).content).same.tells ∙ (c.change_at.ensures.reads.looks.same.tells ∙ tells))) (c.in_ok-reply.ensures.settled (c.change_at.ensures.reads.looks.same.tells ∙ tells)))
-    (subst (λ (k : Content). Affords (capacity_of c.args.volume.now) (command.Trunc c.args.path.now c.args.size) k) (sym (c.change_at.ensures.reads.looks.content tells)) (c.requires.affords tells))
-    c.in-Some.reply (subst (λ (o : Option Reply). IfSome o (λ reply. reply ≡ (step_line (tree_of (g.P.SectorView.space c.change_at.new.space).content) (Ok (command.Trunc c.args.path.now c.args.size))).0)) c.in-Some.is (c.in_ok-reply.ensures.reply (c.change_at.ensures.reads.looks.same.tells ∙ tells)))
-    (subst (λ (o : Option Reply). IfSome o (λ reply. tree_of (g.P.SectorView.space c.shorten.new.space).content ≡ (step_line (tree_of (g.P.SectorView.space c.change_at.new.space).content) (Ok (command.Trunc c.args.path.now c.args.size))).1)) c.in-Some.is (c.in_ok-reply.ensures.tree (c.change_at.ensures.reads.looks.same.tells ∙ tells)))
-    (λ ok. c.in_ok-reply.ensures.lists (c.change_at.ensures.reads.looks.same.tells ∙ tells) (c.in-Some.is ∙ ap Some ok)))
+    (sound_here c.change_at.new.self (g.P.SectorView.space c.change_at.new.space) (c.change_at.ensures.looked.stands.stands (c.change_at.ensures.looked.reads.looks.same.tells ∙ tells)) (c.change_at.ensures.serves.settled (c.change_at.ensures.looked.reads.looks.same.tells ∙ tells)))
+    (sound_here c.shorten.new.volume (g.P.SectorView.space c.shorten.new.space) (c.in_ok-reply.ensures.stands.stands ((c.shorten.ensures.touches (g.P.SectorView.space c.args.space.now).content).same.tells ∙ (c.change_at.ensures.looked.reads.looks.same.tells ∙ tells))) (c.in_ok-reply.ensures.settled (c.change_at.ensures.looked.reads.looks.same.tells ∙ tells)))
+    (subst (λ (k : Content). Affords (capacity_of c.args.volume.now) (command.Trunc c.args.path.now c.args.size) k) (sym (c.change_at.ensures.looked.reads.looks.content tells)) (c.requires.affords tells))
+    c.in-Some.reply (subst (λ (o : Option Reply). IfSome o (λ reply. reply ≡ (step_line (tree_of (g.P.SectorView.space c.change_at.new.space).content) (Ok (command.Trunc c.args.path.now c.args.size))).0)) c.in-Some.is (c.in_ok-reply.ensures.reply (c.change_at.ensures.looked.reads.looks.same.tells ∙ tells)))
+    (subst (λ (o : Option Reply). IfSome o (λ reply. tree_of (g.P.SectorView.space c.shorten.new.space).content ≡ (step_line (tree_of (g.P.SectorView.space c.change_at.new.space).content) (Ok (command.Trunc c.args.path.now c.args.size))).1)) c.in-Some.is (c.in_ok-reply.ensures.tree (c.change_at.ensures.looked.reads.looks.same.tells ∙ tells)))
+    (λ ok. c.in_ok-reply.ensures.lists (c.change_at.ensures.looked.reads.looks.same.tells ∙ tells) (c.in-Some.is ∙ ap Some ok)))
 
 pub returns-in-Some-clause-holds : goal.returns-in-Some-clause-holds
-returns-in-Some-clause-holds g c committed was = holds_kept committed c.change_at.new.self c.shorten.new.volume c.shorten.ensures.map (holds_kept committed c.args.volume.now c.change_at.new.self c.change_at.ensures.reads.keeps.map was)
+returns-in-Some-clause-holds g c committed was = holds_kept committed c.change_at.new.self c.shorten.new.volume c.shorten.ensures.map (holds_kept committed c.args.volume.now c.change_at.new.self c.change_at.ensures.looked.reads.keeps.map was)
 
 pub returns-in-Some-clause-shrunk : goal.returns-in-Some-clause-shrunk
 returns-in-Some-clause-shrunk g c tells =
-    subst (λ (k : Content × Option ℕ × Option Reply). c.shorten.new.volume.shrunk ≡ shrunk_then (tree_of k.0) c.args.path.now c.args.size k.2 k.1) {x = ((g.P.SectorView.space c.change_at.new.space).content, c.change_at.new.self.shrunk, c.in_ok-reply.field-0)} {y = ((g.P.SectorView.space c.args.space.now).content, c.args.volume.now.shrunk, Some c.in-Some.reply)} (λ i. (c.change_at.ensures.reads.looks.content tells i, c.change_at.ensures.reads.keeps.shrunk i, c.in-Some.is i)) (c.in_ok-reply.ensures.shrunk (c.change_at.ensures.reads.looks.same.tells ∙ tells))
+    subst (λ (k : Content × Option ℕ × Option Reply). c.shorten.new.volume.shrunk ≡ shrunk_then (tree_of k.0) c.args.path.now c.args.size k.2 k.1) {x = ((g.P.SectorView.space c.change_at.new.space).content, c.change_at.new.self.shrunk, c.in_ok-reply.field-0)} {y = ((g.P.SectorView.space c.args.space.now).content, c.args.volume.now.shrunk, Some c.in-Some.reply)} (λ i. (c.change_at.ensures.looked.reads.looks.content tells i, c.change_at.ensures.looked.reads.keeps.shrunk i, c.in-Some.is i)) (c.in_ok-reply.ensures.shrunk (c.change_at.ensures.looked.reads.looks.same.tells ∙ tells))
 
 pub returns-in-Some-clause-below : goal.returns-in-Some-clause-below
-returns-in-Some-clause-below g c = g.met.P.SectorView.follows_trans c.args.space.now c.change_at.new.space c.shorten.new.space c.change_at.ensures.below c.shorten.ensures.below
+returns-in-Some-clause-below g c = g.met.P.SectorView.follows_trans c.args.space.now c.change_at.new.space c.shorten.new.space c.change_at.ensures.looked.edits.ran.below c.shorten.ensures.below
 
 pub returns-in-Some-clause-touches : goal.returns-in-Some-clause-touches
 returns-in-Some-clause-touches g c committed holds laid =
-    touches_both committed _ (g.P.SectorView.space c.args.space.now) (g.P.SectorView.space c.change_at.new.space) (g.P.SectorView.space c.shorten.new.space) (touches_looks committed _ (g.P.SectorView.space c.args.space.now) (g.P.SectorView.space c.change_at.new.space) c.change_at.ensures.reads.looks)
-    (subst (λ (l : List ℕ). Touches committed (λ s. Contains l s) (g.P.SectorView.space c.change_at.new.space) (g.P.SectorView.space c.shorten.new.space)) (own_still c.args.volume.now c.change_at.new.self (g.P.SectorView.space c.args.space.now) (g.P.SectorView.space c.change_at.new.space) c.change_at.ensures.reads) (c.shorten.ensures.touches committed))
+    touches_both committed _ (g.P.SectorView.space c.args.space.now) (g.P.SectorView.space c.change_at.new.space) (g.P.SectorView.space c.shorten.new.space) (touches_looks committed _ (g.P.SectorView.space c.args.space.now) (g.P.SectorView.space c.change_at.new.space) c.change_at.ensures.looked.reads.looks)
+    (subst (λ (l : List ℕ). Touches committed (λ s. Contains l s) (g.P.SectorView.space c.change_at.new.space) (g.P.SectorView.space c.shorten.new.space)) (own_still c.args.volume.now c.change_at.new.self (g.P.SectorView.space c.args.space.now) (g.P.SectorView.space c.change_at.new.space) c.change_at.ensures.looked.reads) (c.shorten.ensures.touches committed))
 
 pub returns-in_err-reply-clause-touches : goal.returns-in_err-reply-clause-touches
 returns-in_err-reply-clause-touches g c committed holds laid =
-    touches_both committed _ (g.P.SectorView.space c.args.space.now) (g.P.SectorView.space c.change_at.new.space) (g.P.SectorView.space c.shorten.new.space) (touches_looks committed _ (g.P.SectorView.space c.args.space.now) (g.P.SectorView.space c.change_at.new.space) c.change_at.ensures.reads.looks)
-    (subst (λ (l : List ℕ). Touches committed (λ s. Contains l s) (g.P.SectorView.space c.change_at.new.space) (g.P.SectorView.space c.shorten.new.space)) (own_still c.args.volume.now c.change_at.new.self (g.P.SectorView.space c.args.space.now) (g.P.SectorView.space c.change_at.new.space) c.change_at.ensures.reads) (c.shorten.ensures.touches committed))
+    touches_both committed _ (g.P.SectorView.space c.args.space.now) (g.P.SectorView.space c.change_at.new.space) (g.P.SectorView.space c.shorten.new.space) (touches_looks committed _ (g.P.SectorView.space c.args.space.now) (g.P.SectorView.space c.change_at.new.space) c.change_at.ensures.looked.reads.looks)
+    (subst (λ (l : List ℕ). Touches committed (λ s. Contains l s) (g.P.SectorView.space c.change_at.new.space) (g.P.SectorView.space c.shorten.new.space)) (own_still c.args.volume.now c.change_at.new.self (g.P.SectorView.space c.args.space.now) (g.P.SectorView.space c.change_at.new.space) c.change_at.ensures.looked.reads) (c.shorten.ensures.touches committed))
 
 pub returns-in_err-changes-clause-touches : goal.returns-in_err-changes-clause-touches
-returns-in_err-changes-clause-touches g c committed holds laid = touches_looks committed _ (g.P.SectorView.space c.args.space.now) (g.P.SectorView.space c.change_at.new.space) c.change_at.ensures.reads.looks
+returns-in_err-changes-clause-touches g c committed holds laid = touches_looks committed _ (g.P.SectorView.space c.args.space.now) (g.P.SectorView.space c.change_at.new.space) c.change_at.ensures.looked.reads.looks
 
 pub returns-then-not-fits_update-clause-touches : goal.returns-then-not-fits_update-clause-touches
-returns-then-not-fits_update-clause-touches g c committed holds laid = touches_looks committed _ (g.P.SectorView.space c.args.space.now) (g.P.SectorView.space c.change_at.new.space) c.change_at.ensures.reads.looks
+returns-then-not-fits_update-clause-touches g c committed holds laid = touches_looks committed _ (g.P.SectorView.space c.args.space.now) (g.P.SectorView.space c.change_at.new.space) c.change_at.ensures.looked.reads.looks
 
 -- ---- where it would grow: up to there the volume was read
 
 pub lengthen-requires-clause-closed : goal.lengthen-requires-clause-closed
 lengthen-requires-clause-closed g c told at shut =
-    let reads = (volume_both c.args.volume.now c.change_at.new.self c.shorten.new.volume (g.P.SectorView.space c.args.space.now) (g.P.SectorView.space c.change_at.new.space) (g.P.SectorView.space c.shorten.new.space) c.change_at.ensures.reads (subst (λ (o : Option Reply). IfNone o (ReadsVolume c.change_at.new.self c.shorten.new.volume (g.P.SectorView.space c.change_at.new.space) (g.P.SectorView.space c.shorten.new.space))) c.in-None.is c.in_ok-reply.ensures.idle)) in
+    let reads = (volume_both c.args.volume.now c.change_at.new.self c.shorten.new.volume (g.P.SectorView.space c.args.space.now) (g.P.SectorView.space c.change_at.new.space) (g.P.SectorView.space c.shorten.new.space) c.change_at.ensures.looked.reads (subst (λ (o : Option Reply). IfNone o (ReadsVolume c.change_at.new.self c.shorten.new.volume (g.P.SectorView.space c.change_at.new.space) (g.P.SectorView.space c.shorten.new.space))) c.in-None.is c.in_ok-reply.ensures.idle)) in
     let tells = sym reads.looks.same.tells ∙ told in
     subst (λ (k : Content). IsJournalSector k at) (sym (reads.looks.content tells)) (c.requires.closed tells at ((reads.looks.closed tells at).0 shut))
 
 pub lengthen-requires-clause-affords : goal.lengthen-requires-clause-affords
 lengthen-requires-clause-affords g c told =
-    let reads = (volume_both c.args.volume.now c.change_at.new.self c.shorten.new.volume (g.P.SectorView.space c.args.space.now) (g.P.SectorView.space c.change_at.new.space) (g.P.SectorView.space c.shorten.new.space) c.change_at.ensures.reads (subst (λ (o : Option Reply). IfNone o (ReadsVolume c.change_at.new.self c.shorten.new.volume (g.P.SectorView.space c.change_at.new.space) (g.P.SectorView.space c.shorten.new.space))) c.in-None.is c.in_ok-reply.ensures.idle)) in
+    let reads = (volume_both c.args.volume.now c.change_at.new.self c.shorten.new.volume (g.P.SectorView.space c.args.space.now) (g.P.SectorView.space c.change_at.new.space) (g.P.SectorView.space c.shorten.new.space) c.change_at.ensures.looked.reads (subst (λ (o : Option Reply). IfNone o (ReadsVolume c.change_at.new.self c.shorten.new.volume (g.P.SectorView.space c.change_at.new.space) (g.P.SectorView.space c.shorten.new.space))) c.in-None.is c.in_ok-reply.ensures.idle)) in
     let tells = sym reads.looks.same.tells ∙ told in
     subst (λ (k : ℕ × Content). Affords k.0 (command.Trunc c.args.path.now c.args.size) k.1) {x = (capacity_of c.args.volume.now, (g.P.SectorView.space c.args.space.now).content)} {y = (capacity_of c.shorten.new.volume, (g.P.SectorView.space c.shorten.new.space).content)} (λ i. (sym reads.keeps.capacity i, sym (reads.looks.content tells) i)) (c.requires.affords tells)
 
 pub lengthen-requires-clause-settled : goal.lengthen-requires-clause-settled
 lengthen-requires-clause-settled g c told =
-    let reads = (volume_both c.args.volume.now c.change_at.new.self c.shorten.new.volume (g.P.SectorView.space c.args.space.now) (g.P.SectorView.space c.change_at.new.space) (g.P.SectorView.space c.shorten.new.space) c.change_at.ensures.reads (subst (λ (o : Option Reply). IfNone o (ReadsVolume c.change_at.new.self c.shorten.new.volume (g.P.SectorView.space c.change_at.new.space) (g.P.SectorView.space c.shorten.new.space))) c.in-None.is c.in_ok-reply.ensures.idle)) in
+    let reads = (volume_both c.args.volume.now c.change_at.new.self c.shorten.new.volume (g.P.SectorView.space c.args.space.now) (g.P.SectorView.space c.change_at.new.space) (g.P.SectorView.space c.shorten.new.space) c.change_at.ensures.looked.reads (subst (λ (o : Option Reply). IfNone o (ReadsVolume c.change_at.new.self c.shorten.new.volume (g.P.SectorView.space c.change_at.new.space) (g.P.SectorView.space c.shorten.new.space))) c.in-None.is c.in_ok-reply.ensures.idle)) in
     let tells = sym reads.looks.same.tells ∙ told in
     settled_still c.args.volume.now c.shorten.new.volume (g.P.SectorView.space c.args.space.now) (g.P.SectorView.space c.shorten.new.space) reads tells (c.requires.settled tells)
 
 pub returns-in-None-clause-answered : goal.returns-in-None-clause-answered
 returns-in-None-clause-answered g c tells =
-    let reads = (volume_both c.args.volume.now c.change_at.new.self c.shorten.new.volume (g.P.SectorView.space c.args.space.now) (g.P.SectorView.space c.change_at.new.space) (g.P.SectorView.space c.shorten.new.space) c.change_at.ensures.reads (subst (λ (o : Option Reply). IfNone o (ReadsVolume c.change_at.new.self c.shorten.new.volume (g.P.SectorView.space c.change_at.new.space) (g.P.SectorView.space c.shorten.new.space))) c.in-None.is c.in_ok-reply.ensures.idle)) in
+    let reads = (volume_both c.args.volume.now c.change_at.new.self c.shorten.new.volume (g.P.SectorView.space c.args.space.now) (g.P.SectorView.space c.change_at.new.space) (g.P.SectorView.space c.shorten.new.space) c.change_at.ensures.looked.reads (subst (λ (o : Option Reply). IfNone o (ReadsVolume c.change_at.new.self c.shorten.new.volume (g.P.SectorView.space c.change_at.new.space) (g.P.SectorView.space c.shorten.new.space))) c.in-None.is c.in_ok-reply.ensures.idle)) in
     subst (λ (k : ℕ × Content). IfOk c.lengthen.result (λ outcome. StepsTo outcome k.0 c.args.number (command.Trunc c.args.path.now c.args.size) k.1 (g.P.SectorView.space c.lengthen.new.space).content)) {x = (capacity_of c.shorten.new.volume, (g.P.SectorView.space c.shorten.new.space).content)} {y = (capacity_of c.args.volume.now, (g.P.SectorView.space c.args.space.now).content)} (λ i. (reads.keeps.capacity i, reads.looks.content tells i)) (c.lengthen.ensures.answered (reads.looks.same.tells ∙ tells))
 
 pub returns-in-None-clause-place : goal.returns-in-None-clause-place
 returns-in-None-clause-place g c tells =
-    let reads = (volume_both c.args.volume.now c.change_at.new.self c.shorten.new.volume (g.P.SectorView.space c.args.space.now) (g.P.SectorView.space c.change_at.new.space) (g.P.SectorView.space c.shorten.new.space) c.change_at.ensures.reads (subst (λ (o : Option Reply). IfNone o (ReadsVolume c.change_at.new.self c.shorten.new.volume (g.P.SectorView.space c.change_at.new.space) (g.P.SectorView.space c.shorten.new.space))) c.in-None.is c.in_ok-reply.ensures.idle)) in
+    let reads = (volume_both c.args.volume.now c.change_at.new.self c.shorten.new.volume (g.P.SectorView.space c.args.space.now) (g.P.SectorView.space c.change_at.new.space) (g.P.SectorView.space c.shorten.new.space) c.change_at.ensures.looked.reads (subst (λ (o : Option Reply). IfNone o (ReadsVolume c.change_at.new.self c.shorten.new.volume (g.P.SectorView.space c.change_at.new.space) (g.P.SectorView.space c.shorten.new.space))) c.in-None.is c.in_ok-reply.ensures.idle)) in
     subst (λ (k : Content). OnOk c.lengthen.result (KeepsJournal k (g.P.SectorView.space c.lengthen.new.space).content)) (reads.looks.content tells) (c.lengthen.ensures.place (reads.looks.same.tells ∙ tells))
 
 pub returns-in-None-clause-settled : goal.returns-in-None-clause-settled
 returns-in-None-clause-settled g c tells =
-    let reads = (volume_both c.args.volume.now c.change_at.new.self c.shorten.new.volume (g.P.SectorView.space c.args.space.now) (g.P.SectorView.space c.change_at.new.space) (g.P.SectorView.space c.shorten.new.space) c.change_at.ensures.reads (subst (λ (o : Option Reply). IfNone o (ReadsVolume c.change_at.new.self c.shorten.new.volume (g.P.SectorView.space c.change_at.new.space) (g.P.SectorView.space c.shorten.new.space))) c.in-None.is c.in_ok-reply.ensures.idle)) in
+    let reads = (volume_both c.args.volume.now c.change_at.new.self c.shorten.new.volume (g.P.SectorView.space c.args.space.now) (g.P.SectorView.space c.change_at.new.space) (g.P.SectorView.space c.shorten.new.space) c.change_at.ensures.looked.reads (subst (λ (o : Option Reply). IfNone o (ReadsVolume c.change_at.new.self c.shorten.new.volume (g.P.SectorView.space c.change_at.new.space) (g.P.SectorView.space c.shorten.new.space))) c.in-None.is c.in_ok-reply.ensures.idle)) in
     c.lengthen.ensures.settled (reads.looks.same.tells ∙ tells)
 
 pub returns-in-None-clause-holds : goal.returns-in-None-clause-holds
 returns-in-None-clause-holds g c committed was =
-    let reads = (volume_both c.args.volume.now c.change_at.new.self c.shorten.new.volume (g.P.SectorView.space c.args.space.now) (g.P.SectorView.space c.change_at.new.space) (g.P.SectorView.space c.shorten.new.space) c.change_at.ensures.reads (subst (λ (o : Option Reply). IfNone o (ReadsVolume c.change_at.new.self c.shorten.new.volume (g.P.SectorView.space c.change_at.new.space) (g.P.SectorView.space c.shorten.new.space))) c.in-None.is c.in_ok-reply.ensures.idle)) in
+    let reads = (volume_both c.args.volume.now c.change_at.new.self c.shorten.new.volume (g.P.SectorView.space c.args.space.now) (g.P.SectorView.space c.change_at.new.space) (g.P.SectorView.space c.shorten.new.space) c.change_at.ensures.looked.reads (subst (λ (o : Option Reply). IfNone o (ReadsVolume c.change_at.new.self c.shorten.new.volume (g.P.SectorView.space c.change_at.new.space) (g.P.SectorView.space c.shorten.new.space))) c.in-None.is c.in_ok-reply.ensures.idle)) in
     c.lengthen.ensures.holds committed (holds_kept committed c.args.volume.now c.shorten.new.volume reads.keeps.map was)
 
 pub returns-in-None-clause-shrunk : goal.returns-in-None-clause-shrunk
 returns-in-None-clause-shrunk g c tells =
-    let reads = (volume_both c.args.volume.now c.change_at.new.self c.shorten.new.volume (g.P.SectorView.space c.args.space.now) (g.P.SectorView.space c.change_at.new.space) (g.P.SectorView.space c.shorten.new.space) c.change_at.ensures.reads (subst (λ (o : Option Reply). IfNone o (ReadsVolume c.change_at.new.self c.shorten.new.volume (g.P.SectorView.space c.change_at.new.space) (g.P.SectorView.space c.shorten.new.space))) c.in-None.is c.in_ok-reply.ensures.idle)) in
-    let fresh = c.in_ok-reply.ensures.grows (c.change_at.ensures.reads.looks.same.tells ∙ tells) in
+    let reads = (volume_both c.args.volume.now c.change_at.new.self c.shorten.new.volume (g.P.SectorView.space c.args.space.now) (g.P.SectorView.space c.change_at.new.space) (g.P.SectorView.space c.shorten.new.space) c.change_at.ensures.looked.reads (subst (λ (o : Option Reply). IfNone o (ReadsVolume c.change_at.new.self c.shorten.new.volume (g.P.SectorView.space c.change_at.new.space) (g.P.SectorView.space c.shorten.new.space))) c.in-None.is c.in_ok-reply.ensures.idle)) in
+    let fresh = c.in_ok-reply.ensures.grows (c.change_at.ensures.looked.reads.looks.same.tells ∙ tells) in
     let puts = (subst (λ (o : Option Reply). IfNone o ((is_some (data_of (tree_of (g.P.SectorView.space c.change_at.new.space).content) (command.Trunc c.args.path.now c.args.size)) ≡ true) × ((g.P.SectorView.space c.shorten.new.space).content ≡ (g.P.SectorView.space c.change_at.new.space).content))) c.in-None.is fresh).0 in
     keeps_shrunk (command.Trunc c.args.path.now c.args.size) (g.P.SectorView.space c.args.space.now).content (shrunk_of c.args.volume.now) (shrunk_of c.lengthen.new.volume)
-    (grown_shrinks_none (tree_of (g.P.SectorView.space c.args.space.now).content) c.args.path.now c.args.size (ap (λ (k : Content). is_some (data_of (tree_of k) (command.Trunc c.args.path.now c.args.size))) (sym (c.change_at.ensures.reads.looks.content tells)) ∙ puts)) (c.lengthen.ensures.shrunk ∙ reads.keeps.shrunk) c.lengthen.result
+    (grown_shrinks_none (tree_of (g.P.SectorView.space c.args.space.now).content) c.args.path.now c.args.size (ap (λ (k : Content). is_some (data_of (tree_of k) (command.Trunc c.args.path.now c.args.size))) (sym (c.change_at.ensures.looked.reads.looks.content tells)) ∙ puts)) (c.lengthen.ensures.shrunk ∙ reads.keeps.shrunk) c.lengthen.result
 
 pub returns-in-None-clause-below : goal.returns-in-None-clause-below
 returns-in-None-clause-below g c =
     g.met.P.SectorView.follows_trans c.args.space.now c.shorten.new.space c.lengthen.new.space
-    (g.met.P.SectorView.follows_trans c.args.space.now c.change_at.new.space c.shorten.new.space c.change_at.ensures.below c.shorten.ensures.below) c.lengthen.ensures.below
+    (g.met.P.SectorView.follows_trans c.args.space.now c.change_at.new.space c.shorten.new.space c.change_at.ensures.looked.edits.ran.below c.shorten.ensures.below) c.lengthen.ensures.below
 
 pub returns-in-None-clause-capacity : goal.returns-in-None-clause-capacity
-returns-in-None-clause-capacity g c = c.lengthen.ensures.capacity ∙ c.shorten.ensures.capacity ∙ c.change_at.ensures.reads.keeps.capacity
+returns-in-None-clause-capacity g c = c.lengthen.ensures.capacity ∙ c.shorten.ensures.capacity ∙ c.change_at.ensures.looked.reads.keeps.capacity
 
 pub returns-in-None-clause-touches : goal.returns-in-None-clause-touches
 returns-in-None-clause-touches g c committed holds laid =
-    let reads = (volume_both c.args.volume.now c.change_at.new.self c.shorten.new.volume (g.P.SectorView.space c.args.space.now) (g.P.SectorView.space c.change_at.new.space) (g.P.SectorView.space c.shorten.new.space) c.change_at.ensures.reads (subst (λ (o : Option Reply). IfNone o (ReadsVolume c.change_at.new.self c.shorten.new.volume (g.P.SectorView.space c.change_at.new.space) (g.P.SectorView.space c.shorten.new.space))) c.in-None.is c.in_ok-reply.ensures.idle)) in
+    let reads = (volume_both c.args.volume.now c.change_at.new.self c.shorten.new.volume (g.P.SectorView.space c.args.space.now) (g.P.SectorView.space c.change_at.new.space) (g.P.SectorView.space c.shorten.new.space) c.change_at.ensures.looked.reads (subst (λ (o : Option Reply). IfNone o (ReadsVolume c.change_at.new.self c.shorten.new.volume (g.P.SectorView.space c.change_at.new.space) (g.P.SectorView.space c.shorten.new.space))) c.in-None.is c.in_ok-reply.ensures.idle)) in
     touches_both committed _ (g.P.SectorView.space c.args.space.now) (g.P.SectorView.space c.shorten.new.space) (g.P.SectorView.space c.lengthen.new.space) (touches_looks committed _ (g.P.SectorView.space c.args.space.now) (g.P.SectorView.space c.shorten.new.space) reads.looks)
     (subst (λ (l : List ℕ). Touches committed (λ s. Contains l s) (g.P.SectorView.space c.shorten.new.space) (g.P.SectorView.space c.lengthen.new.space)) (own_still c.args.volume.now c.shorten.new.volume (g.P.SectorView.space c.args.space.now) (g.P.SectorView.space c.shorten.new.space) reads)
     (c.lengthen.ensures.touches committed (holds_kept committed c.args.volume.now c.shorten.new.volume reads.keeps.map holds) (laid_still committed c.args.volume.now c.shorten.new.volume reads.keeps.header reads.keeps.map laid)))
 
 pub returns-in-None-clause-same : goal.returns-in-None-clause-same
 returns-in-None-clause-same g c =
-    let reads = (volume_both c.args.volume.now c.change_at.new.self c.shorten.new.volume (g.P.SectorView.space c.args.space.now) (g.P.SectorView.space c.change_at.new.space) (g.P.SectorView.space c.shorten.new.space) c.change_at.ensures.reads (subst (λ (o : Option Reply). IfNone o (ReadsVolume c.change_at.new.self c.shorten.new.volume (g.P.SectorView.space c.change_at.new.space) (g.P.SectorView.space c.shorten.new.space))) c.in-None.is c.in_ok-reply.ensures.idle)) in
+    let reads = (volume_both c.args.volume.now c.change_at.new.self c.shorten.new.volume (g.P.SectorView.space c.args.space.now) (g.P.SectorView.space c.change_at.new.space) (g.P.SectorView.space c.shorten.new.space) c.change_at.ensures.looked.reads (subst (λ (o : Option Reply). IfNone o (ReadsVolume c.change_at.new.self c.shorten.new.volume (g.P.SectorView.space c.change_at.new.space) (g.P.SectorView.space c.shorten.new.space))) c.in-None.is c.in_ok-reply.ensures.idle)) in
     space_both _ _ _ reads.looks.same c.lengthen.ensures.same
 
 pub returns-in-Some-clause-same : goal.returns-in-Some-clause-same
-returns-in-Some-clause-same g c = space_both _ _ _ c.change_at.ensures.reads.looks.same (c.shorten.ensures.touches []).same
+returns-in-Some-clause-same g c = space_both _ _ _ c.change_at.ensures.looked.reads.looks.same (c.shorten.ensures.touches []).same
 
 pub returns-in_err-reply-clause-same : goal.returns-in_err-reply-clause-same
-returns-in_err-reply-clause-same g c = space_both _ _ _ c.change_at.ensures.reads.looks.same (c.shorten.ensures.touches []).same
+returns-in_err-reply-clause-same g c = space_both _ _ _ c.change_at.ensures.looked.reads.looks.same (c.shorten.ensures.touches []).same
 
 pub returns-then-not-fits_update-clause-ready : goal.returns-then-not-fits_update-clause-ready
 returns-then-not-fits_update-clause-ready g c tells no_data met =
-    absurd (true≢false (sym (c.fits_update.ensures.met (update_fits (command.Trunc c.args.path.now c.args.size) c.args.volume.now c.change_at.new.self (g.P.SectorView.space c.args.space.now) (g.P.SectorView.space c.change_at.new.space) c.change_at.ensures.reads tells (c.change_at.ensures.settled tells) refl met)) ∙ c.if-not-fits_update.true))
+    absurd (true≢false (sym (c.fits_update.ensures.met (update_fits (command.Trunc c.args.path.now c.args.size) c.args.volume.now c.change_at.new.self (g.P.SectorView.space c.args.space.now) (g.P.SectorView.space c.change_at.new.space) c.change_at.ensures.looked.reads tells (c.change_at.ensures.serves.settled (c.change_at.ensures.looked.reads.looks.same.tells ∙ tells)) refl met)) ∙ c.if-not-fits_update.true))
 
 pub returns-in-None-clause-ready : goal.returns-in-None-clause-ready
 returns-in-None-clause-ready g c tells no_data met =
-    absurd (longer_none (g.P.SectorView.space c.args.space.now).content (g.P.SectorView.space c.change_at.new.space).content c.args.path.now c.args.size (c.change_at.ensures.reads.looks.content tells) no_data
-    (subst (λ (o : Option Reply). IfNone o ((is_some (data_of (tree_of (g.P.SectorView.space c.change_at.new.space).content) (command.Trunc c.args.path.now c.args.size)) ≡ true) × ((g.P.SectorView.space c.shorten.new.space).content ≡ (g.P.SectorView.space c.change_at.new.space).content))) c.in-None.is (c.in_ok-reply.ensures.grows (c.change_at.ensures.reads.looks.same.tells ∙ tells))).0)
+    absurd (longer_none (g.P.SectorView.space c.args.space.now).content (g.P.SectorView.space c.change_at.new.space).content c.args.path.now c.args.size (c.change_at.ensures.looked.reads.looks.content tells) no_data
+    (subst (λ (o : Option Reply). IfNone o ((is_some (data_of (tree_of (g.P.SectorView.space c.change_at.new.space).content) (command.Trunc c.args.path.now c.args.size)) ≡ true) × ((g.P.SectorView.space c.shorten.new.space).content ≡ (g.P.SectorView.space c.change_at.new.space).content))) c.in-None.is (c.in_ok-reply.ensures.grows (c.change_at.ensures.looked.reads.looks.same.tells ∙ tells))).0)
 
 pub returns-then-not-fits_update-clause-puts : goal.returns-then-not-fits_update-clause-puts
 returns-then-not-fits_update-clause-puts g c tells met =
-    absurd (true≢false (sym (c.fits_update.ensures.met (data_update_fits (command.Trunc c.args.path.now c.args.size) c.args.volume.now c.change_at.new.self (g.P.SectorView.space c.args.space.now) (g.P.SectorView.space c.change_at.new.space) c.change_at.ensures.reads tells (c.change_at.ensures.settled tells) met)) ∙ c.if-not-fits_update.true))
+    absurd (true≢false (sym (c.fits_update.ensures.met (data_update_fits (command.Trunc c.args.path.now c.args.size) c.args.volume.now c.change_at.new.self (g.P.SectorView.space c.args.space.now) (g.P.SectorView.space c.change_at.new.space) c.change_at.ensures.looked.reads tells (c.change_at.ensures.serves.settled (c.change_at.ensures.looked.reads.looks.same.tells ∙ tells)) met)) ∙ c.if-not-fits_update.true))
 
 pub returns-in-None-clause-puts : goal.returns-in-None-clause-puts
 returns-in-None-clause-puts g c tells met =
-    let reads = (volume_both c.args.volume.now c.change_at.new.self c.shorten.new.volume (g.P.SectorView.space c.args.space.now) (g.P.SectorView.space c.change_at.new.space) (g.P.SectorView.space c.shorten.new.space) c.change_at.ensures.reads (subst (λ (o : Option Reply). IfNone o (ReadsVolume c.change_at.new.self c.shorten.new.volume (g.P.SectorView.space c.change_at.new.space) (g.P.SectorView.space c.shorten.new.space))) c.in-None.is c.in_ok-reply.ensures.idle)) in
+    let reads = (volume_both c.args.volume.now c.change_at.new.self c.shorten.new.volume (g.P.SectorView.space c.args.space.now) (g.P.SectorView.space c.change_at.new.space) (g.P.SectorView.space c.shorten.new.space) c.change_at.ensures.looked.reads (subst (λ (o : Option Reply). IfNone o (ReadsVolume c.change_at.new.self c.shorten.new.volume (g.P.SectorView.space c.change_at.new.space) (g.P.SectorView.space c.shorten.new.space))) c.in-None.is c.in_ok-reply.ensures.idle)) in
     c.lengthen.ensures.puts (reads.looks.same.tells ∙ tells) (data_still (command.Trunc c.args.path.now c.args.size) c.args.volume.now c.shorten.new.volume (g.P.SectorView.space c.args.space.now) (g.P.SectorView.space c.shorten.new.space) reads tells met)
 
 pub returns-in-Some-clause-loads : goal.returns-in-Some-clause-loads
-returns-in-Some-clause-loads g c tells = within_behind (command.Trunc c.args.path.now c.args.size) c.args.volume.now c.change_at.new.self (g.P.SectorView.space c.args.space.now) (g.P.SectorView.space c.change_at.new.space) (g.P.SectorView.space c.shorten.new.space) c.change_at.ensures.reads tells (trunc_within c.change_at.new.self (g.P.SectorView.space c.change_at.new.space) (g.P.SectorView.space c.shorten.new.space) c.args.path.now c.args.size (c.change_at.ensures.settled tells) (c.shorten.ensures.spent (c.change_at.ensures.reads.looks.same.tells ∙ tells)))
+returns-in-Some-clause-loads g c tells = within_behind (command.Trunc c.args.path.now c.args.size) c.args.volume.now c.change_at.new.self (g.P.SectorView.space c.args.space.now) (g.P.SectorView.space c.change_at.new.space) (g.P.SectorView.space c.shorten.new.space) c.change_at.ensures.looked.reads tells (trunc_within c.change_at.new.self (g.P.SectorView.space c.change_at.new.space) (g.P.SectorView.space c.shorten.new.space) c.args.path.now c.args.size (c.change_at.ensures.serves.settled (c.change_at.ensures.looked.reads.looks.same.tells ∙ tells)) (c.shorten.ensures.spent (c.change_at.ensures.looked.reads.looks.same.tells ∙ tells)))
 
 pub returns-in_err-reply-clause-loads : goal.returns-in_err-reply-clause-loads
-returns-in_err-reply-clause-loads g c tells = within_behind (command.Trunc c.args.path.now c.args.size) c.args.volume.now c.change_at.new.self (g.P.SectorView.space c.args.space.now) (g.P.SectorView.space c.change_at.new.space) (g.P.SectorView.space c.shorten.new.space) c.change_at.ensures.reads tells (trunc_within c.change_at.new.self (g.P.SectorView.space c.change_at.new.space) (g.P.SectorView.space c.shorten.new.space) c.args.path.now c.args.size (c.change_at.ensures.settled tells) (c.shorten.ensures.spent (c.change_at.ensures.reads.looks.same.tells ∙ tells)))
+returns-in_err-reply-clause-loads g c tells = within_behind (command.Trunc c.args.path.now c.args.size) c.args.volume.now c.change_at.new.self (g.P.SectorView.space c.args.space.now) (g.P.SectorView.space c.change_at.new.space) (g.P.SectorView.space c.shorten.new.space) c.change_at.ensures.looked.reads tells (trunc_within c.change_at.new.self (g.P.SectorView.space c.change_at.new.space) (g.P.SectorView.space c.shorten.new.space) c.args.path.now c.args.size (c.change_at.ensures.serves.settled (c.change_at.ensures.looked.reads.looks.same.tells ∙ tells)) (c.shorten.ensures.spent (c.change_at.ensures.looked.reads.looks.same.tells ∙ tells)))
 
 pub returns-in_err-changes-clause-loads : goal.returns-in_err-changes-clause-loads
-returns-in_err-changes-clause-loads g c tells = within_reads (command.Trunc c.args.path.now c.args.size) c.args.volume.now c.change_at.new.self (g.P.SectorView.space c.args.space.now) (g.P.SectorView.space c.change_at.new.space) c.change_at.ensures.reads
+returns-in_err-changes-clause-loads g c tells = within_reads (command.Trunc c.args.path.now c.args.size) c.args.volume.now c.change_at.new.self (g.P.SectorView.space c.args.space.now) (g.P.SectorView.space c.change_at.new.space) c.change_at.ensures.looked.reads
 
 pub returns-then-not-fits_update-clause-loads : goal.returns-then-not-fits_update-clause-loads
-returns-then-not-fits_update-clause-loads g c tells = within_reads (command.Trunc c.args.path.now c.args.size) c.args.volume.now c.change_at.new.self (g.P.SectorView.space c.args.space.now) (g.P.SectorView.space c.change_at.new.space) c.change_at.ensures.reads
+returns-then-not-fits_update-clause-loads g c tells = within_reads (command.Trunc c.args.path.now c.args.size) c.args.volume.now c.change_at.new.self (g.P.SectorView.space c.args.space.now) (g.P.SectorView.space c.change_at.new.space) c.change_at.ensures.looked.reads
 
 pub returns-in-None-clause-loads : goal.returns-in-None-clause-loads
 returns-in-None-clause-loads g c tells =
-    let reads = volume_both c.args.volume.now c.change_at.new.self c.shorten.new.volume (g.P.SectorView.space c.args.space.now) (g.P.SectorView.space c.change_at.new.space) (g.P.SectorView.space c.shorten.new.space) c.change_at.ensures.reads (subst (λ (o : Option Reply). IfNone o (ReadsVolume c.change_at.new.self c.shorten.new.volume (g.P.SectorView.space c.change_at.new.space) (g.P.SectorView.space c.shorten.new.space))) c.in-None.is c.in_ok-reply.ensures.idle) in
+    let reads = volume_both c.args.volume.now c.change_at.new.self c.shorten.new.volume (g.P.SectorView.space c.args.space.now) (g.P.SectorView.space c.change_at.new.space) (g.P.SectorView.space c.shorten.new.space) c.change_at.ensures.looked.reads (subst (λ (o : Option Reply). IfNone o (ReadsVolume c.change_at.new.self c.shorten.new.volume (g.P.SectorView.space c.change_at.new.space) (g.P.SectorView.space c.shorten.new.space))) c.in-None.is c.in_ok-reply.ensures.idle) in
     within_behind (command.Trunc c.args.path.now c.args.size) c.args.volume.now c.shorten.new.volume (g.P.SectorView.space c.args.space.now) (g.P.SectorView.space c.shorten.new.space) (g.P.SectorView.space c.lengthen.new.space) reads tells (c.lengthen.ensures.loads (reads.looks.same.tells ∙ tells))

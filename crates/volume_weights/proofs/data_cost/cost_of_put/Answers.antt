@@ -29,11 +29,11 @@ pub returns : goal.returns
 returns g c = record {
   exact = λ tells.
       c.cost.ensures ∙ (λ i. cost_of (c.needs_put.ensures.same i) (c.room-room.ensures i))
-      ∙ cost_kept c.args.volume.now (g.P.SectorView.space c.args._space.now) (c.requires.stands.stands tells) (c.requires.settled tells) c.trees_grow_by_enough.ensures c.requires.stands.service.most c.args.free
+      ∙ cost_kept c.args.volume.now (g.P.SectorView.space c.args._space.now) (c.requires.serves.stands.stands tells) (c.requires.serves.settled tells) c.trees_grow_by_enough.ensures c.requires.serves.stands.service.most c.args.free
       (needs_put (free_in c.args.free c.args.volume.now.map) c.args.volume.now.header.block_size c.args.extents (data_as c.args.put)) (λ some. absurd (omega (arith, some)));
 }
 
 pub returns-then-not-is_measured : goal.returns-then-not-is_measured
 returns-then-not-is_measured g c = record {
-  exact = λ tells. absurd (true≢false (sym (is_measured_told c.args.volume.now (g.P.SectorView.space c.args._space.now) (c.requires.stands.stands tells) (c.requires.settled tells) c.args.free) ∙ sym (ap is_measured c.room-room.ensures) ∙ sym c.is_measured.ensures ∙ c.if-not-is_measured.true));
+  exact = λ tells. absurd (true≢false (sym (is_measured_told c.args.volume.now (g.P.SectorView.space c.args._space.now) (c.requires.serves.stands.stands tells) (c.requires.serves.settled tells) c.args.free) ∙ sym (ap is_measured c.room-room.ensures) ∙ sym c.is_measured.ensures ∙ c.if-not-is_measured.true));
 }

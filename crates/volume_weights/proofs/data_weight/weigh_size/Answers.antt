@@ -1,9 +1,6 @@
-use Rattle.std.proofs.Common.{◌≡◌, ◌≤◌, ℕ, true, false, List, length, refl, sym, ◌∙◌, ap, subst, arith}
-use Rattle.std.proofs.lemmas.Bool.{eqb-true}
-use Rattle.std.specs.Prelude.{◌==◌, is_some, IfSome, Option, Result, Some, Ok, Err}
+use Rattle.std.proofs.Common.{◌≡◌, true, false, refl, sym, ◌∙◌}
+use Rattle.std.specs.Prelude.{is_some, IfSome, Option, Some, Ok}
 use Rattle.hfs_language.specs.declared.command.Command.TheVariants as command
-use Rattle.hfs_language.specs.declared.refusal.Refusal.{Refusal}
-use Rattle.hfs_model.specs.Step.{refuses}
 use Rattle.hfs_volume.specs.Content.{volume_of}
 use Rattle.hfs_volume.specs.TreeOf.{tree_of}
 use Rattle.hfs_volume.specs.Weight.{needs_cut}
@@ -20,12 +17,13 @@ use Rattle.volume_base.proofs.Rising.{settled_is_plain}
 use Rattle.volume_base.proofs.Seeing.{if_so}
 use Rattle.volume_base.proofs.ToldFile.{short_data, told_node, trunc_told, trunc_line}
 use Rattle.volume_weights.proofs.CutsAhead.{never_waits, put_told, refused_waits}
+use Rattle.volume_base.proofs.Looked.{looked_none}
 use Rattle.volume_weights.proofs.data_weight.weigh_size.Goals as goal
 
 pub returns-in-Some-clause-answer : goal.returns-in-Some-clause-answer
 returns-in-Some-clause-answer g c tells =
     told_refused c.args.volume.now.capacity (free_in blocks.Takable c.args.volume.now.map) (volume_of (g.P.SectorView.space c.args.space.now).content) (tree_of (g.P.SectorView.space c.args.space.now).content) (command.Trunc c.args._path.now c.args.size) c.in-Some.why
-    (sym c.in-Some.is ∙ c.against_trunc.ensures ∙ trunc_refusal (tree_of (g.P.SectorView.space c.args.space.now).content) (settled_is_plain c.sound_has_plain_tree.ensures c.args.volume.now (g.P.SectorView.space c.args.space.now).content (c.requires.stands.stands tells).trees (c.requires.settled tells)) c.args._path.now c.args.size (Ok c.args.told.now) (c.requires.told tells))
+    (sym c.in-Some.is ∙ c.against_trunc.ensures ∙ trunc_refusal (tree_of (g.P.SectorView.space c.args.space.now).content) (settled_is_plain c.sound_has_plain_tree.ensures c.args.volume.now (g.P.SectorView.space c.args.space.now).content (c.requires.serves.stands.stands tells).trees (c.requires.serves.settled tells)) c.args._path.now c.args.size (Ok c.args.told.now) (c.requires.told tells))
 
 pub returns-clause-answer : goal.returns-clause-answer
 returns-clause-answer g c tells =
@@ -60,7 +58,7 @@ returns-then-told-size-clause-waits g c tells =
     if_so (λ (said : Option Weight). is_some said ≡ false → needs_cut (volume_of (g.P.SectorView.space c.args.space.now).content) (Some (data_as (record { id = c.args.told.now.id; old_size = c.args.told.now.size; from = c.args.told.now.size; end = c.args.size }))) ≡ true)
     (λ (said : Option Weight). is_some said ≡ false → WaitsForCut (g.P.SectorView.space c.args.space.now).content (command.Trunc c.args._path.now c.args.size)) c.weigh_put.result
     (λ said is none. (
-      not_refused (tree_of (g.P.SectorView.space c.args.space.now).content) (command.Trunc c.args._path.now c.args.size) (sym c.in_default.is ∙ c.against_trunc.ensures ∙ trunc_refusal (tree_of (g.P.SectorView.space c.args.space.now).content) (settled_is_plain c.sound_has_plain_tree.ensures c.args.volume.now (g.P.SectorView.space c.args.space.now).content (c.requires.stands.stands tells).trees (c.requires.settled tells)) c.args._path.now c.args.size (Ok c.args.told.now) (c.requires.told tells)),
+      not_refused (tree_of (g.P.SectorView.space c.args.space.now).content) (command.Trunc c.args._path.now c.args.size) (sym c.in_default.is ∙ c.against_trunc.ensures ∙ trunc_refusal (tree_of (g.P.SectorView.space c.args.space.now).content) (settled_is_plain c.sound_has_plain_tree.ensures c.args.volume.now (g.P.SectorView.space c.args.space.now).content (c.requires.serves.stands.stands tells).trees (c.requires.serves.settled tells)) c.args._path.now c.args.size (Ok c.args.told.now) (c.requires.told tells)),
       trunc_more (volume_of (g.P.SectorView.space c.args.space.now).content) (tree_of (g.P.SectorView.space c.args.space.now).content) c.args._path.now c.args.size (data_as (record { id = c.args.told.now.id; old_size = c.args.told.now.size; from = c.args.told.now.size; end = c.args.size })) (trunc_put (tree_of (g.P.SectorView.space c.args.space.now).content) c.args._path.now c.args.told.now it.node about.0 (record { id = c.args.told.now.id; old_size = c.args.told.now.size; from = c.args.told.now.size; end = c.args.size }) refl refl c.args.size c.if-told-size.true refl refl) (is none),
     ))
     (c.weigh_put.ensures.waits tells)
@@ -69,7 +67,7 @@ returns-then-told-size-clause-waits g c tells =
 
 pub returns-in-Some-clause-cuts : goal.returns-in-Some-clause-cuts
 returns-in-Some-clause-cuts g c tells waits =
-    absurd (refused_waits (g.P.SectorView.space c.args.space.now).content (command.Trunc c.args._path.now c.args.size) c.in-Some.why (sym c.in-Some.is ∙ c.against_trunc.ensures ∙ trunc_refusal (tree_of (g.P.SectorView.space c.args.space.now).content) (settled_is_plain c.sound_has_plain_tree.ensures c.args.volume.now (g.P.SectorView.space c.args.space.now).content (c.requires.stands.stands tells).trees (c.requires.settled tells)) c.args._path.now c.args.size (Ok c.args.told.now) (c.requires.told tells)) waits)
+    absurd (refused_waits (g.P.SectorView.space c.args.space.now).content (command.Trunc c.args._path.now c.args.size) c.in-Some.why (sym c.in-Some.is ∙ c.against_trunc.ensures ∙ trunc_refusal (tree_of (g.P.SectorView.space c.args.space.now).content) (settled_is_plain c.sound_has_plain_tree.ensures c.args.volume.now (g.P.SectorView.space c.args.space.now).content (c.requires.serves.stands.stands tells).trees (c.requires.serves.settled tells)) c.args._path.now c.args.size (Ok c.args.told.now) (c.requires.told tells)) waits)
 
 pub returns-then-told-size-clause-cuts : goal.returns-then-told-size-clause-cuts
 returns-then-told-size-clause-cuts g c tells waits =
@@ -84,3 +82,9 @@ returns-clause-cuts g c tells waits =
     let it = told_node (tree_of (g.P.SectorView.space c.args.space.now).content) c.args._path.now c.args.told.now (c.requires.told tells) in
     let about = trunc_told (tree_of (g.P.SectorView.space c.args.space.now).content) c.args._path.now c.args.told.now it c.args.size (sym c.in_default.is ∙ c.against_trunc.ensures) in
     absurd (never_waits (g.P.SectorView.space c.args.space.now).content (command.Trunc c.args._path.now c.args.size) (command.Trunc c.args._path.now c.args.size) refl (short_data (tree_of (g.P.SectorView.space c.args.space.now).content) c.args._path.now c.args.told.now it.node about.0 c.args.size c.if-told-size.false) waits)
+
+pub returns-in-Some-clause-looked : goal.returns-in-Some-clause-looked
+returns-in-Some-clause-looked g c = looked_none g.met.P.SectorView.follows_refl c.requires.serves.stands
+
+pub returns-clause-looked : goal.returns-clause-looked
+returns-clause-looked g c = looked_none g.met.P.SectorView.follows_refl c.requires.serves.stands

@@ -9,26 +9,22 @@ use Rattle.volume_base.specs.Nodes.{node_in}
 use Rattle.volume_base.specs.declared.nodes.Node.{Node}
 use Rattle.volume_base.proofs.Seeing.{if_so}
 use Rattle.volume_base.proofs.Listed.{fits_short}
-use Rattle.volume_base.proofs.Still.{catalog_over, catalog_read, stands_still, settled_still}
+use Rattle.volume_base.proofs.Still.{catalog_over}
+use Rattle.volume_base.proofs.Framed.{serves_still}
+use Rattle.volume_base.proofs.Looked.{catalog_looked}
 use Rattle.volume_weights.proofs.lose_weight.node.Goals as goal
 
 pub find_node-requires-clause-over : goal.find_node-requires-clause-over
-find_node-requires-clause-over g c = catalog_over c.args.volume.now (g.P.SectorView.space c.args.space.now) c.requires.stands c.requires.settled
+find_node-requires-clause-over g c = catalog_over c.args.volume.now (g.P.SectorView.space c.args.space.now) c.requires.serves.stands c.requires.serves.settled
 
 pub find_node-requires-clause-names : goal.find_node-requires-clause-names
 find_node-requires-clause-names g c = subst (λ (p : List (List ℕ)). All (λ (name : List ℕ). length name ≤ 255) p) (sym c.as_slice.ensures) (fits_short c.args.path.now c.requires.fits)
 
-pub returns-clause-reads : goal.returns-clause-reads
-returns-clause-reads g c =
-    catalog_read c.args.volume.now c.find_node.new.tree c.find_node.new.desk (g.P.SectorView.space c.args.space.now) (g.P.SectorView.space c.find_node.new.space) c.find_node.ensures.reads c.find_node.ensures.over
+pub returns-clause-looked : goal.returns-clause-looked
+returns-clause-looked g c = catalog_looked c.find_node.ensures.below c.find_node.ensures.cause c.requires.serves.stands c.find_node.ensures.reads c.find_node.ensures.over
 
-pub returns-clause-stands : goal.returns-clause-stands
-returns-clause-stands g c =
-    stands_still c.args.volume.now _ (g.P.SectorView.space c.args.space.now) (g.P.SectorView.space c.find_node.new.space) (returns-clause-reads g c) c.requires.stands
-
-pub returns-clause-settled : goal.returns-clause-settled
-returns-clause-settled g c tells =
-    settled_still c.args.volume.now _ (g.P.SectorView.space c.args.space.now) (g.P.SectorView.space c.find_node.new.space) (returns-clause-reads g c) tells (c.requires.settled tells)
+pub returns-clause-serves : goal.returns-clause-serves
+returns-clause-serves g c = serves_still (returns-clause-looked g c) c.requires.serves
 
 pub returns-clause-found : goal.returns-clause-found
 returns-clause-found g c tells =

@@ -1,4 +1,4 @@
-use Rattle.std.proofs.Common.{◌≡◌, ℕ, List, sym, ◌∙◌, ap, subst}
+use Rattle.std.proofs.Common.{◌≡◌, ℕ, List, sym, ◌∙◌, subst}
 use Rattle.hfs_language.specs.Written.{FitsPath}
 use Rattle.hfs_language.specs.declared.refusal.Refusal.TheVariants as refusal
 use Rattle.hfs_model.specs.Step.{is_below}
@@ -27,17 +27,14 @@ route-requires-clause-under_fits g c = fits_above c.args.under.now c.args.name.n
 pub route-requires-clause-name : goal.route-requires-clause-name
 route-requires-clause-name g c = (fits_name c.args.under.now c.args.name.now (subst FitsPath c.requires.goal_split c.requires.to_fits)).short
 
-pub weigh_edits-requires-clause-settled : goal.weigh_edits-requires-clause-settled
-weigh_edits-requires-clause-settled g c tells = c.route.ensures.settled (sym c.route.ensures.reads.looks.same.tells ∙ tells)
-
 pub returns-else-is_below-clause-answer : goal.returns-else-is_below-clause-answer
 returns-else-is_below-clause-answer g c tells =
-    (c.weigh_edits.ensures.exact (c.route.ensures.reads.looks.same.tells ∙ tells)
-    ∙ (λ i. edits_weighed (c.route.ensures.reads.keeps.capacity i) (free_in blocks.Takable (c.route.ensures.reads.keeps.map i)) (volume_of (c.route.ensures.reads.looks.content tells i)) (record { ids = 0; catalog = 3; attributes = 0; updates = 3 })))
-    ∙ move_allowed c.args.volume.now.capacity (free_in blocks.Takable c.args.volume.now.map) (volume_of (g.P.SectorView.space c.args.space.now).content) (tree_of (g.P.SectorView.space c.args.space.now).content) c.args.from.now c.args.to.now c.requires.not_own c.requires.goal_not_own ((way_told c.sound_has_plain_tree.ensures c.args.volume.now (g.P.SectorView.space c.args.space.now).content (c.requires.stands.stands tells).trees (c.requires.settled tells) c.args.from.now c.args.to.now c.args.above.now c.args.under.now c.args.old.now c.args.name.now c.requires.split c.requires.goal_split c.requires.not_own c.requires.goal_not_own c.requires.from_fits c.requires.to_fits c.in_ok-_way.field-0 (subst (λ (p : List (List ℕ)). c.in_ok-_way.field-0 ≡ route_in (lists_of c.args.volume.now (g.P.SectorView.space c.args.space.now).content).catalog_pairs c.args.volume.now.private p c.args.above.now c.args.under.now c.args.name.now) c.as_slice.ensures (c.in_ok-_way.ensures.found tells)) c.in-Ok._way c.in-Ok.is).at, free_place c.in-Ok._way.folder c.args.name.now) (may_go c.sound_has_plain_tree.ensures c.args.volume.now (g.P.SectorView.space c.args.space.now).content (c.requires.stands.stands tells).trees (c.requires.settled tells) c.args.from.now c.args.to.now c.args.above.now c.args.under.now c.args.old.now c.args.name.now c.requires.split c.requires.goal_split c.requires.not_own c.requires.goal_not_own c.requires.from_fits c.requires.to_fits c.in_ok-_way.field-0 (subst (λ (p : List (List ℕ)). c.in_ok-_way.field-0 ≡ route_in (lists_of c.args.volume.now (g.P.SectorView.space c.args.space.now).content).catalog_pairs c.args.volume.now.private p c.args.above.now c.args.under.now c.args.name.now) c.as_slice.ensures (c.in_ok-_way.ensures.found tells)) c.in-Ok._way c.in-Ok.is ((λ i. is_below (sym c.as_slice-in-Ok.ensures i) (sym c.as_slice-in-Ok-2.ensures i)) ∙ sym c.is_below.ensures ∙ c.if-is_below.false)).allowed
+    (c.weigh_edits.ensures.exact (c.route.ensures.looked.reads.looks.same.tells ∙ tells)
+    ∙ (λ i. edits_weighed (c.route.ensures.looked.reads.keeps.capacity i) (free_in blocks.Takable (c.route.ensures.looked.reads.keeps.map i)) (volume_of (c.route.ensures.looked.reads.looks.content tells i)) (record { ids = 0; catalog = 3; attributes = 0; updates = 3 })))
+    ∙ move_allowed c.args.volume.now.capacity (free_in blocks.Takable c.args.volume.now.map) (volume_of (g.P.SectorView.space c.args.space.now).content) (tree_of (g.P.SectorView.space c.args.space.now).content) c.args.from.now c.args.to.now c.requires.not_own c.requires.goal_not_own ((way_told c.sound_has_plain_tree.ensures c.args.volume.now (g.P.SectorView.space c.args.space.now).content (c.requires.serves.stands.stands tells).trees (c.requires.serves.settled tells) c.args.from.now c.args.to.now c.args.above.now c.args.under.now c.args.old.now c.args.name.now c.requires.split c.requires.goal_split c.requires.not_own c.requires.goal_not_own c.requires.from_fits c.requires.to_fits c.in_ok-_way.field-0 (subst (λ (p : List (List ℕ)). c.in_ok-_way.field-0 ≡ route_in (lists_of c.args.volume.now (g.P.SectorView.space c.args.space.now).content).catalog_pairs c.args.volume.now.private p c.args.above.now c.args.under.now c.args.name.now) c.as_slice.ensures (c.in_ok-_way.ensures.found tells)) c.in-Ok._way c.in-Ok.is).at, free_place c.in-Ok._way.folder c.args.name.now) (may_go c.sound_has_plain_tree.ensures c.args.volume.now (g.P.SectorView.space c.args.space.now).content (c.requires.serves.stands.stands tells).trees (c.requires.serves.settled tells) c.args.from.now c.args.to.now c.args.above.now c.args.under.now c.args.old.now c.args.name.now c.requires.split c.requires.goal_split c.requires.not_own c.requires.goal_not_own c.requires.from_fits c.requires.to_fits c.in_ok-_way.field-0 (subst (λ (p : List (List ℕ)). c.in_ok-_way.field-0 ≡ route_in (lists_of c.args.volume.now (g.P.SectorView.space c.args.space.now).content).catalog_pairs c.args.volume.now.private p c.args.above.now c.args.under.now c.args.name.now) c.as_slice.ensures (c.in_ok-_way.ensures.found tells)) c.in-Ok._way c.in-Ok.is ((λ i. is_below (sym c.as_slice-in-Ok.ensures i) (sym c.as_slice-in-Ok-2.ensures i)) ∙ sym c.is_below.ensures ∙ c.if-is_below.false)).allowed
 
 pub returns-in-Err-clause-answer : goal.returns-in-Err-clause-answer
-returns-in-Err-clause-answer g c tells = move_refused c.args.volume.now.capacity (free_in blocks.Takable c.args.volume.now.map) (volume_of (g.P.SectorView.space c.args.space.now).content) (tree_of (g.P.SectorView.space c.args.space.now).content) c.args.from.now c.args.to.now c.requires.not_own c.requires.goal_not_own c.in-Err.why (way_refused c.sound_has_plain_tree.ensures c.args.volume.now (g.P.SectorView.space c.args.space.now).content (c.requires.stands.stands tells).trees (c.requires.settled tells) c.args.from.now c.args.to.now c.args.above.now c.args.under.now c.args.old.now c.args.name.now c.requires.split c.requires.goal_split c.requires.not_own c.requires.goal_not_own c.requires.from_fits c.requires.to_fits c.in_ok-_way.field-0 (subst (λ (p : List (List ℕ)). c.in_ok-_way.field-0 ≡ route_in (lists_of c.args.volume.now (g.P.SectorView.space c.args.space.now).content).catalog_pairs c.args.volume.now.private p c.args.above.now c.args.under.now c.args.name.now) c.as_slice.ensures (c.in_ok-_way.ensures.found tells)) c.in-Err.why c.in-Err.is)
+returns-in-Err-clause-answer g c tells = move_refused c.args.volume.now.capacity (free_in blocks.Takable c.args.volume.now.map) (volume_of (g.P.SectorView.space c.args.space.now).content) (tree_of (g.P.SectorView.space c.args.space.now).content) c.args.from.now c.args.to.now c.requires.not_own c.requires.goal_not_own c.in-Err.why (way_refused c.sound_has_plain_tree.ensures c.args.volume.now (g.P.SectorView.space c.args.space.now).content (c.requires.serves.stands.stands tells).trees (c.requires.serves.settled tells) c.args.from.now c.args.to.now c.args.above.now c.args.under.now c.args.old.now c.args.name.now c.requires.split c.requires.goal_split c.requires.not_own c.requires.goal_not_own c.requires.from_fits c.requires.to_fits c.in_ok-_way.field-0 (subst (λ (p : List (List ℕ)). c.in_ok-_way.field-0 ≡ route_in (lists_of c.args.volume.now (g.P.SectorView.space c.args.space.now).content).catalog_pairs c.args.volume.now.private p c.args.above.now c.args.under.now c.args.name.now) c.as_slice.ensures (c.in_ok-_way.ensures.found tells)) c.in-Err.why c.in-Err.is)
 
 pub returns-then-is_below-clause-answer : goal.returns-then-is_below-clause-answer
-returns-then-is_below-clause-answer g c tells = move_refused c.args.volume.now.capacity (free_in blocks.Takable c.args.volume.now.map) (volume_of (g.P.SectorView.space c.args.space.now).content) (tree_of (g.P.SectorView.space c.args.space.now).content) c.args.from.now c.args.to.now c.requires.not_own c.requires.goal_not_own refusal.Inside (goes_inside c.sound_has_plain_tree.ensures c.args.volume.now (g.P.SectorView.space c.args.space.now).content (c.requires.stands.stands tells).trees (c.requires.settled tells) c.args.from.now c.args.to.now c.args.above.now c.args.under.now c.args.old.now c.args.name.now c.requires.split c.requires.goal_split c.requires.not_own c.requires.goal_not_own c.requires.from_fits c.requires.to_fits c.in_ok-_way.field-0 (subst (λ (p : List (List ℕ)). c.in_ok-_way.field-0 ≡ route_in (lists_of c.args.volume.now (g.P.SectorView.space c.args.space.now).content).catalog_pairs c.args.volume.now.private p c.args.above.now c.args.under.now c.args.name.now) c.as_slice.ensures (c.in_ok-_way.ensures.found tells)) c.in-Ok._way c.in-Ok.is ((λ i. is_below (sym c.as_slice-in-Ok.ensures i) (sym c.as_slice-in-Ok-2.ensures i)) ∙ sym c.is_below.ensures ∙ c.if-is_below.true))
+returns-then-is_below-clause-answer g c tells = move_refused c.args.volume.now.capacity (free_in blocks.Takable c.args.volume.now.map) (volume_of (g.P.SectorView.space c.args.space.now).content) (tree_of (g.P.SectorView.space c.args.space.now).content) c.args.from.now c.args.to.now c.requires.not_own c.requires.goal_not_own refusal.Inside (goes_inside c.sound_has_plain_tree.ensures c.args.volume.now (g.P.SectorView.space c.args.space.now).content (c.requires.serves.stands.stands tells).trees (c.requires.serves.settled tells) c.args.from.now c.args.to.now c.args.above.now c.args.under.now c.args.old.now c.args.name.now c.requires.split c.requires.goal_split c.requires.not_own c.requires.goal_not_own c.requires.from_fits c.requires.to_fits c.in_ok-_way.field-0 (subst (λ (p : List (List ℕ)). c.in_ok-_way.field-0 ≡ route_in (lists_of c.args.volume.now (g.P.SectorView.space c.args.space.now).content).catalog_pairs c.args.volume.now.private p c.args.above.now c.args.under.now c.args.name.now) c.as_slice.ensures (c.in_ok-_way.ensures.found tells)) c.in-Ok._way c.in-Ok.is ((λ i. is_below (sym c.as_slice-in-Ok.ensures i) (sym c.as_slice-in-Ok-2.ensures i)) ∙ sym c.is_below.ensures ∙ c.if-is_below.true))

@@ -10,6 +10,7 @@ use Rattle.volume_base.specs.Weighing.{weighed}
 use Rattle.volume_base.specs.declared.room.FreeBlocks.TheVariants as blocks
 use Rattle.volume_base.specs.declared.weighing.Weight.{Weight}
 use Rattle.volume_base.proofs.RemoveWeight.{removal_private, removal_root}
+use Rattle.volume_base.proofs.Looked.{looked_none}
 use Rattle.volume_weights.proofs.remove_weight.weigh_rmdir.Goals as goal
 
 pub weigh_rmdir_under-requires-clause-fits : goal.weigh_rmdir_under-requires-clause-fits
@@ -31,3 +32,9 @@ returns-in-None-clause-answer g c tells =
 pub returns-then-is_private_path-clause-answer : goal.returns-then-is_private_path-clause-answer
 returns-then-is_private_path-clause-answer g c tells =
     removal_private c.args.volume.now.capacity (free_in blocks.Takable c.args.volume.now.map) (volume_of (g.P.SectorView.space c.args.space.now).content) (tree_of (g.P.SectorView.space c.args.space.now).content) c.args.path.now (sym c.is_private_path.ensures ∙ c.if-is_private_path.true)
+
+pub returns-in-None-clause-looked : goal.returns-in-None-clause-looked
+returns-in-None-clause-looked g c = looked_none g.met.P.SectorView.follows_refl c.requires.serves.stands
+
+pub returns-then-is_private_path-clause-looked : goal.returns-then-is_private_path-clause-looked
+returns-then-is_private_path-clause-looked g c = looked_none g.met.P.SectorView.follows_refl c.requires.serves.stands

@@ -1,4 +1,4 @@
-use Rattle.std.proofs.Common.{◌≡◌, ℕ, sym, ◌∙◌, ap, subst}
+use Rattle.std.proofs.Common.{◌≡◌, ◌∙◌, subst}
 use Rattle.std.specs.Prelude.{IfOk}
 use Rattle.attributes.specs.Owned.{count_of}
 use Rattle.hfs_volume.specs.Content.{volume_of}
@@ -13,7 +13,7 @@ use Rattle.volume_base.proofs.BareLoads.{owner_count}
 use Rattle.volume_base.proofs.LeavingFound.{is_leaving, leaving_refused, leaving_told}
 use Rattle.volume_base.proofs.RemoveWeight.{removal_allowed, removal_refused}
 use Rattle.volume_base.proofs.Sited.{fits_above, fits_name}
-use Rattle.volume_base.proofs.Still.{volume_both}
+use Rattle.volume_base.proofs.Framed.{looked_both}
 use Rattle.volume_weights.proofs.remove_weight.weigh_rmdir_under.Goals as goal
 
 pub leaving-requires-clause-fits : goal.leaving-requires-clause-fits
@@ -22,28 +22,22 @@ leaving-requires-clause-fits g c = fits_above c.args.above.now c.args.name.now c
 pub leaving-requires-clause-name : goal.leaving-requires-clause-name
 leaving-requires-clause-name g c = (fits_name c.args.above.now c.args.name.now c.requires.fits).short
 
-pub weigh_removal-requires-clause-settled : goal.weigh_removal-requires-clause-settled
-weigh_removal-requires-clause-settled g c tells = c.leaving.ensures.settled (sym c.leaving.ensures.reads.looks.same.tells ∙ tells)
-
 pub returns-in-Ok-clause-answer : goal.returns-in-Ok-clause-answer
 returns-in-Ok-clause-answer g c tells =
-    let told = leaving_told c.sound_has_plain_tree.ensures c.args.volume.now (g.P.SectorView.space c.args.space.now).content (c.requires.stands.stands tells).trees (c.requires.settled tells) c.args.above.now c.args.name.now c.requires.not_own c.requires.fits c.in_ok-at.field-0 (c.in_ok-at.ensures.found tells) c.in-Ok.at c.in-Ok.is in
-    let leaves = is_leaving c.sound_has_plain_tree.ensures c.args.volume.now (g.P.SectorView.space c.args.space.now).content (c.requires.stands.stands tells).trees (c.requires.settled tells) c.args.above.now c.args.name.now c.requires.not_own c.requires.fits c.in_ok-at.field-0 (c.in_ok-at.ensures.found tells) c.in-Ok.at c.in-Ok.is in
+    let told = leaving_told c.sound_has_plain_tree.ensures c.args.volume.now (g.P.SectorView.space c.args.space.now).content (c.requires.serves.stands.stands tells).trees (c.requires.serves.settled tells) c.args.above.now c.args.name.now c.requires.not_own c.requires.fits c.in_ok-at.field-0 (c.in_ok-at.ensures.found tells) c.in-Ok.at c.in-Ok.is in
+    let leaves = is_leaving c.sound_has_plain_tree.ensures c.args.volume.now (g.P.SectorView.space c.args.space.now).content (c.requires.serves.stands.stands tells).trees (c.requires.serves.settled tells) c.args.above.now c.args.name.now c.requires.not_own c.requires.fits c.in_ok-at.field-0 (c.in_ok-at.ensures.found tells) c.in-Ok.at c.in-Ok.is in
     subst (λ (w : Weight). IfOk c.weigh_removal.result (λ (weighs : Weight). weighs ≡ w))
-    ((λ i. edits_weighed (c.leaving.ensures.reads.keeps.capacity i) (free_in blocks.Takable (c.leaving.ensures.reads.keeps.map i)) (volume_of (c.leaving.ensures.reads.looks.content tells i))
-    (record { ids = 0; catalog = 2; attributes = count_of c.in-Ok.at.id (volume_of (c.leaving.ensures.reads.looks.content tells i)).attribute_pairs; updates = 1 }))
+    ((λ i. edits_weighed (c.leaving.ensures.looked.reads.keeps.capacity i) (free_in blocks.Takable (c.leaving.ensures.looked.reads.keeps.map i)) (volume_of (c.leaving.ensures.looked.reads.looks.content tells i))
+    (record { ids = 0; catalog = 2; attributes = count_of c.in-Ok.at.id (volume_of (c.leaving.ensures.looked.reads.looks.content tells i)).attribute_pairs; updates = 1 }))
     ∙ removal_allowed c.args.volume.now.capacity (free_in blocks.Takable c.args.volume.now.map) (volume_of (g.P.SectorView.space c.args.space.now).content) (tree_of (g.P.SectorView.space c.args.space.now).content) (path_to c.args.above.now c.args.name.now) c.requires.not_own (folder_at c.in-Ok.at c.args.name.now) told
     (count_of c.in-Ok.at.id (volume_of (g.P.SectorView.space c.args.space.now).content).attribute_pairs)
-    (owner_count c.sound_has_plain_tree.ensures c.args.volume.now (g.P.SectorView.space c.args.space.now) (c.requires.stands.stands tells) (c.requires.settled tells) c.in-Ok.at c.args.name.now leaves))
-    (c.weigh_removal.ensures.exact (c.leaving.ensures.reads.looks.same.tells ∙ tells))
+    (owner_count c.sound_has_plain_tree.ensures c.args.volume.now (g.P.SectorView.space c.args.space.now) (c.requires.serves.stands.stands tells) (c.requires.serves.settled tells) c.in-Ok.at c.args.name.now leaves))
+    (c.weigh_removal.ensures.exact (c.leaving.ensures.looked.reads.looks.same.tells ∙ tells))
 
-pub returns-in-Ok-clause-reads : goal.returns-in-Ok-clause-reads
-returns-in-Ok-clause-reads g c = volume_both c.args.volume.now c.leaving.new.self c.weigh_removal.new.volume (g.P.SectorView.space c.args.space.now) (g.P.SectorView.space c.leaving.new.space) (g.P.SectorView.space c.weigh_removal.new.space) c.leaving.ensures.reads c.weigh_removal.ensures.reads
-
-pub returns-in-Ok-clause-settled : goal.returns-in-Ok-clause-settled
-returns-in-Ok-clause-settled g c tells = c.weigh_removal.ensures.settled (c.leaving.ensures.reads.looks.same.tells ∙ tells)
+pub returns-in-Ok-clause-looked : goal.returns-in-Ok-clause-looked
+returns-in-Ok-clause-looked g c = looked_both g.met.P.SectorView.follows_trans c.leaving.ensures.looked c.weigh_removal.ensures.looked
 
 pub returns-in-Err-clause-answer : goal.returns-in-Err-clause-answer
 returns-in-Err-clause-answer g c tells =
     removal_refused c.args.volume.now.capacity (free_in blocks.Takable c.args.volume.now.map) (volume_of (g.P.SectorView.space c.args.space.now).content) (tree_of (g.P.SectorView.space c.args.space.now).content) (path_to c.args.above.now c.args.name.now) c.requires.not_own c.in-Err.why
-    (leaving_refused c.sound_has_plain_tree.ensures c.args.volume.now (g.P.SectorView.space c.args.space.now).content (c.requires.stands.stands tells).trees (c.requires.settled tells) c.args.above.now c.args.name.now c.requires.not_own c.requires.fits c.in_ok-at.field-0 (c.in_ok-at.ensures.found tells) c.in-Err.why c.in-Err.is)
+    (leaving_refused c.sound_has_plain_tree.ensures c.args.volume.now (g.P.SectorView.space c.args.space.now).content (c.requires.serves.stands.stands tells).trees (c.requires.serves.settled tells) c.args.above.now c.args.name.now c.requires.not_own c.requires.fits c.in_ok-at.field-0 (c.in_ok-at.ensures.found tells) c.in-Err.why c.in-Err.is)

@@ -9,8 +9,8 @@ use Rattle.volume_weights.proofs.weighing.weigh_edits.Goals as goal
 pub returns : goal.returns
 returns g c = record {
   exact = λ tells.
-      let settled = c.requires.settled tells in
+      let settled = c.requires.serves.settled tells in
       c.joined.ensures ∙ (λ i. joined
-      ((c.cost_of_edits-all.ensures.exact tells ∙ (λ k. cost_of (needs_asked c.args.edits) (room_with c.args.volume.now.capacity (free_content c.args.volume.now (g.P.SectorView.space c.args.space.now).content (c.requires.settled tells) k) (volume_of (g.P.SectorView.space c.args.space.now).content)))) i)
+      ((c.cost_of_edits-all.ensures.exact tells ∙ (λ k. cost_of (needs_asked c.args.edits) (room_with c.args.volume.now.capacity (free_content c.args.volume.now (g.P.SectorView.space c.args.space.now).content (c.requires.serves.settled tells) k) (volume_of (g.P.SectorView.space c.args.space.now).content)))) i)
       (c.cost_of_edits-takable.ensures.exact tells i));
 }

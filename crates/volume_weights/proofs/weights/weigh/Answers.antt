@@ -1,5 +1,5 @@
 use Rattle.std.proofs.Common.{◌≡◌, ℕ, false, List, refl, sym, ◌∙◌, ap, subst}
-use Rattle.std.specs.Prelude.{is_some, IfOk, IfSome, Option, Ok}
+use Rattle.std.specs.Prelude.{is_some, IfOk, IfSome, Option}
 use Rattle.hfs_language.specs.declared.command.Command.{Command}
 use Rattle.hfs_language.specs.declared.command.Command.TheVariants as command
 use Rattle.hfs_volume.specs.Content.{volume_of}
@@ -11,6 +11,7 @@ use Rattle.volume_base.specs.declared.room.FreeBlocks.TheVariants as blocks
 use Rattle.volume_base.specs.declared.weighing.Weight.{Weight}
 use Rattle.volume_base.proofs.Seeing.{if_so}
 use Rattle.volume_weights.proofs.CutsAhead.{never_waits}
+use Rattle.volume_base.proofs.Looked.{looked_none}
 use Rattle.volume_weights.proofs.weights.weigh.Goals as goal
 
 pub returns-in_ok-weigh_chmod-in-Chmod-clause-answer : goal.returns-in_ok-weigh_chmod-in-Chmod-clause-answer
@@ -80,3 +81,6 @@ returns-in_ok-weigh_rm-in-Rm-clause-cuts g c tells waits = absurd (never_waits (
 
 pub returns-in_ok-weigh_ln-in-Ln-clause-cuts : goal.returns-in_ok-weigh_ln-in-Ln-clause-cuts
 returns-in_ok-weigh_ln-in-Ln-clause-cuts g c tells waits = absurd (never_waits (g.P.SectorView.space c.args.space.now).content c.args.command.now (command.Ln c.in-Ln.from c.in-Ln.to) c.in-Ln.is refl waits)
+
+pub returns-in-At-clause-looked : goal.returns-in-At-clause-looked
+returns-in-At-clause-looked g c = looked_none g.met.P.SectorView.follows_refl c.requires.serves.stands

@@ -1,7 +1,6 @@
-use Rattle.std.proofs.Common.{◌≡◌, ℕ, List, [], ◌∷◌, refl, sym, ◌∙◌, ap, subst}
+use Rattle.std.proofs.Common.{◌≡◌, ℕ, List, [], ◌∷◌, sym, ◌∙◌, subst}
 use Rattle.hfs_language.specs.Written.{FitsPath}
 use Rattle.hfs_language.specs.declared.reply.ChangeKind.TheVariants as change
-use Rattle.hfs_volume.specs.TreeOf.{tree_of}
 use Rattle.volume_base.specs.Lists.{lists_of}
 use Rattle.volume_base.specs.Moving.{route_in}
 use Rattle.volume_base.specs.Watching.{change_of}
@@ -23,6 +22,6 @@ route-requires-clause-name g c = (fits_name c.args.under.now c.args.name.now (su
 
 pub returns-in_ok-one_change-in-Ok-clause-told : goal.returns-in_ok-one_change-in-Ok-clause-told
 returns-in_ok-one_change-in-Ok-clause-told g c tells not_own goal_not_own pair is =
-    let told = link_pair c.sound_has_plain_tree.ensures c.args.self.now (g.P.SectorView.space c.args.space.now).content (c.requires.stands.stands tells).trees (c.requires.settled tells) c.args.from.now c.args.to.now c.args.above.now c.args.under.now c.args.old.now c.args.name.now c.requires.split c.requires.goal_split not_own goal_not_own c.requires.from_fits c.requires.to_fits c.in_ok-way.field-0
+    let told = link_pair c.sound_has_plain_tree.ensures c.args.self.now (g.P.SectorView.space c.args.space.now).content (c.requires.serves.stands.stands tells).trees (c.requires.serves.settled tells) c.args.from.now c.args.to.now c.args.above.now c.args.under.now c.args.old.now c.args.name.now c.requires.split c.requires.goal_split not_own goal_not_own c.requires.from_fits c.requires.to_fits c.in_ok-way.field-0
     (subst (λ (p : List (List ℕ)). c.in_ok-way.field-0 ≡ route_in (lists_of c.args.self.now (g.P.SectorView.space c.args.space.now).content).catalog_pairs c.args.self.now.private p c.args.above.now c.args.under.now c.args.name.now) c.as_slice.ensures (c.in_ok-way.ensures.found tells)) c.in-Ok.way c.in-Ok.is pair is in
     c.in_ok-one_change-in-Ok.ensures ∙ (λ i. change_of c.args.line change.Linked (sym told.0 i) (sym told.1 i).folder (sym told.1 i).name ∷ [])

@@ -1,5 +1,4 @@
-use Rattle.std.proofs.Common.{◌≡◌, ℕ, List, [], ◌∷◌, refl, sym, ◌∙◌, ap, subst}
-use Rattle.std.specs.Prelude.{Result, Ok, Err}
+use Rattle.std.proofs.Common.{◌≡◌, ℕ, List, [], ◌∷◌, sym, ◌∙◌, ap, subst}
 use Rattle.hfs_language.specs.Written.{FitsPath}
 use Rattle.volume_base.specs.Lists.{lists_of}
 use Rattle.volume_base.specs.Watching.{change_of, standing_in}
@@ -15,11 +14,11 @@ standing-requires-clause-above_fits g c = fits_above c.args.above.now c.args.nam
 
 pub returns-in_ok-one_change-in-Ok-clause-told : goal.returns-in_ok-one_change-in-Ok-clause-told
 returns-in_ok-one_change-in-Ok-clause-told g c tells not_own entry is =
-    let told = standing_told c.sound_has_plain_tree.ensures c.args.self.now (g.P.SectorView.space c.args.space.now).content (c.requires.stands.stands tells).trees (c.requires.settled tells) c.args.path.now c.args.above.now c.args.name.now c.requires.split not_own c.requires.fits c.in_ok-at.field-0 (c.in_ok-at.ensures.found tells ∙ ap (λ (p : List (List ℕ)). standing_in (lists_of c.args.self.now (g.P.SectorView.space c.args.space.now).content).catalog_pairs c.args.self.now.private p c.args.above.now) c.as_slice.ensures) entry is in
+    let told = standing_told c.sound_has_plain_tree.ensures c.args.self.now (g.P.SectorView.space c.args.space.now).content (c.requires.serves.stands.stands tells).trees (c.requires.serves.settled tells) c.args.path.now c.args.above.now c.args.name.now c.requires.split not_own c.requires.fits c.in_ok-at.field-0 (c.in_ok-at.ensures.found tells ∙ ap (λ (p : List (List ℕ)). standing_in (lists_of c.args.self.now (g.P.SectorView.space c.args.space.now).content).catalog_pairs c.args.self.now.private p c.args.above.now) c.as_slice.ensures) entry is in
     let same : c.in-Ok.at ≡ place_of entry = ap (standing_value c.in-Ok.at) (sym c.in-Ok.is ∙ told.0) in
     c.in_ok-one_change-in-Ok.ensures ∙ (λ i. change_of c.args.line c.args.kind (same i).id (same i).parent (sym told.1 i) ∷ [])
 
 pub returns-in-Err-clause-told : goal.returns-in-Err-clause-told
 returns-in-Err-clause-told g c tells not_own entry is =
-    let told = standing_told c.sound_has_plain_tree.ensures c.args.self.now (g.P.SectorView.space c.args.space.now).content (c.requires.stands.stands tells).trees (c.requires.settled tells) c.args.path.now c.args.above.now c.args.name.now c.requires.split not_own c.requires.fits c.in_ok-at.field-0 (c.in_ok-at.ensures.found tells ∙ ap (λ (p : List (List ℕ)). standing_in (lists_of c.args.self.now (g.P.SectorView.space c.args.space.now).content).catalog_pairs c.args.self.now.private p c.args.above.now) c.as_slice.ensures) entry is in
+    let told = standing_told c.sound_has_plain_tree.ensures c.args.self.now (g.P.SectorView.space c.args.space.now).content (c.requires.serves.stands.stands tells).trees (c.requires.serves.settled tells) c.args.path.now c.args.above.now c.args.name.now c.requires.split not_own c.requires.fits c.in_ok-at.field-0 (c.in_ok-at.ensures.found tells ∙ ap (λ (p : List (List ℕ)). standing_in (lists_of c.args.self.now (g.P.SectorView.space c.args.space.now).content).catalog_pairs c.args.self.now.private p c.args.above.now) c.as_slice.ensures) entry is in
     absurd (not_err c.in-Err._why (place_of entry) c.in_ok-at.field-0 c.in-Err.is told.0)

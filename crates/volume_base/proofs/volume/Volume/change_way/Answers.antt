@@ -1,4 +1,4 @@
-use Rattle.std.proofs.Common.{◌≡◌, ℕ, List, [], ◌∷◌, refl, sym, ◌∙◌, ap, subst}
+use Rattle.std.proofs.Common.{◌≡◌, ℕ, List, [], ◌∷◌, sym, ◌∙◌, subst}
 use Rattle.hfs_language.specs.Written.{FitsPath}
 use Rattle.hfs_language.specs.declared.reply.ChangeKind.TheVariants as change
 use Rattle.hfs_model.specs.Step.{to_mv}
@@ -25,12 +25,12 @@ route-requires-clause-name g c = (fits_name c.args.under.now c.args.name.now (su
 
 pub returns-in_ok-one_change-in-Ok-clause-told : goal.returns-in_ok-one_change-in-Ok-clause-told
 returns-in_ok-one_change-in-Ok-clause-told g c tells not_own goal_not_own pair is =
-    let told = pair_told c.sound_has_plain_tree.ensures c.args.self.now (g.P.SectorView.space c.args.space.now).content (c.requires.stands.stands tells).trees (c.requires.settled tells) c.args.from.now c.args.to.now c.args.above.now c.args.under.now c.args.old.now c.args.name.now c.requires.split c.requires.goal_split not_own goal_not_own c.requires.from_fits c.requires.to_fits c.in_ok-way.field-0
+    let told = pair_told c.sound_has_plain_tree.ensures c.args.self.now (g.P.SectorView.space c.args.space.now).content (c.requires.serves.stands.stands tells).trees (c.requires.serves.settled tells) c.args.from.now c.args.to.now c.args.above.now c.args.under.now c.args.old.now c.args.name.now c.requires.split c.requires.goal_split not_own goal_not_own c.requires.from_fits c.requires.to_fits c.in_ok-way.field-0
     (subst (λ (p : List (List ℕ)). c.in_ok-way.field-0 ≡ route_in (lists_of c.args.self.now (g.P.SectorView.space c.args.space.now).content).catalog_pairs c.args.self.now.private p c.args.above.now c.args.under.now c.args.name.now) c.as_slice.ensures (c.in_ok-way.ensures.found tells)) c.in-Ok.way c.in-Ok.is pair is in
     c.in_ok-one_change-in-Ok.ensures ∙ (λ i. change_of c.args.line change.Moved (sym told.0 i) (sym told.1 i).folder (sym told.1 i).name ∷ [])
 
 pub returns-in-Err-clause-told : goal.returns-in-Err-clause-told
 returns-in-Err-clause-told g c tells not_own goal_not_own pair is =
     absurd (not_told (to_mv (tree_of (g.P.SectorView.space c.args.space.now).content) c.args.from.now c.args.to.now) c.in-Err._why pair
-    (way_refused c.sound_has_plain_tree.ensures c.args.self.now (g.P.SectorView.space c.args.space.now).content (c.requires.stands.stands tells).trees (c.requires.settled tells) c.args.from.now c.args.to.now c.args.above.now c.args.under.now c.args.old.now c.args.name.now c.requires.split c.requires.goal_split not_own goal_not_own c.requires.from_fits c.requires.to_fits c.in_ok-way.field-0
+    (way_refused c.sound_has_plain_tree.ensures c.args.self.now (g.P.SectorView.space c.args.space.now).content (c.requires.serves.stands.stands tells).trees (c.requires.serves.settled tells) c.args.from.now c.args.to.now c.args.above.now c.args.under.now c.args.old.now c.args.name.now c.requires.split c.requires.goal_split not_own goal_not_own c.requires.from_fits c.requires.to_fits c.in_ok-way.field-0
     (subst (λ (p : List (List ℕ)). c.in_ok-way.field-0 ≡ route_in (lists_of c.args.self.now (g.P.SectorView.space c.args.space.now).content).catalog_pairs c.args.self.now.private p c.args.above.now c.args.under.now c.args.name.now) c.as_slice.ensures (c.in_ok-way.ensures.found tells)) c.in-Err._why c.in-Err.is) is)

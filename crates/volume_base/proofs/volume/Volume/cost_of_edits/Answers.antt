@@ -32,24 +32,24 @@ pub returns : goal.returns
 returns g c = record {
   exact = λ tells.
       c.cost.ensures ∙ (λ i. cost_of (c.needs_of.ensures.same i) (c.room-room.ensures i))
-      ∙ cost_kept c.args.self.now (g.P.SectorView.space c.args._space.now) (c.requires.stands.stands tells) (c.requires.settled tells) c.trees_grow_by_enough.ensures c.requires.stands.service.most c.args.free (needs_asked c.args.edits) (c.requires.tree tells);
+      ∙ cost_kept c.args.self.now (g.P.SectorView.space c.args._space.now) (c.requires.serves.stands.stands tells) (c.requires.serves.settled tells) c.trees_grow_by_enough.ensures c.requires.serves.stands.service.most c.args.free (needs_asked c.args.edits) (c.requires.tree tells);
 }
 
 pub returns-then-not-is_measured : goal.returns-then-not-is_measured
 returns-then-not-is_measured g c = record {
-  exact = λ tells. absurd (true≢false (sym (is_measured_told c.args.self.now (g.P.SectorView.space c.args._space.now) (c.requires.stands.stands tells) (c.requires.settled tells) c.args.free) ∙ sym (ap is_measured c.room-room.ensures) ∙ sym c.is_measured.ensures ∙ c.if-not-is_measured.true));
+  exact = λ tells. absurd (true≢false (sym (is_measured_told c.args.self.now (g.P.SectorView.space c.args._space.now) (c.requires.serves.stands.stands tells) (c.requires.serves.settled tells) c.args.free) ∙ sym (ap is_measured c.room-room.ensures) ∙ sym c.is_measured.ensures ∙ c.if-not-is_measured.true));
 }
 
 pub returns-then-is_narrow : goal.returns-then-is_narrow
 returns-then-is_narrow g c = record {
   exact = λ tells.
       let low : (tree_at c.room-room.result 1).node_size < 4096 = c.is_narrow.ensures.narrow c.if-is_narrow.true in
-      absurd (omega (arith, low, ap (λ (r : Room). (tree_at r 1).node_size) c.room-room.ensures, catalog_wide c.args.self.now (g.P.SectorView.space c.args._space.now) (c.requires.stands.stands tells) (c.requires.settled tells) c.args.free));
+      absurd (omega (arith, low, ap (λ (r : Room). (tree_at r 1).node_size) c.room-room.ensures, catalog_wide c.args.self.now (g.P.SectorView.space c.args._space.now) (c.requires.serves.stands.stands tells) (c.requires.serves.settled tells) c.args.free));
 }
 
 pub returns-then-is_narrow-2 : goal.returns-then-is_narrow-2
 returns-then-is_narrow-2 g c = record {
   exact = λ tells.
       let low : (tree_at c.room-room.result 2).node_size < 4096 = c.is_narrow-2.ensures.narrow c.if-is_narrow-2.true in
-      absurd (omega (arith, low, ap (λ (r : Room). (tree_at r 2).node_size) c.room-room.ensures, attributes_wide c.args.self.now (g.P.SectorView.space c.args._space.now) (c.requires.stands.stands tells) (c.requires.settled tells) c.args.free (c.requires.tree tells (c.is_narrow-2.ensures.asked c.if-is_narrow-2.true))));
+      absurd (omega (arith, low, ap (λ (r : Room). (tree_at r 2).node_size) c.room-room.ensures, attributes_wide c.args.self.now (g.P.SectorView.space c.args._space.now) (c.requires.serves.stands.stands tells) (c.requires.serves.settled tells) c.args.free (c.requires.tree tells (c.is_narrow-2.ensures.asked c.if-is_narrow-2.true))));
 }

@@ -1,7 +1,8 @@
 use Rattle.std.proofs.Common.{subst}
 use Rattle.attributes.specs.Values.{AreInline}
 use Rattle.hfs_volume.specs.Changes.{DropsAttribute}
-use Rattle.volume_base.proofs.AttributesEdited.{attributes_open, pairs_where, serves_edited, stands_again, attributes_changed, touches_attributes}
+use Rattle.volume_base.proofs.AttributesEdited.{attributes_open, pairs_where, attributes_changed}
+use Rattle.volume_base.proofs.TreeEdited.{attributes_edits}
 use Rattle.volume_base.proofs.volume.Volume.delete.Goals as goal
 
 pub delete_value-requires-clause-desk : goal.delete_value-requires-clause-desk
@@ -19,16 +20,10 @@ delete_value-requires-clause-holds g c tells = (c.requires.stands.stands tells).
 pub delete_value-requires-clause-inline : goal.delete_value-requires-clause-inline
 delete_value-requires-clause-inline g c tells = subst AreInline (pairs_where c.args.self.now (g.P.SectorView.space c.args.space.now).content c.requires.has) (c.requires.inline tells)
 
-pub returns-clause-stands : goal.returns-clause-stands
-returns-clause-stands g c = stands_again c.args.self.now (g.P.SectorView.space c.args.space.now) (g.P.SectorView.space c.delete_value.new.space) (record { file = c.delete_value.new.tree; desk = c.delete_value.new.desk }) c.delete_value.result c.requires.has c.requires.stands c.delete_value.ensures.frame c.delete_value.ensures.desk c.delete_value.ensures.holds
-
-pub returns-clause-service : goal.returns-clause-service
-returns-clause-service g c = serves_edited c.args.self.now (g.P.SectorView.space c.args.space.now) (g.P.SectorView.space c.delete_value.new.space) (record { file = c.delete_value.new.tree; desk = c.delete_value.new.desk }) c.delete_value.ensures.frame c.requires.stands.service c.delete_value.ensures.desk
-
-pub returns-clause-touches : goal.returns-clause-touches
-returns-clause-touches g c committed = touches_attributes c.args.self.now c.requires.has committed (g.P.SectorView.space c.args.space.now) (g.P.SectorView.space c.delete_value.new.space) c.delete_value.ensures.frame.space
-
 pub returns-clause-deletes : goal.returns-clause-deletes
 returns-clause-deletes g c tells =
     attributes_changed c.args.self.now (g.P.SectorView.space c.args.space.now) (g.P.SectorView.space c.delete_value.new.space) (record { file = c.delete_value.new.tree; desk = c.delete_value.new.desk }) c.requires.has (c.requires.stands.stands tells) tells c.delete_value.ensures.frame
     (DropsAttribute c.args.id c.args.name.now) c.delete_value.result (c.delete_value.ensures.holds tells) (c.delete_value.ensures.sorted tells) (c.delete_value.ensures.deleted tells)
+
+pub returns-clause-edits : goal.returns-clause-edits
+returns-clause-edits g c = attributes_edits c.requires.has c.delete_value.ensures.below c.delete_value.ensures.cause c.requires.stands c.delete_value.ensures.frame c.delete_value.ensures.desk c.delete_value.ensures.holds

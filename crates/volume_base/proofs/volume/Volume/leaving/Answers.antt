@@ -1,21 +1,17 @@
 use Rattle.volume_base.proofs.Listed.{fits_short}
-use Rattle.volume_base.proofs.Still.{catalog_over, catalog_read, stands_still, settled_still}
+use Rattle.volume_base.proofs.Still.{catalog_over}
+use Rattle.volume_base.proofs.Framed.{serves_still}
+use Rattle.volume_base.proofs.Looked.{catalog_looked}
 use Rattle.volume_base.proofs.volume.Volume.leaving.Goals as goal
 
 pub find_leaving-requires-clause-over : goal.find_leaving-requires-clause-over
-find_leaving-requires-clause-over g c = catalog_over c.args.self.now (g.P.SectorView.space c.args.space.now) c.requires.stands c.requires.settled
+find_leaving-requires-clause-over g c = catalog_over c.args.self.now (g.P.SectorView.space c.args.space.now) c.requires.serves.stands c.requires.serves.settled
 
 pub find_leaving-requires-clause-names : goal.find_leaving-requires-clause-names
 find_leaving-requires-clause-names g c = fits_short c.args.above.now c.requires.fits
 
-pub returns-clause-reads : goal.returns-clause-reads
-returns-clause-reads g c =
-    catalog_read c.args.self.now c.find_leaving.new.tree c.find_leaving.new.desk (g.P.SectorView.space c.args.space.now) (g.P.SectorView.space c.find_leaving.new.space) c.find_leaving.ensures.reads c.find_leaving.ensures.over
+pub returns-clause-looked : goal.returns-clause-looked
+returns-clause-looked g c = catalog_looked c.find_leaving.ensures.below c.find_leaving.ensures.cause c.requires.serves.stands c.find_leaving.ensures.reads c.find_leaving.ensures.over
 
-pub returns-clause-stands : goal.returns-clause-stands
-returns-clause-stands g c =
-    stands_still c.args.self.now _ (g.P.SectorView.space c.args.space.now) (g.P.SectorView.space c.find_leaving.new.space) (returns-clause-reads g c) c.requires.stands
-
-pub returns-clause-settled : goal.returns-clause-settled
-returns-clause-settled g c tells =
-    settled_still c.args.self.now _ (g.P.SectorView.space c.args.space.now) (g.P.SectorView.space c.find_leaving.new.space) (returns-clause-reads g c) tells (c.requires.settled tells)
+pub returns-clause-serves : goal.returns-clause-serves
+returns-clause-serves g c = serves_still (returns-clause-looked g c) c.requires.serves

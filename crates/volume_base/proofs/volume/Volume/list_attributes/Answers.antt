@@ -4,25 +4,24 @@ use Rattle.btree_node.specs.Levels.{Pair}
 use Rattle.btree_file.specs.Standing.{pairs_in}
 use Rattle.btree_file.specs.State.{sectors_of_tree}
 use Rattle.attributes.specs.Owned.{names_of}
-use Rattle.volume_base.proofs.Still.{has_them, attributes_over, attributes_read, stands_still, settled_still}
+use Rattle.volume_base.proofs.Still.{has_them, attributes_over}
+use Rattle.volume_base.proofs.Framed.{serves_still}
+use Rattle.volume_base.proofs.Looked.{attributes_looked, looked_none}
 use Rattle.volume_base.proofs.volume.Volume.list_attributes.Goals as goal
 
 pub list_owned-requires : goal.list_owned-requires
-list_owned-requires g c = record { over = attributes_over c.args.self.now (g.P.SectorView.space c.args.space.now) c.requires.stands c.requires.settled (has_them c.args.self.now.header c.if-self-eq0.false) }
+list_owned-requires g c = record { over = attributes_over c.args.self.now (g.P.SectorView.space c.args.space.now) c.requires.serves.stands c.requires.serves.settled (has_them c.args.self.now.header c.if-self-eq0.false) }
 
 pub returns-clause-listed : goal.returns-clause-listed
 returns-clause-listed g c tells =
     let read = pairs_in (sectors_of_tree c.args.self.now.attributes.file) (g.P.SectorView.space c.args.space.now).content in
     subst (λ (l : List Pair). IfOk c.list_owned.result (λ owned. owned ≡ names_of c.args.id l)) (sym (ap (λ b. if b then read else []) (has_them c.args.self.now.header c.if-self-eq0.false))) (c.list_owned.ensures.listed tells)
 
-pub returns-clause-reads : goal.returns-clause-reads
-returns-clause-reads g c =
-    attributes_read c.args.self.now c.list_owned.new.tree c.list_owned.new.desk (g.P.SectorView.space c.args.space.now) (g.P.SectorView.space c.list_owned.new.space) (has_them c.args.self.now.header c.if-self-eq0.false) c.list_owned.ensures.reads c.list_owned.ensures.over
+pub returns-clause-looked : goal.returns-clause-looked
+returns-clause-looked g c = attributes_looked (has_them c.args.self.now.header c.if-self-eq0.false) c.list_owned.ensures.below c.list_owned.ensures.cause c.requires.serves.stands c.list_owned.ensures.reads c.list_owned.ensures.over
 
-pub returns-clause-stands : goal.returns-clause-stands
-returns-clause-stands g c =
-    stands_still c.args.self.now _ (g.P.SectorView.space c.args.space.now) (g.P.SectorView.space c.list_owned.new.space) (returns-clause-reads g c) c.requires.stands
+pub returns-clause-serves : goal.returns-clause-serves
+returns-clause-serves g c = serves_still (returns-clause-looked g c) c.requires.serves
 
-pub returns-clause-settled : goal.returns-clause-settled
-returns-clause-settled g c tells =
-    settled_still c.args.self.now _ (g.P.SectorView.space c.args.space.now) (g.P.SectorView.space c.list_owned.new.space) (returns-clause-reads g c) tells (c.requires.settled tells)
+pub returns-then-self-eq0-clause-looked : goal.returns-then-self-eq0-clause-looked
+returns-then-self-eq0-clause-looked g c = looked_none g.met.P.SectorView.follows_refl c.requires.serves.stands

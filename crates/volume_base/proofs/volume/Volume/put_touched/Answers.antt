@@ -5,11 +5,10 @@ use Rattle.cat_records.specs.declared.record.CatRecord.{CatRecord}
 use Rattle.catalog.specs.Entries.{IsOfKind}
 use Rattle.hfs_volume.specs.Records.{id_in, is_thread}
 use Rattle.volume_base.specs.Changing.{ReplacesRecord, TouchesFolder}
-use Rattle.volume_base.proofs.Commanding.{touches_none}
 use Rattle.volume_base.proofs.FoundEntry.{ok_so}
 use Rattle.volume_base.proofs.Recounting.{touched_some, touches_folder}
 use Rattle.volume_base.proofs.UpdateRoom.{room_less}
-use Rattle.volume_base.proofs.Besides.{blocks_edit, blocks_none}
+use Rattle.volume_base.proofs.Framed.{edits_none}
 use Rattle.volume_base.proofs.volume.Volume.put_touched.Goals as goal
 
 pub replace-requires-clause-kind : goal.replace-requires-clause-kind
@@ -32,17 +31,8 @@ returns-clause-counts g c tells folder fits =
 pub returns-in_default-clause-counts : goal.returns-in_default-clause-counts
 returns-in_default-clause-counts g c tells folder fits = absurd (touched_some c.args.self.now.header.modify_date c.args.up c.args.down c.args.entry.now.rec folder (sym (c.touched.ensures.same fits) ∙ c.in_default.is))
 
-pub returns-in_default-clause-touches : goal.returns-in_default-clause-touches
-returns-in_default-clause-touches g c committed = touches_none committed _ (g.P.SectorView.space c.args.space.now)
-
-pub returns-in_default-clause-service : goal.returns-in_default-clause-service
-returns-in_default-clause-service g c = c.requires.stands.service
-
 pub returns-in_default-clause-room : goal.returns-in_default-clause-room
 returns-in_default-clause-room g c many room = room_less many c.args.self.now (g.P.SectorView.space c.args.space.now) room
 
-pub returns-clause-blocks : goal.returns-clause-blocks
-returns-clause-blocks g c = blocks_edit c.args.self.now c.replace.new.self c.replace.ensures.rest
-
-pub returns-in_default-clause-blocks : goal.returns-in_default-clause-blocks
-returns-in_default-clause-blocks g c = blocks_none c.args.self.now
+pub returns-in_default-clause-edits : goal.returns-in_default-clause-edits
+returns-in_default-clause-edits g c = edits_none _ g.met.P.SectorView.follows_refl c.requires.stands

@@ -10,11 +10,13 @@ use Rattle.hfs_volume.specs.TreeOf.{tree_of}
 use Rattle.volume_base.specs.Stating.{facts_in}
 use Rattle.volume_base.proofs.Listed.{fits_short, facts_is}
 use Rattle.volume_base.proofs.Seeing.{if_so}
-use Rattle.volume_base.proofs.Still.{catalog_over, catalog_read, stands_still, settled_still}
+use Rattle.volume_base.proofs.Still.{catalog_over}
+use Rattle.volume_base.proofs.Framed.{serves_still}
+use Rattle.volume_base.proofs.Looked.{catalog_looked, looked_none}
 use Rattle.volume_base.proofs.volume.Volume.stat.Goals as goal
 
 pub tell_facts-requires-clause-over : goal.tell_facts-requires-clause-over
-tell_facts-requires-clause-over g c = catalog_over c.args.self.now (g.P.SectorView.space c.args.space.now) c.requires.stands c.requires.settled
+tell_facts-requires-clause-over g c = catalog_over c.args.self.now (g.P.SectorView.space c.args.space.now) c.requires.serves.stands c.requires.serves.settled
 
 pub tell_facts-requires-clause-names : goal.tell_facts-requires-clause-names
 tell_facts-requires-clause-names g c = subst (λ (p : List (List ℕ)). All (λ (name : List ℕ). length name ≤ 255) p) (sym c.as_slice.ensures) (fits_short c.args.path.now c.requires.fits)
@@ -25,17 +27,14 @@ returns-clause-reply g c tells =
     let content = (g.P.SectorView.space c.args.space.now).content in
     if_so (λ (r : Reply). r ≡ facts_in (pairs_in (sectors_of_tree v.catalog.file) content) v.private c.as_slice.result.now) (λ (r : Reply). r ≡ (step_line (tree_of content) (Ok (command.Stat c.args.path.now))).0) c.tell_facts.result
     (λ r is. is ∙ ap (λ (p : List (List ℕ)). facts_in (pairs_in (sectors_of_tree v.catalog.file) content) v.private p) c.as_slice.ensures
-    ∙ facts_is c.sound_has_plain_tree.ensures v content (c.requires.stands.stands tells).trees (c.requires.settled tells) c.args.path.now (sym c.is_private_path.ensures ∙ c.if-is_private_path.false) c.requires.fits)
+    ∙ facts_is c.sound_has_plain_tree.ensures v content (c.requires.serves.stands.stands tells).trees (c.requires.serves.settled tells) c.args.path.now (sym c.is_private_path.ensures ∙ c.if-is_private_path.false) c.requires.fits)
     (c.tell_facts.ensures.reply tells)
 
-pub returns-clause-reads : goal.returns-clause-reads
-returns-clause-reads g c =
-    catalog_read c.args.self.now c.tell_facts.new.tree c.tell_facts.new.desk (g.P.SectorView.space c.args.space.now) (g.P.SectorView.space c.tell_facts.new.space) c.tell_facts.ensures.reads c.tell_facts.ensures.over
+pub returns-clause-looked : goal.returns-clause-looked
+returns-clause-looked g c = catalog_looked c.tell_facts.ensures.below c.tell_facts.ensures.cause c.requires.serves.stands c.tell_facts.ensures.reads c.tell_facts.ensures.over
 
-pub returns-clause-stands : goal.returns-clause-stands
-returns-clause-stands g c =
-    stands_still c.args.self.now _ (g.P.SectorView.space c.args.space.now) (g.P.SectorView.space c.tell_facts.new.space) (returns-clause-reads g c) c.requires.stands
+pub returns-clause-serves : goal.returns-clause-serves
+returns-clause-serves g c = serves_still (returns-clause-looked g c) c.requires.serves
 
-pub returns-clause-settled : goal.returns-clause-settled
-returns-clause-settled g c tells =
-    settled_still c.args.self.now _ (g.P.SectorView.space c.args.space.now) (g.P.SectorView.space c.tell_facts.new.space) (returns-clause-reads g c) tells (c.requires.settled tells)
+pub returns-then-is_private_path-clause-looked : goal.returns-then-is_private_path-clause-looked
+returns-then-is_private_path-clause-looked g c = looked_none g.met.P.SectorView.follows_refl c.requires.serves.stands
