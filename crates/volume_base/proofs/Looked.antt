@@ -5,6 +5,7 @@ use Rattle.std.specs.List.{Contains}
 use Rattle.std.specs.Result.{IsErrAnd}
 use Rattle.std.proofs.lemmas.Result.{err_from_is_err_and}
 use Rattle.hx_bytes.specs.declared.faults.Trouble.{Trouble}
+use Rattle.hx_bytes.specs.declared.faults.Trouble.TheVariants.{Memory}
 use Rattle.sector_disk.specs.Space.{Space}
 use Rattle.btree_edit.specs.Causes.{HasTroubleCause}
 use Rattle.btree_edit.specs.Desk.{IsDeskOf}
@@ -45,6 +46,14 @@ module _ {S : Type 0} {space_of : S → Space} {follows : S → S → Type 0} wh
   -- nothing was read
   pub looked_none : {T : Type 0} {v : Volume} {a : S} {x : T} → ((s : S) → follows s s) → StandsOver v (space_of a) → Looked space_of follows v v a a (Ok x)
   looked_none {T} {v} {a} {x} none stands = looked_of (none a) (record { later = omega arith; failed = tt }) stands (volume_none v (space_of a))
+
+  -- nothing was read, and memory is wanting
+  pub looked_wanting : {T : Type 0} {v : Volume} {a : S} → ((s : S) → follows s s) → StandsOver v (space_of a) → Looked {T = T} space_of follows v v a a (Err Memory)
+  looked_wanting {T} {v} {a} none stands = looked_of (none a) (record { later = omega arith; failed = tt }) stands (volume_none v (space_of a))
+
+  -- memory is wanting behind what was read
+  pub looked_short : {T U : Type 0} {v w : Volume} {a b : S} {r : Result T Trouble} → Looked space_of follows v w a b r → Looked {T = U} space_of follows v w a b (Err Memory)
+  looked_short was = looked_of was.edits.ran.below (record { later = was.edits.ran.cause.later; failed = tt }) was.stands was.reads
 
   -- another answer is given
   pub looked_again : {T U : Type 0} {v w : Volume} {a b : S} {r : Result T Trouble} {y : U} → Looked space_of follows v w a b r → Looked space_of follows v w a b (Ok y)

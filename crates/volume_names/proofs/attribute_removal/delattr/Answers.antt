@@ -13,14 +13,14 @@ use Rattle.volume_base.specs.Attributing.{others_owned}
 use Rattle.volume_names.proofs.MarkLoads.{delete_load}
 use Rattle.volume_base.proofs.MarkRoom.{load_still, mark_room_still}
 use Rattle.volume_base.proofs.OwnedTold.{attribute_told, attribute_untold, delete_private, delete_refused, delete_replied, delete_tree}
-use Rattle.volume_base.proofs.Still.{lists_still, settled_still, volume_both}
+use Rattle.volume_base.proofs.Still.{lists_still, volume_both}
 use Rattle.volume_base.proofs.ToNode.{node_told, node_refused, node_there}
 use Rattle.volume_base.proofs.Framed.{edits_err, edits_none, edits_ok, edits_spent}
 use Rattle.volume_base.proofs.Joined.{edits_both, edits_serves}
 use Rattle.volume_names.proofs.attribute_removal.delattr.Goals as goal
 
 pub delete_from-requires-clause-serves : goal.delete_from-requires-clause-serves
-delete_from-requires-clause-serves g c = record { stands = search; settled = λ tells. settled_still c.args.volume.now c.owned.new.self (g.P.SectorView.space c.args.space.now) (g.P.SectorView.space c.owned.new.space) (volume_both c.args.volume.now c.owner.new.self c.owned.new.self (g.P.SectorView.space c.args.space.now) (g.P.SectorView.space c.owner.new.space) (g.P.SectorView.space c.owned.new.space) c.owner.ensures.looked.reads c.owned.ensures.looked.reads) (sym (volume_both c.args.volume.now c.owner.new.self c.owned.new.self (g.P.SectorView.space c.args.space.now) (g.P.SectorView.space c.owner.new.space) (g.P.SectorView.space c.owned.new.space) c.owner.ensures.looked.reads c.owned.ensures.looked.reads).looks.same.tells ∙ tells) (c.requires.serves.settled (sym (volume_both c.args.volume.now c.owner.new.self c.owned.new.self (g.P.SectorView.space c.args.space.now) (g.P.SectorView.space c.owner.new.space) (g.P.SectorView.space c.owned.new.space) c.owner.ensures.looked.reads c.owned.ensures.looked.reads).looks.same.tells ∙ tells)) }
+delete_from-requires-clause-serves g c = c.owned.ensures.serves
 
 pub delete_from-requires-clause-has : goal.delete_from-requires-clause-has
 delete_from-requires-clause-has g c = subst (λ (h : VolumeHeader). IsTrue (has_attributes h)) (sym c.owned.ensures.looked.reads.keeps.header) (subst (λ (o : Option Bool). IfSome o (λ more. IsTrue (has_attributes c.owner.new.self.header))) c.in-Some.is c.in_ok-others-in-Ok.ensures.has)

@@ -13,12 +13,12 @@ use Rattle.volume_base.proofs.FoundEntry.{ok_so}
 use Rattle.volume_base.specs.Changing.{catalog_node}
 use Rattle.volume_names.proofs.EditsLeft.{ready_behind}
 use Rattle.volume_names.proofs.LinkAnew.{anew_does, linking_then, only_then}
-use Rattle.volume_base.proofs.Framed.{edits_none, edits_spent}
-use Rattle.volume_base.proofs.Joined.{edits_both}
+use Rattle.volume_base.proofs.Framed.{edits_spent}
+use Rattle.volume_base.proofs.Joined.{edits_both, edits_wanting, edits_short}
 use Rattle.volume_names.proofs.first_links.link_anew.Goals as goal
 
 pub link_dated-requires-clause-serves : goal.link_dated-requires-clause-serves
-link_dated-requires-clause-serves g c = record { stands = search; settled = λ tells. (c.in_ok-open_private.ensures.opens (sym (c.open_private.ensures.edits.ran.touches (g.P.SectorView.space c.args.space.now).content).same.tells ∙ tells)).settled }
+link_dated-requires-clause-serves g c = record { stands = c.in_ok-open_private.ensures.edits.ran.stands; settled = λ tells. (c.in_ok-open_private.ensures.opens (sym (c.open_private.ensures.edits.ran.touches (g.P.SectorView.space c.args.space.now).content).same.tells ∙ tells)).settled }
 
 pub link_dated-requires-clause-only : goal.link_dated-requires-clause-only
 link_dated-requires-clause-only g c tells =
@@ -48,7 +48,7 @@ pub returns-in-Some-clause-edits : goal.returns-in-Some-clause-edits
 returns-in-Some-clause-edits g c = edits_spent (edits_both g.met.P.SectorView.follows_trans c.open_private.ensures.edits c.link_dated.ensures.edits) (λ tells. omega arith)
 
 pub returns-then-not-fits_first-clause-edits : goal.returns-then-not-fits_first-clause-edits
-returns-then-not-fits_first-clause-edits g c = edits_none _ g.met.P.SectorView.follows_refl c.requires.serves.stands
+returns-then-not-fits_first-clause-edits g c = edits_wanting _ g.met.P.SectorView.follows_refl c.requires.serves.stands
 
 pub link_dated-requires-clause-ids : goal.link_dated-requires-clause-ids
 link_dated-requires-clause-ids g c tells =
@@ -80,3 +80,6 @@ returns-in_err-open_private-clause-loads g c tells from to entry linking =
 
 pub returns-then-not-fits_first-clause-loads : goal.returns-then-not-fits_first-clause-loads
 returns-then-not-fits_first-clause-loads g c tells from to entry linking n grow is = omega arith
+
+pub returns-in-None-clause-edits : goal.returns-in-None-clause-edits
+returns-in-None-clause-edits g c = edits_short (edits_spent c.in_ok-open_private.ensures.edits (λ tells. omega arith))

@@ -2,14 +2,14 @@ use Rattle.volume_names.proofs.LinkWeight.{first_puts}
 use Rattle.volume_base.proofs.Replaced.{node_large}
 use Rattle.volume_names.proofs.LinkLoads.{first_spends, rest_beside, rest_left}
 use Rattle.std.proofs.Common.{arith}
-use Rattle.volume_base.proofs.Framed.{edits_none}
+use Rattle.volume_base.proofs.Joined.{edits_wanting}
 use Rattle.volume_names.proofs.first_links.link_first.Goals as goal
 
 pub link_ready-requires-clause-left : goal.link_ready-requires-clause-left
 link_ready-requires-clause-left g c = c.fits_share.ensures.left c.if-not-fits_share.false
 
 pub returns-then-not-fits_share-clause-edits : goal.returns-then-not-fits_share-clause-edits
-returns-then-not-fits_share-clause-edits g c = edits_none _ g.met.P.SectorView.follows_refl c.requires.serves.stands
+returns-then-not-fits_share-clause-edits g c = edits_wanting _ g.met.P.SectorView.follows_refl c.requires.serves.stands
 
 pub link_ready-requires-clause-ids : goal.link_ready-requires-clause-ids
 link_ready-requires-clause-ids g c = c.fits_share.ensures.ids c.if-not-fits_share.false

@@ -11,8 +11,8 @@ use Rattle.volume_base.specs.Standing.{IsSettled, StandsOver}
 use Rattle.volume_base.proofs.FoundEntry.{ok_both}
 use Rattle.volume_names.proofs.LinkMade.{above_after, linked_does, shared_added, threads_added, threads_counted, vacant}
 use Rattle.volume_base.proofs.Replaced.{node_large}
-use Rattle.volume_base.proofs.Framed.{edits_err, edits_none, edits_ok, edits_spent}
-use Rattle.volume_base.proofs.Joined.{edits_both}
+use Rattle.volume_base.proofs.Framed.{edits_err, edits_none, edits_spent}
+use Rattle.volume_base.proofs.Joined.{edits_both, edits_short}
 use Rattle.volume_names.proofs.linking.link_again.Goals as goal
 
 pub add_name-requires-clause-size : goal.add_name-requires-clause-size
@@ -81,7 +81,7 @@ returns-in_err-count_up-clause-edits g c =
     edits_err c.from_residual-in_err-count_up.ensures.1 (edits_spent (edits_both g.met.P.SectorView.follows_trans c.add_name.ensures.edits c.in_err-count_up.ensures.edits) (λ tells. omega arith))
 
 pub returns-then-not-fits_update-clause-edits : goal.returns-then-not-fits_update-clause-edits
-returns-then-not-fits_update-clause-edits g c = edits_ok (edits_spent (edits_both g.met.P.SectorView.follows_trans c.add_name.ensures.edits c.in_ok-count_up.ensures.edits) (λ tells. omega arith))
+returns-then-not-fits_update-clause-edits g c = edits_short (edits_spent (edits_both g.met.P.SectorView.follows_trans c.add_name.ensures.edits c.in_ok-count_up.ensures.edits) (λ tells. omega arith))
 
 pub returns-then-shape-lt4096-clause-does : goal.returns-then-shape-lt4096-clause-does
 returns-then-shape-lt4096-clause-does g c tells from to entry linking =

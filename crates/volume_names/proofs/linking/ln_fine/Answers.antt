@@ -1,5 +1,5 @@
 use Rattle.std.proofs.Common.{sym, ◌∙◌}
-use Rattle.volume_base.proofs.Framed.{edits_none}
+use Rattle.volume_base.proofs.Joined.{edits_wanting}
 use Rattle.volume_names.proofs.linking.ln_fine.Goals as goal
 
 pub ln_under-requires-clause-split : goal.ln_under-requires-clause-split
@@ -9,7 +9,7 @@ pub ln_under-requires-clause-goal_split : goal.ln_under-requires-clause-goal_spl
 ln_under-requires-clause-goal_split g c = sym c.as_slice-in-Some.ensures ∙ c.in-Some-split_last.ensures.cases.0
 
 pub returns-in-None-clause-edits : goal.returns-in-None-clause-edits
-returns-in-None-clause-edits g c = edits_none _ g.met.P.SectorView.follows_refl c.requires.serves.stands
+returns-in-None-clause-edits g c = edits_wanting _ g.met.P.SectorView.follows_refl c.requires.serves.stands
 
 pub returns-in-None-split_last-clause-edits : goal.returns-in-None-split_last-clause-edits
-returns-in-None-split_last-clause-edits g c = edits_none _ g.met.P.SectorView.follows_refl c.requires.serves.stands
+returns-in-None-split_last-clause-edits g c = edits_wanting _ g.met.P.SectorView.follows_refl c.requires.serves.stands

@@ -9,12 +9,12 @@ use Rattle.volume_base.specs.Standing.{IsSettled}
 use Rattle.volume_base.proofs.FoundEntry.{ok_so}
 use Rattle.volume_names.proofs.PrivateLoss.{loss_then, lost_both, only_then}
 use Rattle.volume_names.proofs.LossLoads.{load_aside, rest_aside}
-use Rattle.volume_base.proofs.Framed.{edits_none, edits_spent}
-use Rattle.volume_base.proofs.Joined.{edits_both}
+use Rattle.volume_base.proofs.Framed.{edits_spent}
+use Rattle.volume_base.proofs.Joined.{edits_both, edits_wanting, edits_short}
 use Rattle.volume_names.proofs.losing.bury_first.Goals as goal
 
 pub bury-requires-clause-serves : goal.bury-requires-clause-serves
-bury-requires-clause-serves g c = record { stands = search; settled = λ tells. (c.in_ok-open_private.ensures.opens (sym (c.open_private.ensures.edits.ran.touches (g.P.SectorView.space c.args.space.now).content).same.tells ∙ tells)).settled }
+bury-requires-clause-serves g c = record { stands = c.in_ok-open_private.ensures.edits.ran.stands; settled = λ tells. (c.in_ok-open_private.ensures.opens (sym (c.open_private.ensures.edits.ran.touches (g.P.SectorView.space c.args.space.now).content).same.tells ∙ tells)).settled }
 
 pub bury-requires-clause-only : goal.bury-requires-clause-only
 bury-requires-clause-only g c tells =
@@ -51,7 +51,7 @@ bury-requires-clause-left g c =
     (c.in_ok-open_private.ensures.left 3 (2 * catalog_node c.args.volume.now) (c.fits_aside.ensures.load c.if-not-fits_aside.false))
 
 pub returns-then-not-fits_aside-clause-edits : goal.returns-then-not-fits_aside-clause-edits
-returns-then-not-fits_aside-clause-edits g c = edits_none _ g.met.P.SectorView.follows_refl c.requires.serves.stands
+returns-then-not-fits_aside-clause-edits g c = edits_wanting _ g.met.P.SectorView.follows_refl c.requires.serves.stands
 
 pub returns-in-Some-clause-spends : goal.returns-in-Some-clause-spends
 returns-in-Some-clause-spends g c tells =
@@ -72,3 +72,6 @@ returns-in_err-open_private-clause-spends g c tells =
 
 pub returns-then-not-fits_aside-clause-spends : goal.returns-then-not-fits_aside-clause-spends
 returns-then-not-fits_aside-clause-spends g c tells = inl (omega arith)
+
+pub returns-in-None-clause-edits : goal.returns-in-None-clause-edits
+returns-in-None-clause-edits g c = edits_short (edits_spent c.in_ok-open_private.ensures.edits (λ tells. omega arith))

@@ -15,6 +15,7 @@ use Rattle.volume_base.proofs.Replaced.{node_large}
 use Rattle.volume_names.proofs.EditsLeft.{left_of_move}
 use Rattle.std.specs.Prelude.{Option, is_some}
 use Rattle.volume_names.specs.LossLoads.{SpendsFor, SpendsLoss, SpendsShared}
+use Rattle.volume_base.proofs.Joined.{edits_wanting}
 use Rattle.volume_names.proofs.losing.lose.Goals as goal
 
 pub bury-requires-clause-some : goal.bury-requires-clause-some
@@ -111,3 +112,6 @@ returns-in_err-place-in-Some-clause-spends g c tells entry loss = inl (omega ari
 
 pub returns-in_err-place-in-None-clause-spends : goal.returns-in_err-place-in-None-clause-spends
 returns-in_err-place-in-None-clause-spends g c tells entry loss = inl (omega arith)
+
+pub returns-then-not-fits_move-clause-edits : goal.returns-then-not-fits_move-clause-edits
+returns-then-not-fits_move-clause-edits g c = edits_wanting _ g.met.P.SectorView.follows_refl c.requires.serves.stands

@@ -8,7 +8,7 @@ use Rattle.volume_runs.specs.Told.{of_made}
 use Rattle.volume_base.specs.Lists.{lists_of}
 use Rattle.volume_base.specs.Making.{making}
 use Rattle.volume_names.specs.Making.{HasNew, Makes}
-use Rattle.volume_base.proofs.Framed.{edits_none}
+use Rattle.volume_base.proofs.Joined.{edits_wanting}
 use Rattle.volume_names.proofs.making.make.Goals as goal
 
 pub make_under-requires-clause-fits : goal.make_under-requires-clause-fits
@@ -35,4 +35,4 @@ returns-in-Some-clause-entry g c tells =
     (sym c.in-Some.ensures.cases.0 ∙ c.as_slice.ensures) (c.make_under.ensures.entry tells)
 
 pub returns-in-None-clause-edits : goal.returns-in-None-clause-edits
-returns-in-None-clause-edits g c = edits_none _ g.met.P.SectorView.follows_refl c.requires.serves.stands
+returns-in-None-clause-edits g c = edits_wanting _ g.met.P.SectorView.follows_refl c.requires.serves.stands

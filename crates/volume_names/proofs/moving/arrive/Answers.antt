@@ -5,8 +5,8 @@ use Rattle.volume_names.proofs.Carried.{threads_changed}
 use Rattle.volume_base.proofs.FoundEntry.{ok_so}
 use Rattle.volume_names.proofs.Moved.{entry_carried}
 use Rattle.volume_base.specs.Lists.{lists_of}
-use Rattle.volume_base.proofs.Framed.{edits_err, edits_none, edits_ok, edits_spent}
-use Rattle.volume_base.proofs.Joined.{edits_both}
+use Rattle.volume_base.proofs.Framed.{edits_err, edits_spent}
+use Rattle.volume_base.proofs.Joined.{edits_both, edits_wanting, edits_short}
 use Rattle.volume_names.proofs.moving.arrive.Goals as goal
 
 pub date-requires-clause-threads : goal.date-requires-clause-threads
@@ -34,7 +34,7 @@ pub date-requires-clause-room : goal.date-requires-clause-room
 date-requires-clause-room g c = c.fits_update-2.ensures.room c.if-not-fits_update-2.false
 
 pub returns-then-not-fits_update-clause-edits : goal.returns-then-not-fits_update-clause-edits
-returns-then-not-fits_update-clause-edits g c = edits_none _ g.met.P.SectorView.follows_refl c.requires.stands
+returns-then-not-fits_update-clause-edits g c = edits_wanting _ g.met.P.SectorView.follows_refl c.requires.stands
 
 pub returns-then-not-fits_update-2-clause-edits : goal.returns-then-not-fits_update-2-clause-edits
-returns-then-not-fits_update-2-clause-edits g c = edits_ok (edits_spent c.in_ok-touch.ensures.edits (λ tells. omega (arith, c.touch.ensures.edits.ran.spent tells)))
+returns-then-not-fits_update-2-clause-edits g c = edits_short (edits_spent c.in_ok-touch.ensures.edits (λ tells. omega (arith, c.touch.ensures.edits.ran.spent tells)))

@@ -8,6 +8,7 @@ use Rattle.volume_runs.specs.Run.{attribute_edits}
 use Rattle.hfs_volume.specs.TreeOf.{tree_of}
 use Rattle.volume_names.specs.Removing.{MayRemove}
 use Rattle.volume_base.proofs.RemoveWeight.{removed_some}
+use Rattle.volume_base.proofs.Looked.{looked_none}
 use Rattle.volume_names.proofs.remove_room.bare_count.Goals as goal
 
 pub bare_count_under-requires-clause-fits : goal.bare_count_under-requires-clause-fits
@@ -20,3 +21,6 @@ returns-in-Some-clause-told g c tells =
 
 pub returns-in-None-clause-told : goal.returns-in-None-clause-told
 returns-in-None-clause-told g c tells not_own entry is = absurd (removed_some (tree_of (g.P.SectorView.space c.args.space.now).content) c.args.path.now entry (ap (λ (p : List (List ℕ)). length p) (sym c.as_slice.ensures) ∙ c.in-None.ensures.cases) is)
+
+pub returns-in-None-clause-looked : goal.returns-in-None-clause-looked
+returns-in-None-clause-looked g c = looked_none g.met.P.SectorView.follows_refl c.requires.serves.stands

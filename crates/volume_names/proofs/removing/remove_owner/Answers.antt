@@ -12,8 +12,8 @@ use Rattle.volume_base.proofs.OwnedChange.{settled_inline}
 use Rattle.volume_base.proofs.Still.{has_them}
 use Rattle.volume_base.proofs.FoundEntry.{ok_so}
 use Rattle.volume_base.proofs.Taken.{takes_behind}
-use Rattle.volume_base.proofs.Framed.{edits_err, edits_none, edits_ok, edits_spent}
-use Rattle.volume_base.proofs.Joined.{edits_both}
+use Rattle.volume_base.proofs.Framed.{edits_err, edits_spent}
+use Rattle.volume_base.proofs.Joined.{edits_both, edits_wanting, edits_short}
 use Rattle.volume_names.proofs.removing.remove_owner.Goals as goal
 
 pub bare-requires-clause-has : goal.bare-requires-clause-has
@@ -23,7 +23,7 @@ pub bare-requires-clause-inline : goal.bare-requires-clause-inline
 bare-requires-clause-inline g c tells = settled_inline c.args.volume.now (g.P.SectorView.space c.args.space.now).content (c.requires.serves.settled tells)
 
 pub remove_folder-requires-clause-serves : goal.remove_folder-requires-clause-serves
-remove_folder-requires-clause-serves g c = record { stands = search; settled = λ later. let tells = sym c.bare.ensures.frame.space.same.tells ∙ later in
+remove_folder-requires-clause-serves g c = record { stands = c.in_ok-bare.ensures.edits.ran.stands; settled = λ later. let tells = sym c.bare.ensures.frame.space.same.tells ∙ later in
     settled_bared c.args.volume.now c.bare.new.volume (g.P.SectorView.space c.args.space.now) (g.P.SectorView.space c.bare.new.space) c.args.at.id (c.in_ok-bare.ensures.bares tells) (c.requires.serves.settled tells) (c.requires.serves.stands.stands tells) (c.in_ok-bare.ensures.edits.ran.stands.stands later) (has_them c.args.volume.now.header c.if-volume-eq0.false) }
 
 pub remove_folder-requires-clause-leaving : goal.remove_folder-requires-clause-leaving
@@ -74,11 +74,11 @@ returns-in_err-bare-clause-edits g c =
     edits_err c.from_residual-in_err-bare.ensures.1 (edits_spent c.in_err-bare.ensures.edits (λ tells. omega (arith, spent_counted c.edits_take_their_load.ensures (length c.args.owned.now) c.args.volume.now c.bare.new.volume (g.P.SectorView.space c.args.space.now) (g.P.SectorView.space c.bare.new.space) tells (attributes_large c.args.volume.now (g.P.SectorView.space c.args.space.now) c.requires.serves.stands (has_them c.args.volume.now.header c.if-volume-eq0.false) tells) (c.bare.ensures.takes []))))
 
 pub returns-then-volume-eq0-clause-edits : goal.returns-then-volume-eq0-clause-edits
-returns-then-volume-eq0-clause-edits g c = edits_none _ g.met.P.SectorView.follows_refl c.requires.serves.stands
+returns-then-volume-eq0-clause-edits g c = edits_wanting _ g.met.P.SectorView.follows_refl c.requires.serves.stands
 
 pub returns-then-spare-eq0-clause-edits : goal.returns-then-spare-eq0-clause-edits
 returns-then-spare-eq0-clause-edits g c =
-    edits_ok (edits_spent c.in_ok-bare.ensures.edits (λ tells. omega (arith, spent_counted c.edits_take_their_load.ensures (length c.args.owned.now) c.args.volume.now c.bare.new.volume (g.P.SectorView.space c.args.space.now) (g.P.SectorView.space c.bare.new.space) tells (attributes_large c.args.volume.now (g.P.SectorView.space c.args.space.now) c.requires.serves.stands (has_them c.args.volume.now.header c.if-volume-eq0.false) tells) (c.bare.ensures.takes []))))
+    edits_short (edits_spent c.in_ok-bare.ensures.edits (λ tells. omega (arith, spent_counted c.edits_take_their_load.ensures (length c.args.owned.now) c.args.volume.now c.bare.new.volume (g.P.SectorView.space c.args.space.now) (g.P.SectorView.space c.bare.new.space) tells (attributes_large c.args.volume.now (g.P.SectorView.space c.args.space.now) c.requires.serves.stands (has_them c.args.volume.now.header c.if-volume-eq0.false) tells) (c.bare.ensures.takes []))))
 
 pub returns-clause-takes : goal.returns-clause-takes
 returns-clause-takes g c tells =
@@ -89,7 +89,7 @@ returns-clause-takes g c tells =
     (none_left c.args.volume.now c.bare.new.volume (g.P.SectorView.space c.args.space.now) (g.P.SectorView.space c.bare.new.space) c.args.at.id (c.in_ok-bare.ensures.bares tells) (c.requires.serves.settled tells) (c.requires.serves.stands.stands tells) (c.in_ok-bare.ensures.edits.ran.stands.stands later) (has_them c.args.volume.now.header c.if-volume-eq0.false)) takes)
 
 pub returns-then-shape-lt4096-clause-edits : goal.returns-then-shape-lt4096-clause-edits
-returns-then-shape-lt4096-clause-edits g c = edits_none _ g.met.P.SectorView.follows_refl c.requires.serves.stands
+returns-then-shape-lt4096-clause-edits g c = edits_wanting _ g.met.P.SectorView.follows_refl c.requires.serves.stands
 
 pub returns-then-not-fits_owner-clause-edits : goal.returns-then-not-fits_owner-clause-edits
-returns-then-not-fits_owner-clause-edits g c = edits_none _ g.met.P.SectorView.follows_refl c.requires.serves.stands
+returns-then-not-fits_owner-clause-edits g c = edits_wanting _ g.met.P.SectorView.follows_refl c.requires.serves.stands

@@ -13,10 +13,10 @@ use Rattle.volume_names.specs.Unlinking.{LosesLink}
 use Rattle.volume_base.specs.declared.entries.Entry.{Entry}
 use Rattle.volume_base.proofs.FoundEntry.{settled_threads}
 use Rattle.volume_base.proofs.RoomToRemove.{remove_room_still}
-use Rattle.volume_base.proofs.Still.{lists_still, settled_still}
+use Rattle.volume_base.proofs.Still.{lists_still}
 use Rattle.volume_names.proofs.LossLoads.{none_still, shared_still}
 use Rattle.volume_names.specs.LossLoads.{SpendsShared}
-use Rattle.volume_base.proofs.Framed.{edits_spent}
+use Rattle.volume_base.proofs.Framed.{edits_spent, serves_still}
 use Rattle.volume_base.proofs.Joined.{edits_both}
 use Rattle.volume_names.proofs.unlinking.lose_one.Goals as goal
 
@@ -24,7 +24,7 @@ pub entry-requires-clause-spelled : goal.entry-requires-clause-spelled
 entry-requires-clause-spelled g c tells = (settled_threads c.args.volume.now (g.P.SectorView.space c.args.space.now).content (c.requires.serves.settled tells)).spelled
 
 pub lose_one_of-requires-clause-serves : goal.lose_one_of-requires-clause-serves
-lose_one_of-requires-clause-serves g c = record { stands = search; settled = λ tells. settled_still c.args.volume.now c.entry.new.self (g.P.SectorView.space c.args.space.now) (g.P.SectorView.space c.entry.new.space) c.entry.ensures.looked.reads (sym c.entry.ensures.looked.reads.looks.same.tells ∙ tells) (c.requires.serves.settled (sym c.entry.ensures.looked.reads.looks.same.tells ∙ tells)) }
+lose_one_of-requires-clause-serves g c = serves_still c.entry.ensures.looked c.requires.serves
 
 pub lose_one_of-requires-clause-room : goal.lose_one_of-requires-clause-room
 lose_one_of-requires-clause-room g c = remove_room_still c.args.volume.now c.entry.new.self (g.P.SectorView.space c.args.space.now) (g.P.SectorView.space c.entry.new.space) c.entry.ensures.looked.reads c.requires.room

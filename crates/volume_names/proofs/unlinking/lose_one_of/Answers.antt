@@ -10,6 +10,7 @@ use Rattle.volume_names.specs.Unlinking.{IsLastOf, LosesLink, Unlinks, UnlinksLa
 use Rattle.volume_base.proofs.FoundEntry.{ok_so}
 use Rattle.volume_names.proofs.LastFile.{last_of, file_of}
 use Rattle.volume_names.specs.LossLoads.{SpendsFor, SpendsShared}
+use Rattle.volume_base.proofs.Joined.{edits_wanting}
 use Rattle.volume_names.proofs.unlinking.lose_one_of.Goals as goal
 
 pub unlink_last-requires-clause-some_file : goal.unlink_last-requires-clause-some_file
@@ -74,3 +75,9 @@ returns-in-None-clause-spends g c tells = inl (omega arith)
 
 pub returns-in_err-copy_name-in-Some-clause-spends : goal.returns-in_err-copy_name-in-Some-clause-spends
 returns-in_err-copy_name-in-Some-clause-spends g c tells = inl (omega arith)
+
+pub returns-then-is_empty-clause-edits : goal.returns-then-is_empty-clause-edits
+returns-then-is_empty-clause-edits g c = edits_wanting _ g.met.P.SectorView.follows_refl c.requires.serves.stands
+
+pub returns-in-None-clause-edits : goal.returns-in-None-clause-edits
+returns-in-None-clause-edits g c = edits_wanting _ g.met.P.SectorView.follows_refl c.requires.serves.stands

@@ -9,8 +9,8 @@ use Rattle.volume_names.specs.Unlinking.{Unlinks}
 use Rattle.volume_base.proofs.FoundEntry.{ok_both}
 use Rattle.volume_names.proofs.LinkLost.{above_after, shared_left, threads_counted, threads_dropped, unlinked_does}
 use Rattle.volume_base.proofs.Replaced.{node_large}
-use Rattle.volume_base.proofs.Framed.{edits_err, edits_none, edits_ok, edits_spent}
-use Rattle.volume_base.proofs.Joined.{edits_both}
+use Rattle.volume_base.proofs.Framed.{edits_err, edits_none, edits_spent}
+use Rattle.volume_base.proofs.Joined.{edits_both, edits_short}
 use Rattle.volume_names.proofs.unlinking.unlink.Goals as goal
 
 pub drop_name-requires-clause-size : goal.drop_name-requires-clause-size
@@ -85,7 +85,7 @@ returns-in_err-count_down-clause-edits g c =
 
 pub returns-then-not-fits_update-clause-edits : goal.returns-then-not-fits_update-clause-edits
 returns-then-not-fits_update-clause-edits g c =
-    edits_ok (edits_spent (edits_both g.met.P.SectorView.follows_trans c.drop_name.ensures.edits c.in_ok-count_down.ensures.edits) (λ tells. let middle = (c.drop_name.ensures.edits.ran.touches (g.P.SectorView.space c.args.space.now).content).same.tells ∙ tells in
+    edits_short (edits_spent (edits_both g.met.P.SectorView.follows_trans c.drop_name.ensures.edits c.in_ok-count_down.ensures.edits) (λ tells. let middle = (c.drop_name.ensures.edits.ran.touches (g.P.SectorView.space c.args.space.now).content).same.tells ∙ tells in
     omega (arith, c.drop_name.ensures.edits.ran.spent tells, c.count_down.ensures.edits.ran.spent middle, ap (λ n. n / 512) (c.in_ok-drop_name.ensures.drops tells).changes.nodes.1)))
 
 pub returns-then-shape-lt4096-clause-does : goal.returns-then-shape-lt4096-clause-does

@@ -13,8 +13,8 @@ use Rattle.volume_names.proofs.LinkLost.{threads_dropped}
 use Rattle.volume_base.proofs.Replaced.{node_large}
 use Rattle.volume_names.proofs.EditsLeft.{spare_edited}
 use Rattle.volume_names.proofs.LossLoads.{load_last, rest_last}
-use Rattle.volume_base.proofs.Framed.{edits_err, edits_none, edits_ok, edits_spent}
-use Rattle.volume_base.proofs.Joined.{edits_both}
+use Rattle.volume_base.proofs.Framed.{edits_err, edits_none, edits_spent}
+use Rattle.volume_base.proofs.Joined.{edits_both, edits_wanting, edits_short}
 use Rattle.volume_names.proofs.unlinking.unlink_last.Goals as goal
 
 pub drop_name-requires-clause-size : goal.drop_name-requires-clause-size
@@ -32,7 +32,7 @@ returns-in_err-set_aside-clause-edits g c =
     edits_err c.from_residual-in_err-set_aside.ensures.1 (edits_spent (edits_both g.met.P.SectorView.follows_trans c.drop_name.ensures.edits c.in_err-set_aside.ensures.edits) (λ tells. omega arith))
 
 pub returns-then-not-fits_update-clause-edits : goal.returns-then-not-fits_update-clause-edits
-returns-then-not-fits_update-clause-edits g c = edits_ok (edits_spent (edits_both g.met.P.SectorView.follows_trans c.drop_name.ensures.edits c.in_ok-set_aside.ensures.edits) (λ tells. omega arith))
+returns-then-not-fits_update-clause-edits g c = edits_short (edits_spent (edits_both g.met.P.SectorView.follows_trans c.drop_name.ensures.edits c.in_ok-set_aside.ensures.edits) (λ tells. omega arith))
 
 pub returns-then-shape-lt4096-clause-does : goal.returns-then-shape-lt4096-clause-does
 returns-then-shape-lt4096-clause-does g c tells path entry loss same =
@@ -138,3 +138,6 @@ returns-then-shape-lt4096-clause-spends g c tells = inl (omega arith)
 
 pub returns-then-not-fits_unlink_last-clause-spends : goal.returns-then-not-fits_unlink_last-clause-spends
 returns-then-not-fits_unlink_last-clause-spends g c tells = inl (omega arith)
+
+pub returns-then-not-fits_unlink_last-clause-edits : goal.returns-then-not-fits_unlink_last-clause-edits
+returns-then-not-fits_unlink_last-clause-edits g c = edits_wanting _ g.met.P.SectorView.follows_refl c.requires.serves.stands

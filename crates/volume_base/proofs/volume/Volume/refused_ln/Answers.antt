@@ -30,3 +30,6 @@ returns-then-is_private_path-2-clause-looked g c = looked_none g.met.P.SectorVie
 
 pub returns-then-is_empty-clause-looked : goal.returns-then-is_empty-clause-looked
 returns-then-is_empty-clause-looked g c = looked_none g.met.P.SectorView.follows_refl c.requires.serves.stands
+
+pub returns-in-None-clause-looked : goal.returns-in-None-clause-looked
+returns-in-None-clause-looked g c = looked_none g.met.P.SectorView.follows_refl c.requires.serves.stands
