@@ -57,7 +57,7 @@ returns-clause-edits g c =
 
 pub returns-in_err-set-clause-edits : goal.returns-in_err-set-clause-edits
 returns-in_err-set-clause-edits g c =
-    edits_err c.from_residual-in_err-set.ensures.1 (edits_spent c.in_err-set.ensures.edits (λ tells. let large : 4096 ≤ c.args.volume.now.attributes.file.shape.node_size = omega (arith, c.if-shape-lt4096.false, ap (λ (s : TreeShape). s.node_size) c.shape.ensures) in
+    edits_err c.from_residual.ensures.1 (edits_spent c.in_err-set.ensures.edits (λ tells. let large : 4096 ≤ c.args.volume.now.attributes.file.shape.node_size = omega (arith, c.if-shape-lt4096.false, ap (λ (s : TreeShape). s.node_size) c.shape.ensures) in
     omega (arith, spent_edits 2 refl c.edits_have_room.ensures c.edits_take_their_load.ensures c.args.volume.now c.set.new.volume (g.P.SectorView.space c.args.space.now) (g.P.SectorView.space c.set.new.space) c.requires.room c.requires.has large (c.set.ensures.takes []) tells)))
 
 pub returns-then-shape-lt4096-clause-sets : goal.returns-then-shape-lt4096-clause-sets

@@ -42,7 +42,7 @@ returns-clause-edits g c =
     edits_spent (edits_both g.met.P.SectorView.follows_trans c.hide.ensures.edits c.touch.ensures.edits) (λ tells. omega (arith, c.hide.ensures.edits.ran.spent tells, c.touch.ensures.edits.ran.spent ((c.hide.ensures.edits.ran.touches (g.P.SectorView.space c.args.space.now).content).same.tells ∙ tells), ap (λ n. n / 512) c.in_ok-hide.ensures.size))
 
 pub returns-in_err-hide-clause-edits : goal.returns-in_err-hide-clause-edits
-returns-in_err-hide-clause-edits g c = edits_err c.from_residual-in_err-hide.ensures.1 (edits_spent c.in_err-hide.ensures.edits (λ tells. omega (arith, c.hide.ensures.edits.ran.spent tells)))
+returns-in_err-hide-clause-edits g c = edits_err c.from_residual.ensures.1 (edits_spent c.in_err-hide.ensures.edits (λ tells. omega (arith, c.hide.ensures.edits.ran.spent tells)))
 
 pub returns-then-shape-lt4096-clause-does : goal.returns-then-shape-lt4096-clause-does
 returns-then-shape-lt4096-clause-does g c tells path entry loss = absurd (omega (arith, c.if-shape-lt4096.true, ap (λ (s : TreeShape). s.node_size) c.shape.ensures, node_large c.args.volume.now (g.P.SectorView.space c.args.space.now) c.requires.serves.stands tells))

@@ -40,7 +40,7 @@ returns-clause-edits g c =
 
 pub returns-in_err-set_aside-clause-edits : goal.returns-in_err-set_aside-clause-edits
 returns-in_err-set_aside-clause-edits g c =
-    edits_err c.from_residual-in_err-set_aside.ensures.1 (edits_spent c.in_err-set_aside.ensures.edits (λ tells. omega (arith, spent_aside c.edits_take_their_load.ensures (2 * catalog_node c.args.volume.now) c.args.volume.now c.set_aside.new.volume (g.P.SectorView.space c.args.space.now) (g.P.SectorView.space c.set_aside.new.space) c.requires.left c.requires.size (c.set_aside.ensures.takes []) tells)))
+    edits_err c.from_residual.ensures.1 (edits_spent c.in_err-set_aside.ensures.edits (λ tells. omega (arith, spent_aside c.edits_take_their_load.ensures (2 * catalog_node c.args.volume.now) c.args.volume.now c.set_aside.new.volume (g.P.SectorView.space c.args.space.now) (g.P.SectorView.space c.set_aside.new.space) c.requires.left c.requires.size (c.set_aside.ensures.takes []) tells)))
 
 pub returns-clause-size : goal.returns-clause-size
 returns-clause-size g c = ok_true c.touch.result (c.touch.ensures.size ∙ c.set_aside.ensures.frame.file.node_size)

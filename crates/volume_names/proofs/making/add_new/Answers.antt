@@ -53,7 +53,7 @@ returns-clause-edits g c =
 
 pub returns-in_err-add-clause-edits : goal.returns-in_err-add-clause-edits
 returns-in_err-add-clause-edits g c =
-    edits_err c.from_residual-in_err-add.ensures.1 (edits_spent (edits_both g.met.P.SectorView.follows_trans (edits_header c.draw.ensures.below c.draw.ensures.stands c.draw.ensures.rest c.draw.ensures.within c.draw.ensures.spent c.draw.ensures.faults) c.in_err-add.ensures.edits) (λ tells. spent_entry c.edits_have_room.ensures c.edits_take_their_load.ensures c.args.volume.now c.add.new.volume (g.P.SectorView.space c.args.space.now) (g.P.SectorView.space c.draw.new.space) (g.P.SectorView.space c.add.new.space) c.requires.room c.requires.size
+    edits_err c.from_residual.ensures.1 (edits_spent (edits_both g.met.P.SectorView.follows_trans (edits_header c.draw.ensures.below c.draw.ensures.stands c.draw.ensures.rest c.draw.ensures.within c.draw.ensures.spent c.draw.ensures.faults) c.in_err-add.ensures.edits) (λ tells. spent_entry c.edits_have_room.ensures c.edits_take_their_load.ensures c.args.volume.now c.add.new.volume (g.P.SectorView.space c.args.space.now) (g.P.SectorView.space c.draw.new.space) (g.P.SectorView.space c.add.new.space) c.requires.room c.requires.size
     c.draw.ensures.within.same.tells c.draw.ensures.spent
     (subst (λ (t : Tree). TakesAtMost 2 516 (state_of [] t.file (g.P.SectorView.space c.draw.new.space)) (state_of [] c.add.new.volume.catalog.file (g.P.SectorView.space c.add.new.space))) (ap (λ (x : Volume). x.catalog) c.draw.ensures.rest) (c.add.ensures.takes [])) tells))
 

@@ -25,7 +25,7 @@ returns-clause-edits g c =
     edits_spent (edits_both g.met.P.SectorView.follows_trans c.touch.ensures.edits c.date.ensures.edits) (λ tells. omega (arith, c.touch.ensures.edits.ran.spent tells, c.date.ensures.edits.ran.spent ((c.touch.ensures.edits.ran.touches (g.P.SectorView.space c.args.space.now).content).same.tells ∙ tells), ap (λ n. n / 512) c.touch.ensures.size))
 
 pub returns-in_err-touch-clause-edits : goal.returns-in_err-touch-clause-edits
-returns-in_err-touch-clause-edits g c = edits_err c.from_residual-in_err-touch.ensures.1 (edits_spent c.in_err-touch.ensures.edits (λ tells. omega (arith, c.touch.ensures.edits.ran.spent tells)))
+returns-in_err-touch-clause-edits g c = edits_err c.from_residual.ensures.1 (edits_spent c.in_err-touch.ensures.edits (λ tells. omega (arith, c.touch.ensures.edits.ran.spent tells)))
 
 pub touch-requires-clause-room : goal.touch-requires-clause-room
 touch-requires-clause-room g c = c.fits_update.ensures.room c.if-not-fits_update.false

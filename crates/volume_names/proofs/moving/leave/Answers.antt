@@ -37,7 +37,7 @@ returns-clause-edits g c =
 
 pub returns-in_err-relocate-clause-edits : goal.returns-in_err-relocate-clause-edits
 returns-in_err-relocate-clause-edits g c =
-    edits_err c.from_residual-in_err-relocate.ensures.1 (edits_spent c.in_err-relocate.ensures.edits (λ tells. omega (arith, spent_move c.edits_have_room.ensures c.edits_take_their_load.ensures c.args.volume.now c.relocate.new.volume (g.P.SectorView.space c.args.space.now) (g.P.SectorView.space c.relocate.new.space) c.requires.room c.requires.size (c.relocate.ensures.takes []) tells)))
+    edits_err c.from_residual.ensures.1 (edits_spent c.in_err-relocate.ensures.edits (λ tells. omega (arith, spent_move c.edits_have_room.ensures c.edits_take_their_load.ensures c.args.volume.now c.relocate.new.volume (g.P.SectorView.space c.args.space.now) (g.P.SectorView.space c.relocate.new.space) c.requires.room c.requires.size (c.relocate.ensures.takes []) tells)))
 
 pub returns-clause-size : goal.returns-clause-size
 returns-clause-size g c = ok_true c.touch.result (c.touch.ensures.size ∙ c.relocate.ensures.frame.file.node_size)

@@ -71,7 +71,7 @@ returns-clause-edits g c =
 
 pub returns-in_err-bare-clause-edits : goal.returns-in_err-bare-clause-edits
 returns-in_err-bare-clause-edits g c =
-    edits_err c.from_residual-in_err-bare.ensures.1 (edits_spent c.in_err-bare.ensures.edits (λ tells. omega (arith, spent_counted c.edits_take_their_load.ensures (length c.args.owned.now) c.args.volume.now c.bare.new.volume (g.P.SectorView.space c.args.space.now) (g.P.SectorView.space c.bare.new.space) tells (attributes_large c.args.volume.now (g.P.SectorView.space c.args.space.now) c.requires.serves.stands (has_them c.args.volume.now.header c.if-volume-eq0.false) tells) (c.bare.ensures.takes []))))
+    edits_err c.from_residual.ensures.1 (edits_spent c.in_err-bare.ensures.edits (λ tells. omega (arith, spent_counted c.edits_take_their_load.ensures (length c.args.owned.now) c.args.volume.now c.bare.new.volume (g.P.SectorView.space c.args.space.now) (g.P.SectorView.space c.bare.new.space) tells (attributes_large c.args.volume.now (g.P.SectorView.space c.args.space.now) c.requires.serves.stands (has_them c.args.volume.now.header c.if-volume-eq0.false) tells) (c.bare.ensures.takes []))))
 
 pub returns-then-volume-eq0-clause-edits : goal.returns-then-volume-eq0-clause-edits
 returns-then-volume-eq0-clause-edits g c = edits_wanting _ g.met.P.SectorView.follows_refl c.requires.serves.stands

@@ -48,6 +48,6 @@ returns-clause-edits g c =
 
 pub returns-in_err-remove-clause-edits : goal.returns-in_err-remove-clause-edits
 returns-in_err-remove-clause-edits g c =
-    edits_err c.from_residual-in_err-remove.ensures.1 (edits_spent (edits_both g.met.P.SectorView.follows_trans (edits_header c.count_off.ensures.below c.count_off.ensures.stands c.count_off.ensures.rest c.count_off.ensures.within c.count_off.ensures.spent c.count_off.ensures.faults) c.in_err-remove.ensures.edits) (λ tells. spent_removal c.edits_have_room.ensures c.edits_take_their_load.ensures c.args.volume.now c.remove.new.self (g.P.SectorView.space c.args.space.now) (g.P.SectorView.space c.count_off.new.space) (g.P.SectorView.space c.remove.new.space) c.requires.room c.requires.size
+    edits_err c.from_residual.ensures.1 (edits_spent (edits_both g.met.P.SectorView.follows_trans (edits_header c.count_off.ensures.below c.count_off.ensures.stands c.count_off.ensures.rest c.count_off.ensures.within c.count_off.ensures.spent c.count_off.ensures.faults) c.in_err-remove.ensures.edits) (λ tells. spent_removal c.edits_have_room.ensures c.edits_take_their_load.ensures c.args.volume.now c.remove.new.self (g.P.SectorView.space c.args.space.now) (g.P.SectorView.space c.count_off.new.space) (g.P.SectorView.space c.remove.new.space) c.requires.room c.requires.size
     c.count_off.ensures.within.same.tells c.count_off.ensures.spent
     (subst (λ (t : Tree). TakesAtMost 2 516 (state_of [] t.file (g.P.SectorView.space c.count_off.new.space)) (state_of [] c.remove.new.self.catalog.file (g.P.SectorView.space c.remove.new.space))) (ap (λ (x : Volume). x.catalog) c.count_off.ensures.rest) (c.remove.ensures.takes [])) tells))

@@ -18,7 +18,7 @@ pub returns-clause-size : goal.returns-clause-size
 returns-clause-size g c = c.add.ensures.frame.file.node_size
 
 pub returns-in_err-add-clause-edits : goal.returns-in_err-add-clause-edits
-returns-in_err-add-clause-edits g c = edits_err c.from_residual-in_err-add.ensures.1 (edits_spent c.in_err-add.ensures.edits (λ tells. omega arith))
+returns-in_err-add-clause-edits g c = edits_err c.from_residual.ensures.1 (edits_spent c.in_err-add.ensures.edits (λ tells. omega arith))
 
 pub returns-clause-left : goal.returns-clause-left
 returns-clause-left g c edits beside = left_edited 2 edits beside c.args.volume.now c.add.new.volume (g.P.SectorView.space c.args.space.now) (g.P.SectorView.space c.add.new.space) (λ tells. c.requires.size) c.add.ensures.frame.space.same.tells (c.in_ok-add.ensures.takes_edits [])

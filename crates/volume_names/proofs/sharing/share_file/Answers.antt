@@ -23,7 +23,7 @@ returns-clause-edits g c =
 
 pub returns-in_err-relocate-clause-edits : goal.returns-in_err-relocate-clause-edits
 returns-in_err-relocate-clause-edits g c =
-    edits_err c.from_residual-in_err-relocate.ensures.1 (edits_spent (edits_both g.met.P.SectorView.follows_trans (edits_header c.draw_two.ensures.below c.draw_two.ensures.stands c.draw_two.ensures.rest c.draw_two.ensures.within c.draw_two.ensures.spent c.draw_two.ensures.faults) c.in_err-relocate.ensures.edits) (λ tells. omega arith))
+    edits_err c.from_residual.ensures.1 (edits_spent (edits_both g.met.P.SectorView.follows_trans (edits_header c.draw_two.ensures.below c.draw_two.ensures.stands c.draw_two.ensures.rest c.draw_two.ensures.within c.draw_two.ensures.spent c.draw_two.ensures.faults) c.in_err-relocate.ensures.edits) (λ tells. omega arith))
 
 pub returns-clause-size : goal.returns-clause-size
 returns-clause-size g c = c.relocate.ensures.frame.file.node_size ∙ ap (λ (x : Volume). (numbers_of x.catalog.file).node_size) c.draw_two.ensures.rest

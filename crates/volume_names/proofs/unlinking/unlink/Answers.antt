@@ -97,4 +97,4 @@ returns-then-shape-lt4096-clause-edits g c = edits_none _ g.met.P.SectorView.fol
 
 pub returns-in_err-drop_name-clause-edits : goal.returns-in_err-drop_name-clause-edits
 returns-in_err-drop_name-clause-edits g c =
-    edits_err c.from_residual-in_err-drop_name.ensures.1 (edits_spent c.in_err-drop_name.ensures.edits (λ tells. omega (arith, c.drop_name.ensures.edits.ran.spent tells)))
+    edits_err c.from_residual.ensures.1 (edits_spent c.in_err-drop_name.ensures.edits (λ tells. omega (arith, c.drop_name.ensures.edits.ran.spent tells)))

@@ -25,7 +25,7 @@ returns-clause-bytes g c tells =
     c.in_ok-list.list (c.in_ok-list.ensures.found tells) c.args.from c.args.long c.read_fork.result (c.read_fork.ensures.bytes (looks.same.tells ∙ tells))
 
 pub returns-in_err-list-clause-looked : goal.returns-in_err-list-clause-looked
-returns-in_err-list-clause-looked g c = looked_fault c.from_residual-in_err-list.ensures.1 (extents_looked c.load_extents.ensures.below c.in_err-list.ensures.cause c.requires.serves.stands c.load_extents.ensures.keeps c.load_extents.ensures.looks c.load_extents.ensures.desk)
+returns-in_err-list-clause-looked g c = looked_fault c.from_residual.ensures.1 (extents_looked c.load_extents.ensures.below c.in_err-list.ensures.cause c.requires.serves.stands c.load_extents.ensures.keeps c.load_extents.ensures.looks c.load_extents.ensures.desk)
 
 pub returns-in_err-list-clause-serves : goal.returns-in_err-list-clause-serves
 returns-in_err-list-clause-serves g c = serves_still (returns-in_err-list-clause-looked g c) c.requires.serves

@@ -51,8 +51,8 @@ returns-then-shape-lt4096-clause-edits g c = edits_none _ g.met.P.SectorView.fol
 
 pub returns-in_err-update-clause-edits : goal.returns-in_err-update-clause-edits
 returns-in_err-update-clause-edits g c =
-    edits_err c.from_residual-in_err-update.ensures.1 (edits_spent c.in_err-update.ensures.updates (λ tells. spent_node c.args.self.now c.update.new.self (g.P.SectorView.space c.args.space.now) (g.P.SectorView.space c.update.new.space) (c.update.ensures.takes [] tells)))
+    edits_err c.from_residual.ensures.1 (edits_spent c.in_err-update.ensures.edits (λ tells. spent_node c.args.self.now c.update.new.self (g.P.SectorView.space c.args.space.now) (g.P.SectorView.space c.update.new.space) (c.update.ensures.takes [] tells)))
 
 pub returns-clause-edits : goal.returns-clause-edits
 returns-clause-edits g c =
-    edits_ok (edits_spent c.in_ok-update.ensures.updates (λ tells. spent_node c.args.self.now c.update.new.self (g.P.SectorView.space c.args.space.now) (g.P.SectorView.space c.update.new.space) (c.update.ensures.takes [] tells)))
+    edits_ok (edits_spent c.in_ok-update.ensures.edits (λ tells. spent_node c.args.self.now c.update.new.self (g.P.SectorView.space c.args.space.now) (g.P.SectorView.space c.update.new.space) (c.update.ensures.takes [] tells)))
