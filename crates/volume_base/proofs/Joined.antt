@@ -50,9 +50,9 @@ module _ {S : Type 0} {space_of : S → Space} {follows : S → S → Type 0} wh
   }
 
   -- the header was put, with other numbers
-  pub edits_header : {v w : Volume} {a b : S} → follows a b → StandsOver w (space_of b) → w ≡ record v { header = with_numbers v.header w.header } → PutsWithin (2 ∷ []) (space_of a) (space_of b)
-      → (space_of a).spare ≤ (space_of b).spare + 1 → (space_of b).faults ≡ (space_of a).faults → Edits {T = ⊤} space_of follows 1 v w a b (Ok tt)
-  edits_header {v} {w} {a} {b} below stands rest within spent faults = record {
+  pub edits_header : {most : ℕ} {v w : Volume} {a b : S} → follows a b → StandsOver w (space_of b) → w ≡ record v { header = with_numbers v.header w.header } → PutsWithin (2 ∷ []) (space_of a) (space_of b)
+      → (space_of a).spare ≤ (space_of b).spare + most → (space_of b).faults ≡ (space_of a).faults → Edits {T = ⊤} space_of follows most v w a b (Ok tt)
+  edits_header {most} {v} {w} {a} {b} below stands rest within spent faults = record {
     ran = record {
       below = below;
       cause = record { later = omega (arith, faults); failed = tt };

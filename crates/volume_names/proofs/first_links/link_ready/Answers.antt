@@ -19,8 +19,8 @@ use Rattle.volume_header.specs.declared.header.VolumeHeader.{VolumeHeader}
 use Rattle.volume_base.proofs.Replaced.{node_large}
 use Rattle.volume_base.proofs.Still.{lists_still}
 use Rattle.volume_names.proofs.EditsLeft.{ready_still, ready_beside}
-use Rattle.volume_base.proofs.Framed.{edits_none, edits_spent}
-use Rattle.volume_base.proofs.Joined.{edits_both}
+use Rattle.volume_base.proofs.Framed.{edits_none, edits_spent, edits_err, edits_looked}
+use Rattle.volume_base.proofs.Joined.{edits_both, edits_short}
 use Rattle.volume_names.proofs.first_links.link_ready.Goals as goal
 
 pub link_under-requires-clause-private : goal.link_under-requires-clause-private
@@ -87,3 +87,6 @@ returns-then-not-has_sector-clause-leaves g c tells beside had = omega (arith, (
 pub returns-then-shape-lt4096-clause-leaves : goal.returns-then-shape-lt4096-clause-leaves
 returns-then-shape-lt4096-clause-leaves g c tells beside had =
     absurd (omega (arith, c.if-shape-lt4096.true, ap (λ (s : TreeShape). s.node_size) c.shape.ensures, node_large c.args.volume.now (g.P.SectorView.space c.args.space.now) c.requires.serves.stands tells))
+
+pub returns-in_err-node-clause-edits : goal.returns-in_err-node-clause-edits
+returns-in_err-node-clause-edits g c = edits_err c.from_residual-in_err-node.ensures.1 (edits_short {U = ℕ} (edits_looked _ c.free_number.ensures.looked))

@@ -16,6 +16,7 @@ use Rattle.volume_names.proofs.EditsLeft.{left_of_move}
 use Rattle.std.specs.Prelude.{Option, is_some}
 use Rattle.volume_names.specs.LossLoads.{SpendsFor, SpendsLoss, SpendsShared}
 use Rattle.volume_base.proofs.Joined.{edits_wanting}
+use Rattle.volume_base.proofs.Framed.{edits_err}
 use Rattle.volume_names.proofs.losing.lose.Goals as goal
 
 pub bury-requires-clause-some : goal.bury-requires-clause-some
@@ -115,3 +116,9 @@ returns-in_err-place-in-None-clause-spends g c tells entry loss = inl (omega ari
 
 pub returns-then-not-fits_move-clause-edits : goal.returns-then-not-fits_move-clause-edits
 returns-then-not-fits_move-clause-edits g c = edits_wanting _ g.met.P.SectorView.follows_refl c.requires.serves.stands
+
+pub returns-in_err-place-in-Some-clause-edits : goal.returns-in_err-place-in-Some-clause-edits
+returns-in_err-place-in-Some-clause-edits g c = edits_err c.from_residual.ensures.1 (edits_wanting {T = ℕ} _ g.met.P.SectorView.follows_refl c.requires.serves.stands)
+
+pub returns-in_err-place-in-None-clause-edits : goal.returns-in_err-place-in-None-clause-edits
+returns-in_err-place-in-None-clause-edits g c = edits_err c.from_residual-in_err-place-in-None.ensures.1 (edits_wanting {T = ℕ} _ g.met.P.SectorView.follows_refl c.requires.serves.stands)

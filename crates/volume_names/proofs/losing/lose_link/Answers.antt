@@ -16,8 +16,8 @@ use Rattle.volume_base.proofs.Still.{lists_still}
 use Rattle.volume_base.proofs.ToNode.{node_told}
 use Rattle.volume_names.proofs.LossLoads.{none_still, shared_still}
 use Rattle.volume_names.specs.LossLoads.{SpendsShared}
-use Rattle.volume_base.proofs.Framed.{edits_ok, edits_spent}
-use Rattle.volume_base.proofs.Joined.{edits_both}
+use Rattle.volume_base.proofs.Framed.{edits_spent, edits_err, edits_looked}
+use Rattle.volume_base.proofs.Joined.{edits_both, edits_short}
 use Rattle.volume_names.proofs.losing.lose_link.Goals as goal
 
 pub lose_one-requires-clause-some : goal.lose_one-requires-clause-some
@@ -56,7 +56,7 @@ returns-in_ok-place-in-Ok-clause-does g c tells entry loss =
     (id_told (tree_of (g.P.SectorView.space c.args.space.now).content) c.args.path.now entry n.0 loss.reaches_it n.1 ∙ n.2))
 
 pub returns-in_ok-place-in-Ok-clause-edits : goal.returns-in_ok-place-in-Ok-clause-edits
-returns-in_ok-place-in-Ok-clause-edits g c = edits_ok (edits_spent (edits_both g.met.P.SectorView.follows_trans c.owner.ensures.looked.edits c.in_ok-place-in-Ok.ensures.edits) (λ tells. omega arith))
+returns-in_ok-place-in-Ok-clause-edits g c = edits_spent (edits_both g.met.P.SectorView.follows_trans c.owner.ensures.looked.edits c.lose_one.ensures.edits) (λ tells. omega arith)
 
 pub returns-in_ok-place-in-Ok-clause-spends : goal.returns-in_ok-place-in-Ok-clause-spends
 returns-in_ok-place-in-Ok-clause-spends g c tells entry loss =
@@ -73,3 +73,6 @@ returns-in_err-id-clause-spends g c tells entry loss = inl (omega (arith, c.owne
 
 pub returns-in_err-place-in-Ok-clause-spends : goal.returns-in_err-place-in-Ok-clause-spends
 returns-in_err-place-in-Ok-clause-spends g c tells entry loss = inl (omega (arith, c.owner.ensures.looked.reads.looks.spare))
+
+pub returns-in_err-place-in-Ok-clause-edits : goal.returns-in_err-place-in-Ok-clause-edits
+returns-in_err-place-in-Ok-clause-edits g c = edits_err c.from_residual-in_err-place-in-Ok.ensures.1 (edits_short {U = ℕ} (edits_looked _ c.owner.ensures.looked))

@@ -1,4 +1,4 @@
-use Rattle.std.proofs.Common.{◌≡◌, [], ◌∷◌, sym, ◌∙◌, ap, subst, arith}
+use Rattle.std.proofs.Common.{◌≡◌, [], ◌∷◌, sym, ◌∙◌, ap, subst, arith, ℕ}
 use Rattle.std.specs.Prelude.{Some}
 use Rattle.sector_disk.specs.Lists.{Content}
 use Rattle.catalog.specs.Pairs.{value_at}
@@ -18,7 +18,7 @@ use Rattle.volume_base.proofs.Noticed.{next_is}
 use Rattle.volume_base.proofs.Sited.{fits_above, fits_name, some_name}
 use Rattle.volume_names.proofs.Fine.{fine_site, fine_told, fine_tree}
 use Rattle.volume_base.proofs.Framed.{edits_err, edits_ok, edits_spent}
-use Rattle.volume_base.proofs.Joined.{edits_both, edits_serves}
+use Rattle.volume_base.proofs.Joined.{edits_both, edits_serves, edits_short}
 use Rattle.volume_names.proofs.making.make_under.Goals as goal
 
 pub folder-requires-clause-fits : goal.folder-requires-clause-fits
@@ -53,7 +53,7 @@ returns-in_ok-one_change-in-Ok-clause-tree g c tells =
 
 pub returns-in_ok-one_change-in-Ok-clause-edits : goal.returns-in_ok-one_change-in-Ok-clause-edits
 returns-in_ok-one_change-in-Ok-clause-edits g c =
-    edits_ok (edits_spent (edits_both g.met.P.SectorView.follows_trans c.folder.ensures.looked.edits c.in_ok-one_change-in-Ok.ensures.edits) (λ tells. omega (arith, c.folder.ensures.looked.reads.looks.spare, c.make_in.ensures.edits.ran.spent (c.folder.ensures.looked.reads.looks.same.tells ∙ tells), load_still c.args.volume.now c.folder.new.self (g.P.SectorView.space c.args.space.now) (g.P.SectorView.space c.folder.new.space) c.folder.ensures.looked.reads tells)))
+    edits_ok (edits_spent (edits_both g.met.P.SectorView.follows_trans c.folder.ensures.looked.edits c.in_ok-make_in-in-Ok.ensures.edits) (λ tells. omega (arith, c.folder.ensures.looked.reads.looks.spare, c.make_in.ensures.edits.ran.spent (c.folder.ensures.looked.reads.looks.same.tells ∙ tells), load_still c.args.volume.now c.folder.new.self (g.P.SectorView.space c.args.space.now) (g.P.SectorView.space c.folder.new.space) c.folder.ensures.looked.reads tells)))
 
 pub returns-in_ok-one_change-in-Ok-clause-serves : goal.returns-in_ok-one_change-in-Ok-clause-serves
 returns-in_ok-one_change-in-Ok-clause-serves g c =
@@ -70,7 +70,7 @@ returns-in_ok-one_change-in-Ok-clause-lists g c tells = record {
 
 pub returns-in_err-one_change-in-Ok-clause-edits : goal.returns-in_err-one_change-in-Ok-clause-edits
 returns-in_err-one_change-in-Ok-clause-edits g c =
-    edits_err c.from_residual-in_err-one_change-in-Ok.ensures.1 (edits_spent (edits_both g.met.P.SectorView.follows_trans c.folder.ensures.looked.edits c.in_err-one_change-in-Ok.ensures.edits) (λ tells. omega (arith, c.folder.ensures.looked.reads.looks.spare, c.make_in.ensures.edits.ran.spent (c.folder.ensures.looked.reads.looks.same.tells ∙ tells), load_still c.args.volume.now c.folder.new.self (g.P.SectorView.space c.args.space.now) (g.P.SectorView.space c.folder.new.space) c.folder.ensures.looked.reads tells)))
+    edits_err c.from_residual-in_err-one_change-in-Ok.ensures.1 (edits_short {U = ℕ} (edits_spent (edits_both g.met.P.SectorView.follows_trans c.folder.ensures.looked.edits c.in_ok-make_in-in-Ok.ensures.edits) (λ tells. omega (arith, c.folder.ensures.looked.reads.looks.spare, c.make_in.ensures.edits.ran.spent (c.folder.ensures.looked.reads.looks.same.tells ∙ tells), load_still c.args.volume.now c.folder.new.self (g.P.SectorView.space c.args.space.now) (g.P.SectorView.space c.folder.new.space) c.folder.ensures.looked.reads tells))))
 
 pub returns-in_err-make_in-in-Ok-clause-edits : goal.returns-in_err-make_in-in-Ok-clause-edits
 returns-in_err-make_in-in-Ok-clause-edits g c =

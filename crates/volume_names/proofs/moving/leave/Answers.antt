@@ -4,8 +4,8 @@ use Rattle.volume_names.specs.Moving.{Leaves}
 use Rattle.volume_base.proofs.FoundEntry.{ok_so, ok_true, settled_threads}
 use Rattle.volume_names.proofs.MoveRoom.{node_moved, room_to_move, spent_move}
 use Rattle.volume_names.proofs.Moved.{from_after, goal_free, replaced_move, source_stands, threads_moved}
-use Rattle.volume_base.proofs.Framed.{edits_err, edits_ok, edits_spent}
-use Rattle.volume_base.proofs.Joined.{edits_both}
+use Rattle.volume_base.proofs.Framed.{edits_err, edits_spent}
+use Rattle.volume_base.proofs.Joined.{edits_both, edits_short}
 use Rattle.volume_names.proofs.moving.leave.Goals as goal
 
 pub relocate-requires-clause-threads : goal.relocate-requires-clause-threads
@@ -47,4 +47,4 @@ touch-requires-clause-room g c = c.fits_update.ensures.room c.if-not-fits_update
 
 pub returns-then-not-fits_update-clause-edits : goal.returns-then-not-fits_update-clause-edits
 returns-then-not-fits_update-clause-edits g c =
-    edits_ok (edits_spent c.in_ok-relocate.ensures.edits (λ tells. omega (arith, spent_move c.edits_have_room.ensures c.edits_take_their_load.ensures c.args.volume.now c.relocate.new.volume (g.P.SectorView.space c.args.space.now) (g.P.SectorView.space c.relocate.new.space) c.requires.room c.requires.size (c.relocate.ensures.takes []) tells)))
+    edits_short (edits_spent c.in_ok-relocate.ensures.edits (λ tells. omega (arith, spent_move c.edits_have_room.ensures c.edits_take_their_load.ensures c.args.volume.now c.relocate.new.volume (g.P.SectorView.space c.args.space.now) (g.P.SectorView.space c.relocate.new.space) c.requires.room c.requires.size (c.relocate.ensures.takes []) tells)))

@@ -1,4 +1,4 @@
-use Rattle.std.proofs.Common.{◌≡◌, ◌+◌, ◌/◌, ℕ, List, length, sym, ◌∙◌, ap, subst, arith, refl}
+use Rattle.std.proofs.Common.{◌≡◌, ◌+◌, ◌/◌, ℕ, List, length, sym, ◌∙◌, ap, subst, arith}
 use Rattle.std.specs.Prelude.{Some, true}
 use Rattle.hfs_volume.specs.Records.{placed_in, record_at}
 use Rattle.volume_base.specs.Changing.{catalog_node}
@@ -11,10 +11,8 @@ use Rattle.volume_base.specs.declared.volume.Volume.{Volume}
 use Rattle.volume_base.proofs.FoundEntry.{ok_both, ok_so, ok_true}
 use Rattle.volume_names.proofs.PrivateOpened.{free_name, private_opened, root_after, threads_made}
 use Rattle.volume_names.proofs.EditsLeft.{left_as}
-use Rattle.volume_base.proofs.Framed.{edits_spent}
-use Rattle.volume_base.proofs.Joined.{edits_both}
-use Rattle.volume_base.proofs.Commanding.{touches_none}
-use Rattle.volume_base.proofs.Besides.{blocks_none}
+use Rattle.volume_base.proofs.Framed.{edits_spent, edits_err}
+use Rattle.volume_base.proofs.Joined.{edits_both, edits_wanting}
 use Rattle.volume_names.proofs.private_folder.make_private.Goals as goal
 
 pub add_new-requires-clause-some : goal.add_new-requires-clause-some
@@ -56,7 +54,7 @@ pub returns-clause-edits : goal.returns-clause-edits
 returns-clause-edits g c = edits_spent (edits_both g.met.P.SectorView.follows_trans c.add_new.ensures.edits c.recount.ensures.edits) (λ tells. omega arith)
 
 pub returns-in_err-name-clause-edits : goal.returns-in_err-name-clause-edits
-returns-in_err-name-clause-edits g c = record { ran = record { below = g.met.P.SectorView.follows_refl c.args.space.now; cause = search; service = c.requires.serves.stands.service; stands = search; touches = λ committed. touches_none committed _ (g.P.SectorView.space c.args.space.now); spent = λ tells. omega arith }; own = refl; blocks = blocks_none c.args.volume.now }
+returns-in_err-name-clause-edits g c = edits_err c.from_residual.ensures.1 (edits_wanting {T = ℕ} _ g.met.P.SectorView.follows_refl c.requires.serves.stands)
 
 pub returns-clause-left : goal.returns-clause-left
 returns-clause-left g c edits beside load =

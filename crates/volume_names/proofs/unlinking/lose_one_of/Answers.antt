@@ -11,6 +11,7 @@ use Rattle.volume_base.proofs.FoundEntry.{ok_so}
 use Rattle.volume_names.proofs.LastFile.{last_of, file_of}
 use Rattle.volume_names.specs.LossLoads.{SpendsFor, SpendsShared}
 use Rattle.volume_base.proofs.Joined.{edits_wanting}
+use Rattle.volume_base.proofs.Framed.{edits_err}
 use Rattle.volume_names.proofs.unlinking.lose_one_of.Goals as goal
 
 pub unlink_last-requires-clause-some_file : goal.unlink_last-requires-clause-some_file
@@ -81,3 +82,6 @@ returns-then-is_empty-clause-edits g c = edits_wanting _ g.met.P.SectorView.foll
 
 pub returns-in-None-clause-edits : goal.returns-in-None-clause-edits
 returns-in-None-clause-edits g c = edits_wanting _ g.met.P.SectorView.follows_refl c.requires.serves.stands
+
+pub returns-in_err-copy_name-in-Some-clause-edits : goal.returns-in_err-copy_name-in-Some-clause-edits
+returns-in_err-copy_name-in-Some-clause-edits g c = edits_err c.from_residual.ensures.1 (edits_wanting {T = ℕ} _ g.met.P.SectorView.follows_refl c.requires.serves.stands)

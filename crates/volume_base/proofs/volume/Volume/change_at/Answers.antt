@@ -3,7 +3,7 @@ use Rattle.hfs_model.specs.declared.plain.PlainEntry.{PlainEntry}
 use Rattle.hfs_volume.specs.TreeOf.{tree_of}
 use Rattle.volume_base.specs.Watching.{change_of}
 use Rattle.volume_base.proofs.Watched.{root_is}
-use Rattle.volume_base.proofs.Looked.{looked_none}
+use Rattle.volume_base.proofs.Looked.{looked_none, looked_fault, looked_wanting}
 use Rattle.volume_base.proofs.volume.Volume.change_at.Goals as goal
 
 pub change_under-requires-clause-split : goal.change_under-requires-clause-split
@@ -17,3 +17,6 @@ returns-in_ok-one_change-in-None-clause-told g c tells not_own entry is =
 
 pub returns-in_ok-one_change-in-None-clause-looked : goal.returns-in_ok-one_change-in-None-clause-looked
 returns-in_ok-one_change-in-None-clause-looked g c = looked_none g.met.P.SectorView.follows_refl c.requires.serves.stands
+
+pub returns-in_err-one_change-in-None-clause-looked : goal.returns-in_err-one_change-in-None-clause-looked
+returns-in_err-one_change-in-None-clause-looked g c = looked_fault c.from_residual.ensures.1 (looked_wanting {T = ℕ} g.met.P.SectorView.follows_refl c.requires.serves.stands)

@@ -6,6 +6,7 @@ use Rattle.volume_base.specs.Moving.{route_in}
 use Rattle.volume_base.specs.Watching.{change_of}
 use Rattle.volume_base.proofs.Linkable.{link_pair}
 use Rattle.volume_base.proofs.Sited.{fits_above, fits_name}
+use Rattle.volume_base.proofs.Looked.{looked_fault, looked_short}
 use Rattle.volume_base.proofs.volume.Volume.change_name.Goals as goal
 
 pub route-requires-clause-from_fits : goal.route-requires-clause-from_fits
@@ -25,3 +26,6 @@ returns-in_ok-one_change-in-Ok-clause-told g c tells not_own goal_not_own pair i
     let told = link_pair c.sound_has_plain_tree.ensures c.args.self.now (g.P.SectorView.space c.args.space.now).content (c.requires.serves.stands.stands tells).trees (c.requires.serves.settled tells) c.args.from.now c.args.to.now c.args.above.now c.args.under.now c.args.old.now c.args.name.now c.requires.split c.requires.goal_split not_own goal_not_own c.requires.from_fits c.requires.to_fits c.in_ok-way.field-0
     (subst (λ (p : List (List ℕ)). c.in_ok-way.field-0 ≡ route_in (lists_of c.args.self.now (g.P.SectorView.space c.args.space.now).content).catalog_pairs c.args.self.now.private p c.args.above.now c.args.under.now c.args.name.now) c.as_slice.ensures (c.in_ok-way.ensures.found tells)) c.in-Ok.way c.in-Ok.is pair is in
     c.in_ok-one_change-in-Ok.ensures ∙ (λ i. change_of c.args.line change.Linked (sym told.0 i) (sym told.1 i).folder (sym told.1 i).name ∷ [])
+
+pub returns-in_err-one_change-in-Ok-clause-looked : goal.returns-in_err-one_change-in-Ok-clause-looked
+returns-in_err-one_change-in-Ok-clause-looked g c = looked_fault c.from_residual-in_err-one_change-in-Ok.ensures.1 (looked_short {U = ℕ} c.route.ensures.looked)

@@ -4,6 +4,7 @@ use Rattle.volume_base.specs.Lists.{lists_of}
 use Rattle.volume_base.specs.Watching.{change_of, standing_in}
 use Rattle.volume_base.proofs.Sited.{fits_above}
 use Rattle.volume_base.proofs.Watched.{not_err, place_of, standing_told, standing_value}
+use Rattle.volume_base.proofs.Looked.{looked_fault, looked_short}
 use Rattle.volume_base.proofs.volume.Volume.change_under.Goals as goal
 
 pub standing-requires-clause-fits : goal.standing-requires-clause-fits
@@ -22,3 +23,6 @@ pub returns-in-Err-clause-told : goal.returns-in-Err-clause-told
 returns-in-Err-clause-told g c tells not_own entry is =
     let told = standing_told c.sound_has_plain_tree.ensures c.args.self.now (g.P.SectorView.space c.args.space.now).content (c.requires.serves.stands.stands tells).trees (c.requires.serves.settled tells) c.args.path.now c.args.above.now c.args.name.now c.requires.split not_own c.requires.fits c.in_ok-at.field-0 (c.in_ok-at.ensures.found tells ∙ ap (λ (p : List (List ℕ)). standing_in (lists_of c.args.self.now (g.P.SectorView.space c.args.space.now).content).catalog_pairs c.args.self.now.private p c.args.above.now) c.as_slice.ensures) entry is in
     absurd (not_err c.in-Err._why (place_of entry) c.in_ok-at.field-0 c.in-Err.is told.0)
+
+pub returns-in_err-one_change-in-Ok-clause-looked : goal.returns-in_err-one_change-in-Ok-clause-looked
+returns-in_err-one_change-in-Ok-clause-looked g c = looked_fault c.from_residual-in_err-one_change-in-Ok.ensures.1 (looked_short {U = ℕ} c.standing.ensures.looked)

@@ -9,6 +9,7 @@ use Rattle.volume_base.specs.Watching.{change_of}
 use Rattle.volume_base.proofs.Noticed.{not_told, pair_told}
 use Rattle.volume_base.proofs.Routed.{way_refused}
 use Rattle.volume_base.proofs.Sited.{fits_above, fits_name}
+use Rattle.volume_base.proofs.Looked.{looked_fault, looked_short}
 use Rattle.volume_base.proofs.volume.Volume.change_way.Goals as goal
 
 pub route-requires-clause-from_fits : goal.route-requires-clause-from_fits
@@ -34,3 +35,6 @@ returns-in-Err-clause-told g c tells not_own goal_not_own pair is =
     absurd (not_told (to_mv (tree_of (g.P.SectorView.space c.args.space.now).content) c.args.from.now c.args.to.now) c.in-Err._why pair
     (way_refused c.sound_has_plain_tree.ensures c.args.self.now (g.P.SectorView.space c.args.space.now).content (c.requires.serves.stands.stands tells).trees (c.requires.serves.settled tells) c.args.from.now c.args.to.now c.args.above.now c.args.under.now c.args.old.now c.args.name.now c.requires.split c.requires.goal_split not_own goal_not_own c.requires.from_fits c.requires.to_fits c.in_ok-way.field-0
     (subst (λ (p : List (List ℕ)). c.in_ok-way.field-0 ≡ route_in (lists_of c.args.self.now (g.P.SectorView.space c.args.space.now).content).catalog_pairs c.args.self.now.private p c.args.above.now c.args.under.now c.args.name.now) c.as_slice.ensures (c.in_ok-way.ensures.found tells)) c.in-Err._why c.in-Err.is) is)
+
+pub returns-in_err-one_change-in-Ok-clause-looked : goal.returns-in_err-one_change-in-Ok-clause-looked
+returns-in_err-one_change-in-Ok-clause-looked g c = looked_fault c.from_residual-in_err-one_change-in-Ok.ensures.1 (looked_short {U = ℕ} c.route.ensures.looked)
