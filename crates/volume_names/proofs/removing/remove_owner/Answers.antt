@@ -23,8 +23,11 @@ pub bare-requires-clause-inline : goal.bare-requires-clause-inline
 bare-requires-clause-inline g c tells = settled_inline c.args.volume.now (g.P.SectorView.space c.args.space.now).content (c.requires.serves.settled tells)
 
 pub remove_folder-requires-clause-serves : goal.remove_folder-requires-clause-serves
-remove_folder-requires-clause-serves g c = record { stands = c.in_ok-bare.ensures.edits.ran.stands; settled = λ later. let tells = sym c.bare.ensures.frame.space.same.tells ∙ later in
-    settled_bared c.args.volume.now c.bare.new.volume (g.P.SectorView.space c.args.space.now) (g.P.SectorView.space c.bare.new.space) c.args.at.id (c.in_ok-bare.ensures.bares tells) (c.requires.serves.settled tells) (c.requires.serves.stands.stands tells) (c.in_ok-bare.ensures.edits.ran.stands.stands later) (has_them c.args.volume.now.header c.if-volume-eq0.false) }
+remove_folder-requires-clause-serves g c = record {
+  stands = c.in_ok-bare.ensures.edits.ran.stands;
+  settled = λ later. let tells = sym c.bare.ensures.frame.space.same.tells ∙ later in
+      settled_bared c.args.volume.now c.bare.new.volume (g.P.SectorView.space c.args.space.now) (g.P.SectorView.space c.bare.new.space) c.args.at.id (c.in_ok-bare.ensures.bares tells) (c.requires.serves.settled tells) (c.requires.serves.stands.stands tells) (c.in_ok-bare.ensures.edits.ran.stands.stands later) (has_them c.args.volume.now.header c.if-volume-eq0.false);
+}
 
 pub remove_folder-requires-clause-leaving : goal.remove_folder-requires-clause-leaving
 remove_folder-requires-clause-leaving g c later =
