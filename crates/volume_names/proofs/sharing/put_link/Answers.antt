@@ -1,4 +1,4 @@
-use Rattle.std.proofs.Common.{[], ◌∙◌, ap}
+use Rattle.std.proofs.Common.{[], ◌∙◌, ap, arith}
 use Rattle.hfs_volume.specs.Records.{placed_in, record_at}
 use Rattle.volume_base.specs.Lists.{lists_of}
 use Rattle.volume_names.proofs.EditsLeft.{left_edited, spare_edited}

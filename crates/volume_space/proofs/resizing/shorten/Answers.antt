@@ -119,3 +119,6 @@ returns-in-Ok-clause-idle g c =
     if_so (λ (said : Option Reply). IfNone said (ReadsVolume c.facts.new.self c.shorten_told.new.volume (g.P.SectorView.space c.facts.new.space) (g.P.SectorView.space c.shorten_told.new.space)))
     (λ (said : Option Reply). IfNone said (ReadsVolume c.args.volume.now c.shorten_told.new.volume (g.P.SectorView.space c.args.space.now) (g.P.SectorView.space c.shorten_told.new.space))) c.shorten_told.result
     (λ said was. none_so said _ _ (λ reads. volume_both c.args.volume.now c.facts.new.self c.shorten_told.new.volume (g.P.SectorView.space c.args.space.now) (g.P.SectorView.space c.facts.new.space) (g.P.SectorView.space c.shorten_told.new.space) c.facts.ensures.looked.reads reads) was) c.shorten_told.ensures.idle
+
+pub returns-in-Err-clause-settled : goal.returns-in-Err-clause-settled
+returns-in-Err-clause-settled g c tells = c.facts.ensures.serves.settled (c.facts.ensures.looked.reads.looks.same.tells ∙ tells)

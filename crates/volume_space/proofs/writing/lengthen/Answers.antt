@@ -149,3 +149,6 @@ returns-in_err-told-clause-capacity g c = c.facts.ensures.looked.reads.keeps.cap
 
 pub returns-in_err-told-clause-same : goal.returns-in_err-told-clause-same
 returns-in_err-told-clause-same g c = c.facts.ensures.looked.reads.looks.same
+
+pub returns-in-Err-clause-settled : goal.returns-in-Err-clause-settled
+returns-in-Err-clause-settled g c tells = c.facts.ensures.serves.settled (c.facts.ensures.looked.reads.looks.same.tells ∙ tells)
