@@ -1,6 +1,5 @@
 //! A command judged before its step: by its weight, and by the room that there is.
 ghost use Rattle.std.specs.Prelude.{◌≡◌, ℕ, List, nat_lt, true, false, IsTrue, IfOk, if◌then◌else◌};
-ghost use Rattle.btree_edit.specs.Causes.{HasTroubleCause};
 ghost use Rattle.hfs_language.specs.Written.{FitsCommand};
 ghost use Rattle.hfs_model.specs.Step.{only_reads};
 ghost use Rattle.hfs_volume.specs.Content.{volume_of};
@@ -8,9 +7,8 @@ ghost use Rattle.hfs_volume.specs.TreeOf.{tree_of};
 ghost use Rattle.hfs_volume.specs.Weight.{data_of, needs_cut, weight_with};
 ghost use Rattle.hfs_volume.specs.declared.cost.Cost.TheVariants as cost;
 ghost use Rattle.volume_base.specs.Fitting.{takable_of};
-ghost use Rattle.volume_base.specs.Looking.{ReadsVolume};
+ghost use Rattle.volume_base.specs.Frame.{Looked, Serves};
 ghost use Rattle.volume_base.specs.Room.{capacity_of};
-ghost use Rattle.volume_base.specs.Standing.{IsSettled, StandsOver};
 ghost use Rattle.volume_step.specs.Anew.{FitsAlike};
 ghost use Rattle.volume_step.specs.Steps.{FitsNow, GrowsTheFirst, IsCutFirst, IsDirect, IsJudged, IsTaken, IsTakenAlike, PutsNow, growth_or, verdict_of};
 ghost use Rattle.volume_step.specs.declared.judging.Verdict.TheVariants as verdict;
@@ -92,8 +90,7 @@ pub(crate) fn judge<P: SectorSpace>(
     space: &mut P,
     command: &Command,
 ) -> Result<Verdict, Trouble>
-    requires stands { StandsOver volume.old (P.SectorView.space space.old) }
-    requires settled { IsTrue (P.SectorView.space space.old).tells → IsSettled volume.old (P.SectorView.space space.old).content }
+    requires serves { Serves volume.old (P.SectorView.space space.old) }
     requires fits { FitsCommand command.now }
     requires changes { only_reads command.now ≡ false }
     ensures judged { IsTrue (P.SectorView.space space.old).tells → IfOk result (λ verdict. IsJudged verdict (capacity_of volume.old) command.now (P.SectorView.space space.old).content) }
@@ -107,11 +104,8 @@ pub(crate) fn judge<P: SectorSpace>(
     ensures cuts { IsTrue (P.SectorView.space space.old).tells → needs_cut (volume_of (P.SectorView.space space.old).content) (data_of (tree_of (P.SectorView.space space.old).content) command.now) ≡ true → IfOk result IsCutFirst }
     // Where its data is put now, nothing goes ahead of it.
     ensures puts { IsTrue (P.SectorView.space space.old).tells → PutsNow command.now volume.old (P.SectorView.space space.old) → IfOk result IsDirect }
-    ensures reads { ReadsVolume volume.old volume.new (P.SectorView.space space.old) (P.SectorView.space space.new) }
-    ensures stands { StandsOver volume.new (P.SectorView.space space.new) }
-    ensures settled { IsTrue (P.SectorView.space space.old).tells → IsSettled volume.new (P.SectorView.space space.new).content }
-    ensures below { P.SectorView.follows space.old space.new }
-    ensures cause { HasTroubleCause (P.SectorView.space space.old).faults (P.SectorView.space space.new).faults result }
+    ensures looked { Looked P.SectorView.space P.SectorView.follows volume.old volume.new space.old space.new result }
+    ensures serves { Serves volume.new (P.SectorView.space space.new) }
 {
     match weigh(volume, alloc, space, command)? {
         Some(weight) => Ok(verdict_of(weight, space.spare())),

@@ -1,22 +1,19 @@
 use Rattle.volume_step.proofs.Loaded.{within, within_reads}
-use Rattle.std.proofs.Common.{ℕ, List, sym, ◌∙◌, ap, subst, refl, []}
-use Rattle.std.specs.List.{Contains}
+use Rattle.std.proofs.Common.{sym, ◌∙◌, ap, subst, refl, [], arith}
 use Rattle.sector_disk.specs.Lists.{Content}
 use Rattle.hfs_language.specs.declared.command.Command.TheVariants as command
 use Rattle.hfs_model.specs.Step.{to_ln}
 use Rattle.hfs_volume.specs.TreeOf.{tree_of}
 use Rattle.volume_base.specs.Room.{capacity_of}
-use Rattle.volume_base.specs.Touching.{Touches}
-use Rattle.volume_base.proofs.Commanding.{touches_both, touches_looks}
 use Rattle.volume_space.proofs.Sounding.{sound_here}
-use Rattle.volume_base.proofs.Still.{own_still}
 use Rattle.volume_step.specs.Steps.{Affords, KeepsJournal, StepsTo}
 use Rattle.volume_step.specs.declared.outcome.Outcome.TheVariants as outcome
-use Rattle.volume_step.proofs.Done.{holds_kept}
 use Rattle.volume_step.proofs.Linked.{link_place, link_steps}
 use Rattle.std.proofs.lemmas.Bool.{true≢false}
 use Rattle.hfs_volume.specs.Weight.{edits, edits_of}
 use Rattle.volume_step.proofs.MetNow.{fewer_are, link_fewer, met_still, replied}
+use Rattle.volume_base.proofs.Framed.{edits_err, edits_ok, edits_spent, looked_err, looked_ok}
+use Rattle.volume_base.proofs.Joined.{edits_both}
 use Rattle.volume_step.proofs.linking.link_file.Goals as goal
 
 pub returns-clause-answered : goal.returns-clause-answered
@@ -36,40 +33,6 @@ returns-clause-place g c tells =
     (sound_here c.ln.new.volume (g.P.SectorView.space c.ln.new.space) (c.in_ok-reply.ensures.edits.ran.stands.stands ((c.ln.ensures.edits.ran.touches (g.P.SectorView.space c.args.space.now).content).same.tells ∙ (c.change_linked.ensures.looked.reads.looks.same.tells ∙ tells))) (c.in_ok-reply.ensures.serves.settled ((c.ln.ensures.edits.ran.touches []).same.tells ∙ (c.change_linked.ensures.looked.reads.looks.same.tells ∙ tells))))
     (subst (λ (k : Content). Affords (capacity_of c.args.volume.now) (command.Ln c.args.from.now c.args.to.now) k) (sym (c.change_linked.ensures.looked.reads.looks.content tells)) (c.requires.affords tells)) c.in_ok-reply.reply (c.in_ok-reply.ensures.reply (c.change_linked.ensures.looked.reads.looks.same.tells ∙ tells)) (c.in_ok-reply.ensures.tree (c.change_linked.ensures.looked.reads.looks.same.tells ∙ tells)) (c.in_ok-reply.ensures.lists (c.change_linked.ensures.looked.reads.looks.same.tells ∙ tells)))
 
-pub returns-clause-holds : goal.returns-clause-holds
-returns-clause-holds g c committed was = holds_kept committed c.change_linked.new.self c.ln.new.volume c.ln.ensures.edits.blocks.map (holds_kept committed c.args.volume.now c.change_linked.new.self c.change_linked.ensures.looked.reads.keeps.map was)
-
-pub returns-clause-below : goal.returns-clause-below
-returns-clause-below g c = g.met.P.SectorView.follows_trans c.args.space.now c.change_linked.new.space c.ln.new.space c.change_linked.ensures.looked.edits.ran.below c.ln.ensures.edits.ran.below
-
-pub returns-clause-touches : goal.returns-clause-touches
-returns-clause-touches g c committed =
-    touches_both committed _ (g.P.SectorView.space c.args.space.now) (g.P.SectorView.space c.change_linked.new.space) (g.P.SectorView.space c.ln.new.space) (touches_looks committed _ (g.P.SectorView.space c.args.space.now) (g.P.SectorView.space c.change_linked.new.space) c.change_linked.ensures.looked.reads.looks)
-    (subst (λ (l : List ℕ). Touches committed (λ s. Contains l s) (g.P.SectorView.space c.change_linked.new.space) (g.P.SectorView.space c.ln.new.space)) (own_still c.args.volume.now c.change_linked.new.self (g.P.SectorView.space c.args.space.now) (g.P.SectorView.space c.change_linked.new.space) c.change_linked.ensures.looked.reads) (c.ln.ensures.edits.ran.touches committed))
-
-pub returns-in_err-reply-clause-touches : goal.returns-in_err-reply-clause-touches
-returns-in_err-reply-clause-touches g c committed =
-    touches_both committed _ (g.P.SectorView.space c.args.space.now) (g.P.SectorView.space c.change_linked.new.space) (g.P.SectorView.space c.ln.new.space) (touches_looks committed _ (g.P.SectorView.space c.args.space.now) (g.P.SectorView.space c.change_linked.new.space) c.change_linked.ensures.looked.reads.looks)
-    (subst (λ (l : List ℕ). Touches committed (λ s. Contains l s) (g.P.SectorView.space c.change_linked.new.space) (g.P.SectorView.space c.ln.new.space)) (own_still c.args.volume.now c.change_linked.new.self (g.P.SectorView.space c.args.space.now) (g.P.SectorView.space c.change_linked.new.space) c.change_linked.ensures.looked.reads) (c.ln.ensures.edits.ran.touches committed))
-
-pub returns-in_err-changes-clause-touches : goal.returns-in_err-changes-clause-touches
-returns-in_err-changes-clause-touches g c committed = touches_looks committed _ (g.P.SectorView.space c.args.space.now) (g.P.SectorView.space c.change_linked.new.space) c.change_linked.ensures.looked.reads.looks
-
-pub returns-then-not-fits_make-clause-touches : goal.returns-then-not-fits_make-clause-touches
-returns-then-not-fits_make-clause-touches g c committed = touches_looks committed _ (g.P.SectorView.space c.args.space.now) (g.P.SectorView.space c.change_linked.new.space) c.change_linked.ensures.looked.reads.looks
-
-pub returns-clause-capacity : goal.returns-clause-capacity
-returns-clause-capacity g c = c.ln.ensures.edits.blocks.capacity ∙ c.change_linked.ensures.looked.reads.keeps.capacity
-
-pub returns-clause-shrunk : goal.returns-clause-shrunk
-returns-clause-shrunk g c = c.ln.ensures.edits.blocks.shrunk ∙ c.change_linked.ensures.looked.reads.keeps.shrunk
-
-pub returns-in_err-reply-clause-capacity : goal.returns-in_err-reply-clause-capacity
-returns-in_err-reply-clause-capacity g c = c.ln.ensures.edits.blocks.capacity ∙ c.change_linked.ensures.looked.reads.keeps.capacity
-
-pub returns-in_err-reply-clause-shrunk : goal.returns-in_err-reply-clause-shrunk
-returns-in_err-reply-clause-shrunk g c = c.ln.ensures.edits.blocks.shrunk ∙ c.change_linked.ensures.looked.reads.keeps.shrunk
-
 pub returns-clause-done : goal.returns-clause-done
 returns-clause-done g c tells met =
     replied (capacity_of c.args.volume.now) (command.Ln c.args.from.now c.args.to.now) (g.P.SectorView.space c.args.space.now).content (g.P.SectorView.space c.change_linked.new.space).content (c.change_linked.ensures.looked.reads.looks.content tells) refl (c.requires.affords tells) c.in_ok-reply.reply c.in_ok-changes.changes (c.in_ok-reply.ensures.reply (c.change_linked.ensures.looked.reads.looks.same.tells ∙ tells))
@@ -88,11 +51,20 @@ returns-clause-loads g c tells = within (command.Ln c.args.from.now c.args.to.no
 pub returns-then-not-fits_make-clause-loads : goal.returns-then-not-fits_make-clause-loads
 returns-then-not-fits_make-clause-loads g c tells = within_reads (command.Ln c.args.from.now c.args.to.now) c.args.volume.now c.change_linked.new.self (g.P.SectorView.space c.args.space.now) (g.P.SectorView.space c.change_linked.new.space) c.change_linked.ensures.looked.reads
 
-pub returns-in_err-reply-clause-below : goal.returns-in_err-reply-clause-below
-returns-in_err-reply-clause-below g c = g.met.P.SectorView.follows_trans c.args.space.now c.change_linked.new.space c.ln.new.space c.change_linked.ensures.looked.edits.ran.below c.ln.ensures.edits.ran.below
-
 pub returns-in_err-reply-clause-loads : goal.returns-in_err-reply-clause-loads
 returns-in_err-reply-clause-loads g c tells = within (command.Ln c.args.from.now c.args.to.now) c.args.volume.now c.change_linked.new.self (g.P.SectorView.space c.args.space.now) (g.P.SectorView.space c.change_linked.new.space) (g.P.SectorView.space c.ln.new.space) c.change_linked.ensures.looked.reads tells refl refl (c.requires.affords tells) (c.ln.ensures.loads (c.change_linked.ensures.looked.reads.looks.same.tells ∙ tells))
 
 pub returns-in_err-changes-clause-loads : goal.returns-in_err-changes-clause-loads
 returns-in_err-changes-clause-loads g c tells = within_reads (command.Ln c.args.from.now c.args.to.now) c.args.volume.now c.change_linked.new.self (g.P.SectorView.space c.args.space.now) (g.P.SectorView.space c.change_linked.new.space) c.change_linked.ensures.looked.reads
+
+pub returns-clause-edits : goal.returns-clause-edits
+returns-clause-edits g c = edits_ok (edits_spent (edits_both g.met.P.SectorView.follows_trans c.change_linked.ensures.looked.edits c.in_ok-reply.ensures.edits) (λ tells. omega arith))
+
+pub returns-in_err-reply-clause-edits : goal.returns-in_err-reply-clause-edits
+returns-in_err-reply-clause-edits g c = edits_err c.from_residual-in_err-reply.ensures.1 (edits_spent (edits_both g.met.P.SectorView.follows_trans c.change_linked.ensures.looked.edits c.in_err-reply.ensures.edits) (λ tells. omega arith))
+
+pub returns-in_err-changes-clause-edits : goal.returns-in_err-changes-clause-edits
+returns-in_err-changes-clause-edits g c = looked_err _ c.from_residual.ensures.1 c.in_err-changes.ensures.looked
+
+pub returns-then-not-fits_make-clause-edits : goal.returns-then-not-fits_make-clause-edits
+returns-then-not-fits_make-clause-edits g c = looked_ok _ c.change_linked.ensures.looked

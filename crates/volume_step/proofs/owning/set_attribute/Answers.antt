@@ -1,21 +1,19 @@
-use Rattle.std.proofs.Common.{ℕ, List, sym, ◌∙◌, ap, subst, refl, []}
+use Rattle.std.proofs.Common.{sym, ◌∙◌, ap, subst, refl, [], arith}
 use Rattle.std.proofs.lemmas.Bool.{true≢false}
-use Rattle.std.specs.List.{Contains}
 use Rattle.sector_disk.specs.Lists.{Content}
 use Rattle.hfs_language.specs.declared.command.Command.TheVariants as command
 use Rattle.hfs_model.specs.Step.{reached}
 use Rattle.hfs_volume.specs.TreeOf.{tree_of}
 use Rattle.hfs_volume.specs.Weight.{edits}
 use Rattle.volume_base.specs.Room.{capacity_of}
-use Rattle.volume_base.specs.Touching.{Touches}
-use Rattle.volume_base.proofs.Commanding.{touches_both, touches_looks}
 use Rattle.volume_space.proofs.Sounding.{sound_here}
-use Rattle.volume_base.proofs.Still.{own_still}
 use Rattle.volume_step.specs.Steps.{Affords, KeepsJournal, StepsTo}
 use Rattle.volume_step.specs.declared.outcome.Outcome.TheVariants as outcome
-use Rattle.volume_step.proofs.Done.{set_place, set_steps, holds_kept}
+use Rattle.volume_step.proofs.Done.{set_place, set_steps}
 use Rattle.volume_step.proofs.MetNow.{done_ok, met_still, set_fine}
 use Rattle.volume_step.proofs.Loaded.{within, within_reads}
+use Rattle.volume_base.proofs.Framed.{edits_err, edits_ok, edits_spent, looked_err, looked_ok}
+use Rattle.volume_base.proofs.Joined.{edits_both}
 use Rattle.volume_step.proofs.owning.set_attribute.Goals as goal
 
 pub returns-clause-answered : goal.returns-clause-answered
@@ -34,31 +32,6 @@ returns-clause-place g c tells =
     (sound_here c.change_at.new.self (g.P.SectorView.space c.change_at.new.space) (c.change_at.ensures.looked.stands.stands (c.change_at.ensures.looked.reads.looks.same.tells ∙ tells)) (c.change_at.ensures.serves.settled (c.change_at.ensures.looked.reads.looks.same.tells ∙ tells)))
     (sound_here c.setattr.new.volume (g.P.SectorView.space c.setattr.new.space) (c.in_ok-reply.ensures.edits.ran.stands.stands ((c.setattr.ensures.edits.ran.touches (g.P.SectorView.space c.args.space.now).content).same.tells ∙ (c.change_at.ensures.looked.reads.looks.same.tells ∙ tells))) (c.in_ok-reply.ensures.serves.settled ((c.setattr.ensures.edits.ran.touches []).same.tells ∙ (c.change_at.ensures.looked.reads.looks.same.tells ∙ tells))))
     (subst (λ (k : Content). Affords (capacity_of c.args.volume.now) (command.SetAttr c.args.path.now c.args.name.now c.args.value.now) k) (sym (c.change_at.ensures.looked.reads.looks.content tells)) (c.requires.affords tells)) c.in_ok-reply.reply (c.in_ok-reply.ensures.reply (c.change_at.ensures.looked.reads.looks.same.tells ∙ tells)) (c.in_ok-reply.ensures.tree (c.change_at.ensures.looked.reads.looks.same.tells ∙ tells)) (c.in_ok-reply.ensures.lists (c.change_at.ensures.looked.reads.looks.same.tells ∙ tells)))
-
-pub returns-clause-holds : goal.returns-clause-holds
-returns-clause-holds g c committed was = holds_kept committed c.change_at.new.self c.setattr.new.volume c.setattr.ensures.edits.blocks.map (holds_kept committed c.args.volume.now c.change_at.new.self c.change_at.ensures.looked.reads.keeps.map was)
-
-pub returns-clause-below : goal.returns-clause-below
-returns-clause-below g c = g.met.P.SectorView.follows_trans c.args.space.now c.change_at.new.space c.setattr.new.space c.change_at.ensures.looked.edits.ran.below c.setattr.ensures.edits.ran.below
-
-pub returns-clause-touches : goal.returns-clause-touches
-returns-clause-touches g c committed =
-    touches_both committed _ (g.P.SectorView.space c.args.space.now) (g.P.SectorView.space c.change_at.new.space) (g.P.SectorView.space c.setattr.new.space) (touches_looks committed _ (g.P.SectorView.space c.args.space.now) (g.P.SectorView.space c.change_at.new.space) c.change_at.ensures.looked.reads.looks)
-    (subst (λ (l : List ℕ). Touches committed (λ s. Contains l s) (g.P.SectorView.space c.change_at.new.space) (g.P.SectorView.space c.setattr.new.space)) (own_still c.args.volume.now c.change_at.new.self (g.P.SectorView.space c.args.space.now) (g.P.SectorView.space c.change_at.new.space) c.change_at.ensures.looked.reads) (c.setattr.ensures.edits.ran.touches committed))
-
-pub returns-in_err-reply-clause-touches : goal.returns-in_err-reply-clause-touches
-returns-in_err-reply-clause-touches g c committed =
-    touches_both committed _ (g.P.SectorView.space c.args.space.now) (g.P.SectorView.space c.change_at.new.space) (g.P.SectorView.space c.setattr.new.space) (touches_looks committed _ (g.P.SectorView.space c.args.space.now) (g.P.SectorView.space c.change_at.new.space) c.change_at.ensures.looked.reads.looks)
-    (subst (λ (l : List ℕ). Touches committed (λ s. Contains l s) (g.P.SectorView.space c.change_at.new.space) (g.P.SectorView.space c.setattr.new.space)) (own_still c.args.volume.now c.change_at.new.self (g.P.SectorView.space c.args.space.now) (g.P.SectorView.space c.change_at.new.space) c.change_at.ensures.looked.reads) (c.setattr.ensures.edits.ran.touches committed))
-
-pub returns-in_err-changes-clause-touches : goal.returns-in_err-changes-clause-touches
-returns-in_err-changes-clause-touches g c committed = touches_looks committed _ (g.P.SectorView.space c.args.space.now) (g.P.SectorView.space c.change_at.new.space) c.change_at.ensures.looked.reads.looks
-
-pub returns-then-not-fits_setattr-clause-touches : goal.returns-then-not-fits_setattr-clause-touches
-returns-then-not-fits_setattr-clause-touches g c committed = touches_looks committed _ (g.P.SectorView.space c.args.space.now) (g.P.SectorView.space c.change_at.new.space) c.change_at.ensures.looked.reads.looks
-
-pub returns-in_err-reply-clause-below : goal.returns-in_err-reply-clause-below
-returns-in_err-reply-clause-below g c = g.met.P.SectorView.follows_trans c.args.space.now c.change_at.new.space c.setattr.new.space c.change_at.ensures.looked.edits.ran.below c.setattr.ensures.edits.ran.below
 
 pub returns-clause-done : goal.returns-clause-done
 returns-clause-done g c tells met =
@@ -81,3 +54,15 @@ returns-in_err-changes-clause-loads g c tells = within_reads (command.SetAttr c.
 
 pub returns-then-not-fits_setattr-clause-loads : goal.returns-then-not-fits_setattr-clause-loads
 returns-then-not-fits_setattr-clause-loads g c tells = within_reads (command.SetAttr c.args.path.now c.args.name.now c.args.value.now) c.args.volume.now c.change_at.new.self (g.P.SectorView.space c.args.space.now) (g.P.SectorView.space c.change_at.new.space) c.change_at.ensures.looked.reads
+
+pub returns-clause-edits : goal.returns-clause-edits
+returns-clause-edits g c = edits_ok (edits_spent (edits_both g.met.P.SectorView.follows_trans c.change_at.ensures.looked.edits c.in_ok-reply.ensures.edits) (λ tells. omega arith))
+
+pub returns-in_err-reply-clause-edits : goal.returns-in_err-reply-clause-edits
+returns-in_err-reply-clause-edits g c = edits_err c.from_residual-in_err-reply.ensures.1 (edits_spent (edits_both g.met.P.SectorView.follows_trans c.change_at.ensures.looked.edits c.in_err-reply.ensures.edits) (λ tells. omega arith))
+
+pub returns-in_err-changes-clause-edits : goal.returns-in_err-changes-clause-edits
+returns-in_err-changes-clause-edits g c = looked_err _ c.from_residual.ensures.1 c.in_err-changes.ensures.looked
+
+pub returns-then-not-fits_setattr-clause-edits : goal.returns-then-not-fits_setattr-clause-edits
+returns-then-not-fits_setattr-clause-edits g c = looked_ok _ c.change_at.ensures.looked

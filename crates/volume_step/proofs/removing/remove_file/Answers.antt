@@ -1,17 +1,13 @@
-use Rattle.std.proofs.Common.{ℕ, List, sym, ◌∙◌, ap, subst, refl, []}
-use Rattle.std.specs.List.{Contains}
+use Rattle.std.proofs.Common.{sym, ◌∙◌, ap, subst, refl, [], arith}
 use Rattle.sector_disk.specs.Lists.{Content}
 use Rattle.hfs_language.specs.declared.command.Command.TheVariants as command
 use Rattle.hfs_model.specs.Step.{reached}
 use Rattle.hfs_volume.specs.TreeOf.{tree_of}
 use Rattle.volume_base.specs.Room.{capacity_of}
-use Rattle.volume_base.specs.Touching.{Touches}
-use Rattle.volume_base.proofs.Commanding.{touches_both, touches_looks}
 use Rattle.volume_space.proofs.Sounding.{sound_here}
-use Rattle.volume_base.proofs.Still.{own_still}
 use Rattle.volume_step.specs.Steps.{Affords, KeepsJournal, StepsTo}
 use Rattle.volume_step.specs.declared.outcome.Outcome.TheVariants as outcome
-use Rattle.volume_step.proofs.Done.{free_path, holds_kept, line_free, lose_place, lose_steps}
+use Rattle.volume_step.proofs.Done.{free_path, line_free, lose_place, lose_steps}
 use Rattle.std.proofs.lemmas.Bool.{true≢false}
 use Rattle.hfs_volume.specs.Weight.{Edits, edits, edits_of}
 use Rattle.volume_base.specs.Fitting.{AreMet}
@@ -19,6 +15,8 @@ use Rattle.volume_weights.proofs.LoseWeight.{rm_alone}
 use Rattle.volume_base.proofs.Rising.{settled_is_plain}
 use Rattle.volume_step.proofs.MetNow.{fewer_are, loses_one, loss_fewer, met_still, not_root, opens_fewer, replied}
 use Rattle.volume_step.proofs.Loaded.{within, within_reads}
+use Rattle.volume_base.proofs.Framed.{edits_err, edits_ok, edits_spent, looked_err, looked_ok}
+use Rattle.volume_base.proofs.Joined.{edits_both}
 use Rattle.volume_step.proofs.removing.remove_file.Goals as goal
 
 pub returns-clause-answered : goal.returns-clause-answered
@@ -38,43 +36,6 @@ returns-clause-place g c tells =
     (sound_here c.rm.new.volume (g.P.SectorView.space c.rm.new.space) (c.in_ok-reply.ensures.edits.ran.stands.stands ((c.rm.ensures.edits.ran.touches (g.P.SectorView.space c.args.space.now).content).same.tells ∙ (c.change_at.ensures.looked.reads.looks.same.tells ∙ tells))) (c.in_ok-reply.ensures.serves.settled ((c.rm.ensures.edits.ran.touches []).same.tells ∙ (c.change_at.ensures.looked.reads.looks.same.tells ∙ tells))))
     (subst (λ (k : Content). Affords (capacity_of c.args.volume.now) (command.Rm c.args.path.now) k) (sym (c.change_at.ensures.looked.reads.looks.content tells)) (c.requires.affords tells)) c.in_ok-reply.reply (c.in_ok-reply.ensures.reply (c.change_at.ensures.looked.reads.looks.same.tells ∙ tells)) (c.in_ok-reply.ensures.tree (c.change_at.ensures.looked.reads.looks.same.tells ∙ tells)) (c.in_ok-reply.ensures.lists (c.change_at.ensures.looked.reads.looks.same.tells ∙ tells)))
 
-pub returns-clause-holds : goal.returns-clause-holds
-returns-clause-holds g c committed was = holds_kept committed c.change_at.new.self c.rm.new.volume c.rm.ensures.edits.blocks.map (holds_kept committed c.args.volume.now c.change_at.new.self c.change_at.ensures.looked.reads.keeps.map was)
-
-pub returns-clause-below : goal.returns-clause-below
-returns-clause-below g c = g.met.P.SectorView.follows_trans c.args.space.now c.change_at.new.space c.rm.new.space c.change_at.ensures.looked.edits.ran.below c.rm.ensures.edits.ran.below
-
-pub returns-clause-touches : goal.returns-clause-touches
-returns-clause-touches g c committed =
-    touches_both committed _ (g.P.SectorView.space c.args.space.now) (g.P.SectorView.space c.change_at.new.space) (g.P.SectorView.space c.rm.new.space) (touches_looks committed _ (g.P.SectorView.space c.args.space.now) (g.P.SectorView.space c.change_at.new.space) c.change_at.ensures.looked.reads.looks)
-    (subst (λ (l : List ℕ). Touches committed (λ s. Contains l s) (g.P.SectorView.space c.change_at.new.space) (g.P.SectorView.space c.rm.new.space)) (own_still c.args.volume.now c.change_at.new.self (g.P.SectorView.space c.args.space.now) (g.P.SectorView.space c.change_at.new.space) c.change_at.ensures.looked.reads) (c.rm.ensures.edits.ran.touches committed))
-
-pub returns-in_err-reply-clause-touches : goal.returns-in_err-reply-clause-touches
-returns-in_err-reply-clause-touches g c committed =
-    touches_both committed _ (g.P.SectorView.space c.args.space.now) (g.P.SectorView.space c.change_at.new.space) (g.P.SectorView.space c.rm.new.space) (touches_looks committed _ (g.P.SectorView.space c.args.space.now) (g.P.SectorView.space c.change_at.new.space) c.change_at.ensures.looked.reads.looks)
-    (subst (λ (l : List ℕ). Touches committed (λ s. Contains l s) (g.P.SectorView.space c.change_at.new.space) (g.P.SectorView.space c.rm.new.space)) (own_still c.args.volume.now c.change_at.new.self (g.P.SectorView.space c.args.space.now) (g.P.SectorView.space c.change_at.new.space) c.change_at.ensures.looked.reads) (c.rm.ensures.edits.ran.touches committed))
-
-pub returns-in_err-changes-clause-touches : goal.returns-in_err-changes-clause-touches
-returns-in_err-changes-clause-touches g c committed = touches_looks committed _ (g.P.SectorView.space c.args.space.now) (g.P.SectorView.space c.change_at.new.space) c.change_at.ensures.looked.reads.looks
-
-pub returns-then-not-fits_lose-clause-touches : goal.returns-then-not-fits_lose-clause-touches
-returns-then-not-fits_lose-clause-touches g c committed = touches_looks committed _ (g.P.SectorView.space c.args.space.now) (g.P.SectorView.space c.change_at.new.space) c.change_at.ensures.looked.reads.looks
-
-pub returns-clause-capacity : goal.returns-clause-capacity
-returns-clause-capacity g c = c.rm.ensures.edits.blocks.capacity ∙ c.change_at.ensures.looked.reads.keeps.capacity
-
-pub returns-clause-shrunk : goal.returns-clause-shrunk
-returns-clause-shrunk g c = c.rm.ensures.edits.blocks.shrunk ∙ c.change_at.ensures.looked.reads.keeps.shrunk
-
-pub returns-in_err-reply-clause-capacity : goal.returns-in_err-reply-clause-capacity
-returns-in_err-reply-clause-capacity g c = c.rm.ensures.edits.blocks.capacity ∙ c.change_at.ensures.looked.reads.keeps.capacity
-
-pub returns-in_err-reply-clause-shrunk : goal.returns-in_err-reply-clause-shrunk
-returns-in_err-reply-clause-shrunk g c = c.rm.ensures.edits.blocks.shrunk ∙ c.change_at.ensures.looked.reads.keeps.shrunk
-
-pub returns-in_err-reply-clause-below : goal.returns-in_err-reply-clause-below
-returns-in_err-reply-clause-below g c = g.met.P.SectorView.follows_trans c.args.space.now c.change_at.new.space c.rm.new.space c.change_at.ensures.looked.edits.ran.below c.rm.ensures.edits.ran.below
-
 pub returns-clause-done : goal.returns-clause-done
 returns-clause-done g c tells met =
     replied (capacity_of c.args.volume.now) (command.Rm c.args.path.now) (g.P.SectorView.space c.args.space.now).content (g.P.SectorView.space c.change_at.new.space).content (c.change_at.ensures.looked.reads.looks.content tells) refl (c.requires.affords tells) c.in_ok-reply.reply c.in_ok-changes.changes (c.in_ok-reply.ensures.reply (c.change_at.ensures.looked.reads.looks.same.tells ∙ tells))
@@ -83,8 +44,8 @@ pub returns-then-not-fits_lose-clause-done : goal.returns-then-not-fits_lose-cla
 returns-then-not-fits_lose-clause-done g c tells met =
     let tree = tree_of (g.P.SectorView.space c.args.space.now).content in
     let asked = edits_of tree (command.Rm c.args.path.now) in
-    let trees = (c.requires.stands.stands tells).trees in
-    let settled = c.requires.settled tells in
+    let trees = (c.requires.serves.stands.stands tells).trees in
+    let settled = c.requires.serves.settled tells in
     let one = loses_one tree c.args.path.now (c.requires.affords tells).no_refusal in
     let now : AreMet asked c.change_at.new.self (g.P.SectorView.space c.change_at.new.space) = met_still c.args.volume.now c.change_at.new.self (g.P.SectorView.space c.args.space.now) (g.P.SectorView.space c.change_at.new.space) c.change_at.ensures.looked.reads tells asked met in
     absurd (true≢false (sym (c.fits_lose.ensures.met (c.change_at.ensures.looked.reads.looks.same.tells ∙ tells)
@@ -106,3 +67,15 @@ returns-in_err-reply-clause-loads g c tells = within (command.Rm c.args.path.now
 
 pub returns-in_err-changes-clause-loads : goal.returns-in_err-changes-clause-loads
 returns-in_err-changes-clause-loads g c tells = within_reads (command.Rm c.args.path.now) c.args.volume.now c.change_at.new.self (g.P.SectorView.space c.args.space.now) (g.P.SectorView.space c.change_at.new.space) c.change_at.ensures.looked.reads
+
+pub returns-clause-edits : goal.returns-clause-edits
+returns-clause-edits g c = edits_ok (edits_spent (edits_both g.met.P.SectorView.follows_trans c.change_at.ensures.looked.edits c.in_ok-reply.ensures.edits) (λ tells. omega arith))
+
+pub returns-in_err-reply-clause-edits : goal.returns-in_err-reply-clause-edits
+returns-in_err-reply-clause-edits g c = edits_err c.from_residual-in_err-reply.ensures.1 (edits_spent (edits_both g.met.P.SectorView.follows_trans c.change_at.ensures.looked.edits c.in_err-reply.ensures.edits) (λ tells. omega arith))
+
+pub returns-in_err-changes-clause-edits : goal.returns-in_err-changes-clause-edits
+returns-in_err-changes-clause-edits g c = looked_err _ c.from_residual.ensures.1 c.in_err-changes.ensures.looked
+
+pub returns-then-not-fits_lose-clause-edits : goal.returns-then-not-fits_lose-clause-edits
+returns-then-not-fits_lose-clause-edits g c = looked_ok _ c.change_at.ensures.looked

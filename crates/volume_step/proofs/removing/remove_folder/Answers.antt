@@ -1,21 +1,19 @@
-use Rattle.std.proofs.Common.{ℕ, List, sym, ◌∙◌, subst, ap}
-use Rattle.std.specs.List.{Contains}
+use Rattle.std.proofs.Common.{ℕ, sym, ◌∙◌, subst, ap, arith}
 use Rattle.std.specs.Prelude.{IfOk, OnOk}
 use Rattle.sector_disk.specs.Lists.{Content}
 use Rattle.hfs_language.specs.declared.command.Command.TheVariants as command
 use Rattle.volume_base.specs.Room.{capacity_of}
-use Rattle.volume_base.specs.Touching.{Touches}
-use Rattle.volume_base.proofs.Commanding.{touches_both, touches_looks}
-use Rattle.volume_base.proofs.Still.{own_still}
 use Rattle.volume_step.specs.Steps.{Affords, KeepsJournal, StepsTo}
 use Rattle.volume_step.specs.declared.outcome.Outcome.{Outcome}
-use Rattle.volume_step.proofs.Done.{free_path, holds_kept, line_free}
+use Rattle.volume_step.proofs.Done.{free_path, line_free}
 use Rattle.hfs_volume.specs.Content.{VolumeState, has_attributes, volume_of}
 use Rattle.hfs_volume.specs.TreeOf.{tree_of}
 use Rattle.hfs_volume.specs.Weight.{Edits, edits}
 use Rattle.volume_base.specs.Fitting.{AreMet}
 use Rattle.volume_step.proofs.MetNow.{met_still, removal_edits, removes_one}
 use Rattle.volume_step.proofs.Loaded.{within_behind, within_reads}
+use Rattle.volume_base.proofs.Framed.{edits_spent, looked_err}
+use Rattle.volume_base.proofs.Joined.{edits_both}
 use Rattle.volume_step.proofs.removing.remove_folder.Goals as goal
 
 pub remove_with-requires-clause-affords : goal.remove_with-requires-clause-affords
@@ -30,20 +28,6 @@ returns-clause-answered g c tells =
 pub returns-clause-place : goal.returns-clause-place
 returns-clause-place g c tells = subst (λ (k : Content). OnOk c.remove_with.result (KeepsJournal k (g.P.SectorView.space c.remove_with.new.space).content)) (c.bare_count.ensures.looked.reads.looks.content tells) (c.remove_with.ensures.place (c.bare_count.ensures.looked.reads.looks.same.tells ∙ tells))
 
-pub returns-clause-holds : goal.returns-clause-holds
-returns-clause-holds g c committed was = c.remove_with.ensures.holds committed (holds_kept committed c.args.volume.now c.bare_count.new.volume c.bare_count.ensures.looked.reads.keeps.map was)
-
-pub returns-clause-touches : goal.returns-clause-touches
-returns-clause-touches g c committed =
-    touches_both committed _ (g.P.SectorView.space c.args.space.now) (g.P.SectorView.space c.bare_count.new.space) (g.P.SectorView.space c.remove_with.new.space) (touches_looks committed _ (g.P.SectorView.space c.args.space.now) (g.P.SectorView.space c.bare_count.new.space) c.bare_count.ensures.looked.reads.looks)
-    (subst (λ (l : List ℕ). Touches committed (λ s. Contains l s) (g.P.SectorView.space c.bare_count.new.space) (g.P.SectorView.space c.remove_with.new.space)) (own_still c.args.volume.now c.bare_count.new.volume (g.P.SectorView.space c.args.space.now) (g.P.SectorView.space c.bare_count.new.space) c.bare_count.ensures.looked.reads) (c.remove_with.ensures.touches committed))
-
-pub returns-in_err-many-clause-touches : goal.returns-in_err-many-clause-touches
-returns-in_err-many-clause-touches g c committed = touches_looks committed _ (g.P.SectorView.space c.args.space.now) (g.P.SectorView.space c.bare_count.new.space) c.bare_count.ensures.looked.reads.looks
-
-pub returns-clause-settled : goal.returns-clause-settled
-returns-clause-settled g c tells = c.remove_with.ensures.settled (c.bare_count.ensures.looked.reads.looks.same.tells ∙ tells)
-
 pub returns-clause-done : goal.returns-clause-done
 returns-clause-done g c tells met =
     let tree = tree_of (g.P.SectorView.space c.args.space.now).content in
@@ -51,7 +35,7 @@ returns-clause-done g c tells met =
     let many = c.in_ok-many.ensures.told tells (free_path c.args.path.now (line_free tree (command.Rmdir c.args.path.now) (c.requires.affords tells).no_refusal)) one.0 one.1 in
     c.remove_with.ensures.done (c.bare_count.ensures.looked.reads.looks.same.tells ∙ tells)
     (met_still c.args.volume.now c.bare_count.new.volume (g.P.SectorView.space c.args.space.now) (g.P.SectorView.space c.bare_count.new.space) c.bare_count.ensures.looked.reads tells (edits 0 2 c.in_ok-many.many 1) (subst (λ (e : Edits). AreMet e c.args.volume.now (g.P.SectorView.space c.args.space.now)) (removal_edits tree c.args.path.now one.0 one.1 ∙ (λ i. edits 0 2 (sym many i) 1)) met))
-    (λ lacks. c.in_ok-many.ensures.none tells (sym (ap (λ (l : VolumeState). has_attributes l.head) (c.requires.settled tells).lists) ∙ ap (λ (k : Content). has_attributes (volume_of k).head) (sym (c.bare_count.ensures.looked.reads.looks.content tells)) ∙ lacks))
+    (λ lacks. c.in_ok-many.ensures.none tells (sym (ap (λ (l : VolumeState). has_attributes l.head) (c.requires.serves.settled tells).lists) ∙ ap (λ (k : Content). has_attributes (volume_of k).head) (sym (c.bare_count.ensures.looked.reads.looks.content tells)) ∙ lacks))
 
 pub returns-clause-loads : goal.returns-clause-loads
 returns-clause-loads g c tells =
@@ -59,3 +43,9 @@ returns-clause-loads g c tells =
 
 pub returns-in_err-many-clause-loads : goal.returns-in_err-many-clause-loads
 returns-in_err-many-clause-loads g c tells = within_reads (command.Rmdir c.args.path.now) c.args.volume.now c.bare_count.new.volume (g.P.SectorView.space c.args.space.now) (g.P.SectorView.space c.bare_count.new.space) c.bare_count.ensures.looked.reads
+
+pub returns-clause-edits : goal.returns-clause-edits
+returns-clause-edits g c = edits_spent (edits_both g.met.P.SectorView.follows_trans c.bare_count.ensures.looked.edits c.remove_with.ensures.edits) (λ tells. omega arith)
+
+pub returns-in_err-many-clause-edits : goal.returns-in_err-many-clause-edits
+returns-in_err-many-clause-edits g c = looked_err _ c.from_residual.ensures.1 c.in_err-many.ensures.looked

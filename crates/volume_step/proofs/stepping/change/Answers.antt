@@ -26,131 +26,131 @@ use Rattle.volume_step.proofs.stepping.change.Goals as goal
 
 pub perform-requires-clause-closed : goal.perform-requires-clause-closed
 perform-requires-clause-closed g c told at shut =
-    let tells = sym c.judge.ensures.reads.looks.same.tells ∙ told in
-    subst (λ (k : Content). IsJournalSector k at) (sym (c.judge.ensures.reads.looks.content tells)) (c.requires.closed tells at ((c.judge.ensures.reads.looks.closed tells at).0 shut))
+    let tells = sym c.judge.ensures.looked.reads.looks.same.tells ∙ told in
+    subst (λ (k : Content). IsJournalSector k at) (sym (c.judge.ensures.looked.reads.looks.content tells)) (c.requires.closed tells at ((c.judge.ensures.looked.reads.looks.closed tells at).0 shut))
 
 pub perform-requires-clause-affords : goal.perform-requires-clause-affords
 perform-requires-clause-affords g c told =
-    let tells = sym c.judge.ensures.reads.looks.same.tells ∙ told in
-    subst (λ (k : ℕ × Content). Affords k.0 c.args.command.now k.1) {x = ((capacity_of c.args.volume.now), (g.P.SectorView.space c.args.space.now).content)} {y = (capacity_of c.judge.new.volume, (g.P.SectorView.space c.judge.new.space).content)} (λ i. (sym c.judge.ensures.reads.keeps.capacity i, sym (c.judge.ensures.reads.looks.content (sym c.judge.ensures.reads.looks.same.tells ∙ told)) i))
-    (subst (λ (v : Verdict). IsJudged v (capacity_of c.args.volume.now) c.args.command.now (g.P.SectorView.space c.args.space.now).content) c.in-Fits.is (c.in_ok-why.ensures.judged (sym c.judge.ensures.reads.looks.same.tells ∙ told)))
+    let tells = sym c.judge.ensures.looked.reads.looks.same.tells ∙ told in
+    subst (λ (k : ℕ × Content). Affords k.0 c.args.command.now k.1) {x = ((capacity_of c.args.volume.now), (g.P.SectorView.space c.args.space.now).content)} {y = (capacity_of c.judge.new.volume, (g.P.SectorView.space c.judge.new.space).content)} (λ i. (sym c.judge.ensures.looked.reads.keeps.capacity i, sym (c.judge.ensures.looked.reads.looks.content (sym c.judge.ensures.looked.reads.looks.same.tells ∙ told)) i))
+    (subst (λ (v : Verdict). IsJudged v (capacity_of c.args.volume.now) c.args.command.now (g.P.SectorView.space c.args.space.now).content) c.in-Fits.is (c.in_ok-why.ensures.judged (sym c.judge.ensures.looked.reads.looks.same.tells ∙ told)))
 
 pub returns-in-Refused-clause-answered : goal.returns-in-Refused-clause-answered
 returns-in-Refused-clause-answered g c tells =
-    refused_steps (capacity_of c.args.volume.now) c.args.number c.args.command.now (g.P.SectorView.space c.args.space.now).content (g.P.SectorView.space c.judge.new.space).content (c.judge.ensures.reads.looks.content tells) (sound_here c.args.volume.now (g.P.SectorView.space c.args.space.now) (c.requires.stands.stands tells) (c.requires.settled tells)) c.requires.changes c.in-Refused.why
+    refused_steps (capacity_of c.args.volume.now) c.args.number c.args.command.now (g.P.SectorView.space c.args.space.now).content (g.P.SectorView.space c.judge.new.space).content (c.judge.ensures.looked.reads.looks.content tells) (sound_here c.args.volume.now (g.P.SectorView.space c.args.space.now) (c.requires.stands.stands tells) (c.requires.settled tells)) c.requires.changes c.in-Refused.why
     (subst (λ (v : Verdict). IsJudged v (capacity_of c.args.volume.now) c.args.command.now (g.P.SectorView.space c.args.space.now).content) c.in-Refused.is (c.in_ok-why.ensures.judged tells)) c.refusal.result c.refusal.ensures
 
 pub returns-in-Fits-clause-answered : goal.returns-in-Fits-clause-answered
 returns-in-Fits-clause-answered g c tells =
-    subst (λ (k : ℕ × Content). IfOk c.perform.result (λ (o : Outcome). StepsTo o k.0 c.args.number c.args.command.now k.1 (g.P.SectorView.space c.perform.new.space).content)) {x = (capacity_of c.judge.new.volume, (g.P.SectorView.space c.judge.new.space).content)} {y = ((capacity_of c.args.volume.now), (g.P.SectorView.space c.args.space.now).content)} (λ i. (c.judge.ensures.reads.keeps.capacity i, c.judge.ensures.reads.looks.content tells i)) (c.perform.ensures.answered (c.judge.ensures.reads.looks.same.tells ∙ tells))
+    subst (λ (k : ℕ × Content). IfOk c.perform.result (λ (o : Outcome). StepsTo o k.0 c.args.number c.args.command.now k.1 (g.P.SectorView.space c.perform.new.space).content)) {x = (capacity_of c.judge.new.volume, (g.P.SectorView.space c.judge.new.space).content)} {y = ((capacity_of c.args.volume.now), (g.P.SectorView.space c.args.space.now).content)} (λ i. (c.judge.ensures.looked.reads.keeps.capacity i, c.judge.ensures.looked.reads.looks.content tells i)) (c.perform.ensures.answered (c.judge.ensures.looked.reads.looks.same.tells ∙ tells))
 
 pub returns-in-Fits-clause-place : goal.returns-in-Fits-clause-place
-returns-in-Fits-clause-place g c tells = subst (λ (k : Content). OnOk c.perform.result (KeepsJournal k (g.P.SectorView.space c.perform.new.space).content)) (c.judge.ensures.reads.looks.content tells) (c.perform.ensures.place (c.judge.ensures.reads.looks.same.tells ∙ tells))
+returns-in-Fits-clause-place g c tells = subst (λ (k : Content). OnOk c.perform.result (KeepsJournal k (g.P.SectorView.space c.perform.new.space).content)) (c.judge.ensures.looked.reads.looks.content tells) (c.perform.ensures.place (c.judge.ensures.looked.reads.looks.same.tells ∙ tells))
 
 pub returns-in-Fits-clause-holds : goal.returns-in-Fits-clause-holds
-returns-in-Fits-clause-holds g c committed was = c.perform.ensures.holds committed (holds_kept committed c.args.volume.now c.judge.new.volume c.judge.ensures.reads.keeps.map was)
+returns-in-Fits-clause-holds g c committed was = c.perform.ensures.holds committed (holds_kept committed c.args.volume.now c.judge.new.volume c.judge.ensures.looked.reads.keeps.map was)
 
 pub returns-in-Fits-clause-touches : goal.returns-in-Fits-clause-touches
 returns-in-Fits-clause-touches g c committed holds laid =
     touches_behind committed c.args.volume.now c.judge.new.volume c.perform.new.volume (g.P.SectorView.space c.args.space.now) (g.P.SectorView.space c.judge.new.space) (g.P.SectorView.space c.perform.new.space)
-    (own_or_free_still c.args.volume.now c.judge.new.volume (g.P.SectorView.space c.args.space.now) (g.P.SectorView.space c.judge.new.space) c.judge.ensures.reads) c.judge.ensures.reads.looks
-    (c.perform.ensures.touches committed (holds_kept committed c.args.volume.now c.judge.new.volume c.judge.ensures.reads.keeps.map holds) (laid_still committed c.args.volume.now c.judge.new.volume c.judge.ensures.reads.keeps.header c.judge.ensures.reads.keeps.map laid))
+    (own_or_free_still c.args.volume.now c.judge.new.volume (g.P.SectorView.space c.args.space.now) (g.P.SectorView.space c.judge.new.space) c.judge.ensures.looked.reads) c.judge.ensures.looked.reads.looks
+    (c.perform.ensures.touches committed (holds_kept committed c.args.volume.now c.judge.new.volume c.judge.ensures.looked.reads.keeps.map holds) (laid_still committed c.args.volume.now c.judge.new.volume c.judge.ensures.looked.reads.keeps.header c.judge.ensures.looked.reads.keeps.map laid))
 
 pub returns-in-Fits-clause-shrunk : goal.returns-in-Fits-clause-shrunk
 returns-in-Fits-clause-shrunk g c tells =
     subst (λ (k : Option ℕ × Content). IfOk c.perform.result (λ (o : Outcome). ShrinksAs o c.args.command.now k.1 k.0 (shrunk_of c.perform.new.volume))) {x = (shrunk_of c.judge.new.volume, (g.P.SectorView.space c.judge.new.space).content)} {y = (shrunk_of c.args.volume.now, (g.P.SectorView.space c.args.space.now).content)}
-    (λ i. (c.judge.ensures.reads.keeps.shrunk i, c.judge.ensures.reads.looks.content tells i)) (c.perform.ensures.shrunk (c.judge.ensures.reads.looks.same.tells ∙ tells))
+    (λ i. (c.judge.ensures.looked.reads.keeps.shrunk i, c.judge.ensures.looked.reads.looks.content tells i)) (c.perform.ensures.shrunk (c.judge.ensures.looked.reads.looks.same.tells ∙ tells))
 
 pub returns-in-Refused-clause-shrunk : goal.returns-in-Refused-clause-shrunk
-returns-in-Refused-clause-shrunk g c tells = refused_shrinks _ _ _ _ _ c.refusal.result c.refusal.ensures c.judge.ensures.reads.keeps.shrunk
+returns-in-Refused-clause-shrunk g c tells = refused_shrinks _ _ _ _ _ c.refusal.result c.refusal.ensures c.judge.ensures.looked.reads.keeps.shrunk
 
 pub returns-in-Refused-clause-place : goal.returns-in-Refused-clause-place
-returns-in-Refused-clause-place g c tells = same_place (g.P.SectorView.space c.args.space.now).content (g.P.SectorView.space c.judge.new.space).content (c.judge.ensures.reads.looks.content tells)
+returns-in-Refused-clause-place g c tells = same_place (g.P.SectorView.space c.args.space.now).content (g.P.SectorView.space c.judge.new.space).content (c.judge.ensures.looked.reads.looks.content tells)
 
 pub returns-in-CommitFirst-clause-place : goal.returns-in-CommitFirst-clause-place
-returns-in-CommitFirst-clause-place g c tells = same_place (g.P.SectorView.space c.args.space.now).content (g.P.SectorView.space c.judge.new.space).content (c.judge.ensures.reads.looks.content tells)
+returns-in-CommitFirst-clause-place g c tells = same_place (g.P.SectorView.space c.args.space.now).content (g.P.SectorView.space c.judge.new.space).content (c.judge.ensures.looked.reads.looks.content tells)
 
 pub returns-in_err-why-clause-touches : goal.returns-in_err-why-clause-touches
-returns-in_err-why-clause-touches g c committed holds laid = touches_looked committed c.args.volume.now c.judge.new.volume (g.P.SectorView.space c.args.space.now) (g.P.SectorView.space c.judge.new.space) c.judge.ensures.reads.looks
+returns-in_err-why-clause-touches g c committed holds laid = touches_looked committed c.args.volume.now c.judge.new.volume (g.P.SectorView.space c.args.space.now) (g.P.SectorView.space c.judge.new.space) c.judge.ensures.looked.reads.looks
 
 pub returns-in-Refused-clause-touches : goal.returns-in-Refused-clause-touches
-returns-in-Refused-clause-touches g c committed holds laid = touches_looked committed c.args.volume.now c.judge.new.volume (g.P.SectorView.space c.args.space.now) (g.P.SectorView.space c.judge.new.space) c.judge.ensures.reads.looks
+returns-in-Refused-clause-touches g c committed holds laid = touches_looked committed c.args.volume.now c.judge.new.volume (g.P.SectorView.space c.args.space.now) (g.P.SectorView.space c.judge.new.space) c.judge.ensures.looked.reads.looks
 
 pub returns-in-CommitFirst-clause-touches : goal.returns-in-CommitFirst-clause-touches
-returns-in-CommitFirst-clause-touches g c committed holds laid = touches_looked committed c.args.volume.now c.judge.new.volume (g.P.SectorView.space c.args.space.now) (g.P.SectorView.space c.judge.new.space) c.judge.ensures.reads.looks
+returns-in-CommitFirst-clause-touches g c committed holds laid = touches_looked committed c.args.volume.now c.judge.new.volume (g.P.SectorView.space c.args.space.now) (g.P.SectorView.space c.judge.new.space) c.judge.ensures.looked.reads.looks
 
 -- ---- ahead of which a tree grows
 
 pub grow_first-requires-clause-closed : goal.grow_first-requires-clause-closed
 grow_first-requires-clause-closed g c told at shut =
-    let tells = sym c.judge.ensures.reads.looks.same.tells ∙ told in
-    subst (λ (k : Content). IsJournalSector k at) (sym (c.judge.ensures.reads.looks.content tells)) (c.requires.closed tells at ((c.judge.ensures.reads.looks.closed tells at).0 shut))
+    let tells = sym c.judge.ensures.looked.reads.looks.same.tells ∙ told in
+    subst (λ (k : Content). IsJournalSector k at) (sym (c.judge.ensures.looked.reads.looks.content tells)) (c.requires.closed tells at ((c.judge.ensures.looked.reads.looks.closed tells at).0 shut))
 
 pub grow_first-requires-clause-waits : goal.grow_first-requires-clause-waits
 grow_first-requires-clause-waits g c told =
-    let tells = sym c.judge.ensures.reads.looks.same.tells ∙ told in
-    subst (λ (k : ℕ × Content). WaitsForGrowth c.in-Grows.tree c.in-Grows.more k.0 c.args.command.now k.1) {x = ((capacity_of c.args.volume.now), (g.P.SectorView.space c.args.space.now).content)} {y = (capacity_of c.judge.new.volume, (g.P.SectorView.space c.judge.new.space).content)} (λ i. (sym c.judge.ensures.reads.keeps.capacity i, sym (c.judge.ensures.reads.looks.content (sym c.judge.ensures.reads.looks.same.tells ∙ told)) i))
+    let tells = sym c.judge.ensures.looked.reads.looks.same.tells ∙ told in
+    subst (λ (k : ℕ × Content). WaitsForGrowth c.in-Grows.tree c.in-Grows.more k.0 c.args.command.now k.1) {x = ((capacity_of c.args.volume.now), (g.P.SectorView.space c.args.space.now).content)} {y = (capacity_of c.judge.new.volume, (g.P.SectorView.space c.judge.new.space).content)} (λ i. (sym c.judge.ensures.looked.reads.keeps.capacity i, sym (c.judge.ensures.looked.reads.looks.content (sym c.judge.ensures.looked.reads.looks.same.tells ∙ told)) i))
     (subst (λ (v : Verdict). IsJudged v (capacity_of c.args.volume.now) c.args.command.now (g.P.SectorView.space c.args.space.now).content) c.in-Grows.is (c.in_ok-why.ensures.judged tells))
 
 pub returns-in-Grows-clause-answered : goal.returns-in-Grows-clause-answered
 returns-in-Grows-clause-answered g c tells =
-    subst (λ (k : ℕ × Content). IfOk c.grow_first.result (λ (o : Outcome). StepsTo o k.0 c.args.number c.args.command.now k.1 (g.P.SectorView.space c.grow_first.new.space).content)) {x = (capacity_of c.judge.new.volume, (g.P.SectorView.space c.judge.new.space).content)} {y = ((capacity_of c.args.volume.now), (g.P.SectorView.space c.args.space.now).content)} (λ i. (c.judge.ensures.reads.keeps.capacity i, c.judge.ensures.reads.looks.content tells i)) (c.grow_first.ensures.answered (c.judge.ensures.reads.looks.same.tells ∙ tells))
+    subst (λ (k : ℕ × Content). IfOk c.grow_first.result (λ (o : Outcome). StepsTo o k.0 c.args.number c.args.command.now k.1 (g.P.SectorView.space c.grow_first.new.space).content)) {x = (capacity_of c.judge.new.volume, (g.P.SectorView.space c.judge.new.space).content)} {y = ((capacity_of c.args.volume.now), (g.P.SectorView.space c.args.space.now).content)} (λ i. (c.judge.ensures.looked.reads.keeps.capacity i, c.judge.ensures.looked.reads.looks.content tells i)) (c.grow_first.ensures.answered (c.judge.ensures.looked.reads.looks.same.tells ∙ tells))
 
 pub returns-in-Grows-clause-place : goal.returns-in-Grows-clause-place
-returns-in-Grows-clause-place g c tells = subst (λ (k : Content). OnOk c.grow_first.result (KeepsJournal k (g.P.SectorView.space c.grow_first.new.space).content)) (c.judge.ensures.reads.looks.content tells) (c.grow_first.ensures.place (c.judge.ensures.reads.looks.same.tells ∙ tells))
+returns-in-Grows-clause-place g c tells = subst (λ (k : Content). OnOk c.grow_first.result (KeepsJournal k (g.P.SectorView.space c.grow_first.new.space).content)) (c.judge.ensures.looked.reads.looks.content tells) (c.grow_first.ensures.place (c.judge.ensures.looked.reads.looks.same.tells ∙ tells))
 
 pub returns-in-Grows-clause-holds : goal.returns-in-Grows-clause-holds
-returns-in-Grows-clause-holds g c committed was = c.grow_first.ensures.holds committed (holds_kept committed c.args.volume.now c.judge.new.volume c.judge.ensures.reads.keeps.map was)
+returns-in-Grows-clause-holds g c committed was = c.grow_first.ensures.holds committed (holds_kept committed c.args.volume.now c.judge.new.volume c.judge.ensures.looked.reads.keeps.map was)
 
 pub returns-in-Grows-clause-touches : goal.returns-in-Grows-clause-touches
 returns-in-Grows-clause-touches g c committed holds laid =
     touches_behind committed c.args.volume.now c.judge.new.volume c.grow_first.new.volume (g.P.SectorView.space c.args.space.now) (g.P.SectorView.space c.judge.new.space) (g.P.SectorView.space c.grow_first.new.space)
-    (own_or_free_still c.args.volume.now c.judge.new.volume (g.P.SectorView.space c.args.space.now) (g.P.SectorView.space c.judge.new.space) c.judge.ensures.reads) c.judge.ensures.reads.looks (c.grow_first.ensures.touches committed)
+    (own_or_free_still c.args.volume.now c.judge.new.volume (g.P.SectorView.space c.args.space.now) (g.P.SectorView.space c.judge.new.space) c.judge.ensures.looked.reads) c.judge.ensures.looked.reads.looks (c.grow_first.ensures.touches committed)
 
 pub returns-in-Grows-clause-shrunk : goal.returns-in-Grows-clause-shrunk
 returns-in-Grows-clause-shrunk g c tells =
     subst (λ (k : Option ℕ × Content). IfOk c.grow_first.result (λ (o : Outcome). ShrinksAs o c.args.command.now k.1 k.0 (shrunk_of c.grow_first.new.volume))) {x = (shrunk_of c.judge.new.volume, (g.P.SectorView.space c.judge.new.space).content)} {y = (shrunk_of c.args.volume.now, (g.P.SectorView.space c.args.space.now).content)}
-    (λ i. (c.judge.ensures.reads.keeps.shrunk i, c.judge.ensures.reads.looks.content tells i)) (c.grow_first.ensures.shrunk (c.judge.ensures.reads.looks.same.tells ∙ tells))
+    (λ i. (c.judge.ensures.looked.reads.keeps.shrunk i, c.judge.ensures.looked.reads.looks.content tells i)) (c.grow_first.ensures.shrunk (c.judge.ensures.looked.reads.looks.same.tells ∙ tells))
 
 -- ---- what the space's numbers are
 
 pub returns-in-Fits-clause-same : goal.returns-in-Fits-clause-same
-returns-in-Fits-clause-same g c = space_both _ _ _ c.judge.ensures.reads.looks.same c.perform.ensures.same
+returns-in-Fits-clause-same g c = space_both _ _ _ c.judge.ensures.looked.reads.looks.same c.perform.ensures.same
 
 pub returns-in-Grows-clause-same : goal.returns-in-Grows-clause-same
-returns-in-Grows-clause-same g c = space_both _ _ _ c.judge.ensures.reads.looks.same (c.grow_first.ensures.touches []).same
+returns-in-Grows-clause-same g c = space_both _ _ _ c.judge.ensures.looked.reads.looks.same (c.grow_first.ensures.touches []).same
 
 -- ---- ahead of which a file is cut
 
 pub cut_first-requires-clause-waits : goal.cut_first-requires-clause-waits
 cut_first-requires-clause-waits g c told =
-    let tells = sym c.judge.ensures.reads.looks.same.tells ∙ told in
-    subst (λ (k : Content). WaitsForCut k c.args.command.now) (sym (c.judge.ensures.reads.looks.content tells))
+    let tells = sym c.judge.ensures.looked.reads.looks.same.tells ∙ told in
+    subst (λ (k : Content). WaitsForCut k c.args.command.now) (sym (c.judge.ensures.looked.reads.looks.content tells))
     (subst (λ (v : Verdict). IsJudged v (capacity_of c.args.volume.now) c.args.command.now (g.P.SectorView.space c.args.space.now).content) c.in-CutFirst.is (c.in_ok-why.ensures.judged tells))
 
 pub returns-in-CutFirst-clause-answered : goal.returns-in-CutFirst-clause-answered
 returns-in-CutFirst-clause-answered g c tells =
-    subst (λ (k : ℕ × Content). IfOk c.cut_first.result (λ (o : Outcome). StepsTo o k.0 c.args.number c.args.command.now k.1 (g.P.SectorView.space c.cut_first.new.space).content)) {x = (capacity_of c.judge.new.volume, (g.P.SectorView.space c.judge.new.space).content)} {y = ((capacity_of c.args.volume.now), (g.P.SectorView.space c.args.space.now).content)} (λ i. (c.judge.ensures.reads.keeps.capacity i, c.judge.ensures.reads.looks.content tells i)) (c.cut_first.ensures.answered (c.judge.ensures.reads.looks.same.tells ∙ tells))
+    subst (λ (k : ℕ × Content). IfOk c.cut_first.result (λ (o : Outcome). StepsTo o k.0 c.args.number c.args.command.now k.1 (g.P.SectorView.space c.cut_first.new.space).content)) {x = (capacity_of c.judge.new.volume, (g.P.SectorView.space c.judge.new.space).content)} {y = ((capacity_of c.args.volume.now), (g.P.SectorView.space c.args.space.now).content)} (λ i. (c.judge.ensures.looked.reads.keeps.capacity i, c.judge.ensures.looked.reads.looks.content tells i)) (c.cut_first.ensures.answered (c.judge.ensures.looked.reads.looks.same.tells ∙ tells))
 
 pub returns-in-CutFirst-clause-place : goal.returns-in-CutFirst-clause-place
-returns-in-CutFirst-clause-place g c tells = subst (λ (k : Content). OnOk c.cut_first.result (KeepsJournal k (g.P.SectorView.space c.cut_first.new.space).content)) (c.judge.ensures.reads.looks.content tells) (c.cut_first.ensures.place (c.judge.ensures.reads.looks.same.tells ∙ tells))
+returns-in-CutFirst-clause-place g c tells = subst (λ (k : Content). OnOk c.cut_first.result (KeepsJournal k (g.P.SectorView.space c.cut_first.new.space).content)) (c.judge.ensures.looked.reads.looks.content tells) (c.cut_first.ensures.place (c.judge.ensures.looked.reads.looks.same.tells ∙ tells))
 
 pub returns-in-CutFirst-clause-holds : goal.returns-in-CutFirst-clause-holds
-returns-in-CutFirst-clause-holds g c committed was = c.cut_first.ensures.holds committed (holds_kept committed c.args.volume.now c.judge.new.volume c.judge.ensures.reads.keeps.map was)
+returns-in-CutFirst-clause-holds g c committed was = c.cut_first.ensures.holds committed (holds_kept committed c.args.volume.now c.judge.new.volume c.judge.ensures.looked.reads.keeps.map was)
 
 pub returns-in-CutFirst-clause-touches : goal.returns-in-CutFirst-clause-touches
 returns-in-CutFirst-clause-touches g c committed holds laid =
     touches_behind committed c.args.volume.now c.judge.new.volume c.cut_first.new.volume (g.P.SectorView.space c.args.space.now) (g.P.SectorView.space c.judge.new.space) (g.P.SectorView.space c.cut_first.new.space)
-    (own_or_free_still c.args.volume.now c.judge.new.volume (g.P.SectorView.space c.args.space.now) (g.P.SectorView.space c.judge.new.space) c.judge.ensures.reads) c.judge.ensures.reads.looks
+    (own_or_free_still c.args.volume.now c.judge.new.volume (g.P.SectorView.space c.args.space.now) (g.P.SectorView.space c.judge.new.space) c.judge.ensures.looked.reads) c.judge.ensures.looked.reads.looks
     (touches_own committed c.judge.new.volume c.cut_first.new.volume (g.P.SectorView.space c.judge.new.space) (g.P.SectorView.space c.cut_first.new.space) (c.cut_first.ensures.touches committed))
 
 pub returns-in-CutFirst-clause-shrunk : goal.returns-in-CutFirst-clause-shrunk
 returns-in-CutFirst-clause-shrunk g c tells =
     subst (λ (k : Option ℕ × Content). IfOk c.cut_first.result (λ (o : Outcome). ShrinksAs o c.args.command.now k.1 k.0 (shrunk_of c.cut_first.new.volume))) {x = (shrunk_of c.judge.new.volume, (g.P.SectorView.space c.judge.new.space).content)} {y = (shrunk_of c.args.volume.now, (g.P.SectorView.space c.args.space.now).content)}
-    (λ i. (c.judge.ensures.reads.keeps.shrunk i, c.judge.ensures.reads.looks.content tells i)) (c.cut_first.ensures.shrunk (c.judge.ensures.reads.looks.same.tells ∙ tells))
+    (λ i. (c.judge.ensures.looked.reads.keeps.shrunk i, c.judge.ensures.looked.reads.looks.content tells i)) (c.cut_first.ensures.shrunk (c.judge.ensures.looked.reads.looks.same.tells ∙ tells))
 
 pub returns-in-CutFirst-clause-same : goal.returns-in-CutFirst-clause-same
-returns-in-CutFirst-clause-same g c = space_both _ _ _ c.judge.ensures.reads.looks.same (c.cut_first.ensures.touches []).same
+returns-in-CutFirst-clause-same g c = space_both _ _ _ c.judge.ensures.looked.reads.looks.same (c.cut_first.ensures.touches []).same
 
 -- ---- what is ready
 
@@ -167,16 +167,16 @@ returns-in-Grows-clause-ready g c tells now =
     subst (λ (v : Verdict). IsJudged v (capacity_of c.args.volume.now) c.args.command.now (g.P.SectorView.space c.args.space.now).content) c.in-Grows.is (c.in_ok-why.ensures.judged tells) in
     let there = growth_there c.args.volume.now (g.P.SectorView.space c.args.space.now).content (c.requires.settled tells) c.args.command.now c.requires.changes now.no_data waits.no_refusal (capacity_of c.args.volume.now) (takable_of c.args.volume.now)
     now.load now.grow now.costs c.in-Grows.tree c.in-Grows.more first.0 first.1 in
-    c.grow_first.ensures.ready (c.judge.ensures.reads.looks.same.tells ∙ tells)
-    (wants_now c.args.command.now c.args.volume.now c.judge.new.volume (g.P.SectorView.space c.args.space.now) (g.P.SectorView.space c.judge.new.space) c.judge.ensures.reads tells c.requires.changes now c.in-Grows.tree c.in-Grows.more first.0 first.1 there)
+    c.grow_first.ensures.ready (c.judge.ensures.looked.reads.looks.same.tells ∙ tells)
+    (wants_now c.args.command.now c.args.volume.now c.judge.new.volume (g.P.SectorView.space c.args.space.now) (g.P.SectorView.space c.judge.new.space) c.judge.ensures.looked.reads tells c.requires.changes now c.in-Grows.tree c.in-Grows.more first.0 first.1 there)
 
 pub returns-in-Fits-clause-ready : goal.returns-in-Fits-clause-ready
 returns-in-Fits-clause-ready g c tells now =
-    let still = now_still c.args.command.now c.args.volume.now c.judge.new.volume (g.P.SectorView.space c.args.space.now) (g.P.SectorView.space c.judge.new.space) c.judge.ensures.reads tells now in
-    c.perform.ensures.ready (c.judge.ensures.reads.looks.same.tells ∙ tells) c.requires.changes still.0 (still.1 ∙ subst (λ (v : Verdict). IsTaken v now.grow) c.in-Fits.is (c.in_ok-why.ensures.taken tells now))
+    let still = now_still c.args.command.now c.args.volume.now c.judge.new.volume (g.P.SectorView.space c.args.space.now) (g.P.SectorView.space c.judge.new.space) c.judge.ensures.looked.reads tells now in
+    c.perform.ensures.ready (c.judge.ensures.looked.reads.looks.same.tells ∙ tells) c.requires.changes still.0 (still.1 ∙ subst (λ (v : Verdict). IsTaken v now.grow) c.in-Fits.is (c.in_ok-why.ensures.taken tells now))
 
 pub returns-in-Grows-clause-below : goal.returns-in-Grows-clause-below
-returns-in-Grows-clause-below g c = g.met.P.SectorView.follows_trans c.args.space.now c.judge.new.space c.grow_first.new.space c.judge.ensures.below c.grow_first.ensures.below
+returns-in-Grows-clause-below g c = g.met.P.SectorView.follows_trans c.args.space.now c.judge.new.space c.grow_first.new.space c.judge.ensures.looked.edits.ran.below c.grow_first.ensures.below
 
 pub returns-in-CommitFirst-clause-puts : goal.returns-in-CommitFirst-clause-puts
 returns-in-CommitFirst-clause-puts g c tells puts = absurd (subst IsDirect c.in-CommitFirst.is (c.in_ok-why.ensures.puts tells puts))
@@ -189,7 +189,7 @@ returns-in-Grows-clause-puts g c tells puts = absurd (subst IsDirect c.in-Grows.
 
 pub returns-in-Fits-clause-puts : goal.returns-in-Fits-clause-puts
 returns-in-Fits-clause-puts g c tells puts =
-    c.perform.ensures.puts (c.judge.ensures.reads.looks.same.tells ∙ tells) (puts_still c.args.command.now c.args.volume.now c.judge.new.volume (g.P.SectorView.space c.args.space.now) (g.P.SectorView.space c.judge.new.space) c.judge.ensures.reads tells puts)
+    c.perform.ensures.puts (c.judge.ensures.looked.reads.looks.same.tells ∙ tells) (puts_still c.args.command.now c.args.volume.now c.judge.new.volume (g.P.SectorView.space c.args.space.now) (g.P.SectorView.space c.judge.new.space) c.judge.ensures.looked.reads tells puts)
 
 -- ---- what costs the same of all free blocks
 
@@ -199,22 +199,22 @@ returns-in-CommitFirst-clause-alike g c tells it = absurd (subst (λ (v : Verdic
 pub returns-in-CutFirst-clause-alike : goal.returns-in-CutFirst-clause-alike
 returns-in-CutFirst-clause-alike g c tells it =
     let waits : WaitsForCut (g.P.SectorView.space c.args.space.now).content c.args.command.now = (subst (λ (v : Verdict). IsJudged v (capacity_of c.args.volume.now) c.args.command.now (g.P.SectorView.space c.args.space.now).content) c.in-CutFirst.is (c.in_ok-why.ensures.judged tells)) in
-    if_so _ _ c.cut_first.result (λ came short same. fits_cut c.args.command.now c.args.volume.now (g.P.SectorView.space c.args.space.now) c.requires.changes waits.1 it (lacks_still c.args.volume.now c.judge.new.volume (g.P.SectorView.space c.args.space.now) (g.P.SectorView.space c.judge.new.space) c.judge.ensures.reads tells (short same))) (c.cut_first.ensures.short (c.judge.ensures.reads.looks.same.tells ∙ tells))
+    if_so _ _ c.cut_first.result (λ came short same. fits_cut c.args.command.now c.args.volume.now (g.P.SectorView.space c.args.space.now) c.requires.changes waits.1 it (lacks_still c.args.volume.now c.judge.new.volume (g.P.SectorView.space c.args.space.now) (g.P.SectorView.space c.judge.new.space) c.judge.ensures.looked.reads tells (short same))) (c.cut_first.ensures.short (c.judge.ensures.looked.reads.looks.same.tells ∙ tells))
 
 pub returns-in-Grows-clause-alike : goal.returns-in-Grows-clause-alike
 returns-in-Grows-clause-alike g c tells it =
     let first = subst (λ (v : Verdict). IsTakenAlike v it.grow) c.in-Grows.is (c.in_ok-why.ensures.alike tells it) in
     let waits : WaitsForGrowth c.in-Grows.tree c.in-Grows.more (capacity_of c.args.volume.now) c.args.command.now (g.P.SectorView.space c.args.space.now).content =
     subst (λ (v : Verdict). IsJudged v (capacity_of c.args.volume.now) c.args.command.now (g.P.SectorView.space c.args.space.now).content) c.in-Grows.is (c.in_ok-why.ensures.judged tells) in
-    let wants = wants_so c.args.command.now c.args.volume.now c.judge.new.volume (g.P.SectorView.space c.args.space.now) (g.P.SectorView.space c.judge.new.space) (c.requires.settled tells) c.judge.ensures.reads tells c.requires.changes
+    let wants = wants_so c.args.command.now c.args.volume.now c.judge.new.volume (g.P.SectorView.space c.args.space.now) (g.P.SectorView.space c.judge.new.space) (c.requires.settled tells) c.judge.ensures.looked.reads tells c.requires.changes
     (uncut (needs_cut (volume_of (g.P.SectorView.space c.args.space.now).content) (data_of (tree_of (g.P.SectorView.space c.args.space.now).content) c.args.command.now)) (λ needs. cut_no_growth c.in-Grows.tree c.in-Grows.more (capacity_of c.args.volume.now) c.args.command.now (g.P.SectorView.space c.args.space.now).content c.requires.changes needs waits))
     it.load it.grow it.costs it.within waits.no_refusal c.in-Grows.tree c.in-Grows.more first.0 first.1 in
-    c.grow_first.ensures.ready (c.judge.ensures.reads.looks.same.tells ∙ tells) wants.0
+    c.grow_first.ensures.ready (c.judge.ensures.looked.reads.looks.same.tells ∙ tells) wants.0
 
 pub returns-in-Fits-clause-alike : goal.returns-in-Fits-clause-alike
 returns-in-Fits-clause-alike g c tells it =
-    let later = c.judge.ensures.reads.looks.same.tells ∙ tells in
-    elim (fits_alike c.args.command.now c.args.volume.now c.judge.new.volume (g.P.SectorView.space c.args.space.now) (g.P.SectorView.space c.judge.new.space) (c.requires.settled tells) c.judge.ensures.reads tells c.requires.changes
+    let later = c.judge.ensures.looked.reads.looks.same.tells ∙ tells in
+    elim (fits_alike c.args.command.now c.args.volume.now c.judge.new.volume (g.P.SectorView.space c.args.space.now) (g.P.SectorView.space c.judge.new.space) (c.requires.settled tells) c.judge.ensures.looked.reads tells c.requires.changes
     (uncut (needs_cut (volume_of (g.P.SectorView.space c.args.space.now).content) (data_of (tree_of (g.P.SectorView.space c.args.space.now).content) c.args.command.now)) (λ needs. subst IsCutFirst c.in-Fits.is (c.in_ok-why.ensures.cuts tells needs))) it
     (subst (λ (v : Verdict). IsTakenAlike v it.grow) c.in-Fits.is (c.in_ok-why.ensures.alike tells it))) [
       | inl now ↦ c.perform.ensures.ready later c.requires.changes now.0 now.1
@@ -231,7 +231,7 @@ returns-in-CommitFirst-clause-short g c tells needs = absurd (subst IsCutFirst c
 
 pub returns-in-CutFirst-clause-short : goal.returns-in-CutFirst-clause-short
 returns-in-CutFirst-clause-short g c tells needs =
-    if_so _ _ c.cut_first.result (λ came short same. lacks_still c.args.volume.now c.judge.new.volume (g.P.SectorView.space c.args.space.now) (g.P.SectorView.space c.judge.new.space) c.judge.ensures.reads tells (short same)) (c.cut_first.ensures.short (c.judge.ensures.reads.looks.same.tells ∙ tells))
+    if_so _ _ c.cut_first.result (λ came short same. lacks_still c.args.volume.now c.judge.new.volume (g.P.SectorView.space c.args.space.now) (g.P.SectorView.space c.judge.new.space) c.judge.ensures.looked.reads tells (short same)) (c.cut_first.ensures.short (c.judge.ensures.looked.reads.looks.same.tells ∙ tells))
 
 pub returns-in-Grows-clause-short : goal.returns-in-Grows-clause-short
 returns-in-Grows-clause-short g c tells needs = absurd (subst IsCutFirst c.in-Grows.is (c.in_ok-why.ensures.cuts tells needs))
@@ -242,30 +242,36 @@ returns-in-Fits-clause-short g c tells needs = absurd (subst IsCutFirst c.in-Fit
 -- ---- what it puts
 
 pub returns-in_err-why-clause-loads : goal.returns-in_err-why-clause-loads
-returns-in_err-why-clause-loads g c tells = within_reads c.args.command.now c.args.volume.now c.judge.new.volume (g.P.SectorView.space c.args.space.now) (g.P.SectorView.space c.judge.new.space) c.judge.ensures.reads
+returns-in_err-why-clause-loads g c tells = within_reads c.args.command.now c.args.volume.now c.judge.new.volume (g.P.SectorView.space c.args.space.now) (g.P.SectorView.space c.judge.new.space) c.judge.ensures.looked.reads
 
 pub returns-in-Refused-clause-loads : goal.returns-in-Refused-clause-loads
-returns-in-Refused-clause-loads g c tells = within_reads c.args.command.now c.args.volume.now c.judge.new.volume (g.P.SectorView.space c.args.space.now) (g.P.SectorView.space c.judge.new.space) c.judge.ensures.reads
+returns-in-Refused-clause-loads g c tells = within_reads c.args.command.now c.args.volume.now c.judge.new.volume (g.P.SectorView.space c.args.space.now) (g.P.SectorView.space c.judge.new.space) c.judge.ensures.looked.reads
 
 pub returns-in-CommitFirst-clause-loads : goal.returns-in-CommitFirst-clause-loads
-returns-in-CommitFirst-clause-loads g c tells = within_reads c.args.command.now c.args.volume.now c.judge.new.volume (g.P.SectorView.space c.args.space.now) (g.P.SectorView.space c.judge.new.space) c.judge.ensures.reads
+returns-in-CommitFirst-clause-loads g c tells = within_reads c.args.command.now c.args.volume.now c.judge.new.volume (g.P.SectorView.space c.args.space.now) (g.P.SectorView.space c.judge.new.space) c.judge.ensures.looked.reads
 
 pub returns-in-CutFirst-clause-loads : goal.returns-in-CutFirst-clause-loads
 returns-in-CutFirst-clause-loads g c tells =
-    within_behind c.args.command.now c.args.volume.now c.judge.new.volume (g.P.SectorView.space c.args.space.now) (g.P.SectorView.space c.judge.new.space) (g.P.SectorView.space c.cut_first.new.space) c.judge.ensures.reads tells (c.cut_first.ensures.loads (c.judge.ensures.reads.looks.same.tells ∙ tells))
+    within_behind c.args.command.now c.args.volume.now c.judge.new.volume (g.P.SectorView.space c.args.space.now) (g.P.SectorView.space c.judge.new.space) (g.P.SectorView.space c.cut_first.new.space) c.judge.ensures.looked.reads tells (c.cut_first.ensures.loads (c.judge.ensures.looked.reads.looks.same.tells ∙ tells))
 
 pub returns-in-Grows-clause-loads : goal.returns-in-Grows-clause-loads
 returns-in-Grows-clause-loads g c tells =
     let waits : WaitsForGrowth c.in-Grows.tree c.in-Grows.more (capacity_of c.args.volume.now) c.args.command.now (g.P.SectorView.space c.args.space.now).content =
     subst (λ (v : Verdict). IsJudged v (capacity_of c.args.volume.now) c.args.command.now (g.P.SectorView.space c.args.space.now).content) c.in-Grows.is (c.in_ok-why.ensures.judged tells) in
-    growth_within c.args.command.now c.args.volume.now c.judge.new.volume (g.P.SectorView.space c.args.space.now) (g.P.SectorView.space c.judge.new.space) (c.requires.settled tells) c.judge.ensures.reads tells c.requires.changes
+    growth_within c.args.command.now c.args.volume.now c.judge.new.volume (g.P.SectorView.space c.args.space.now) (g.P.SectorView.space c.judge.new.space) (c.requires.settled tells) c.judge.ensures.looked.reads tells c.requires.changes
     (uncut (needs_cut (volume_of (g.P.SectorView.space c.args.space.now).content) (data_of (tree_of (g.P.SectorView.space c.args.space.now).content) c.args.command.now)) (λ needs. cut_no_growth c.in-Grows.tree c.in-Grows.more (capacity_of c.args.volume.now) c.args.command.now (g.P.SectorView.space c.args.space.now).content c.requires.changes needs waits))
     waits.no_refusal c.in-Grows.tree c.in-Grows.more (g.P.SectorView.space c.grow_first.new.space)
-    (λ load grow costs. subst (λ (v : Verdict). GrowsTheFirst v grow) c.in-Grows.is (c.in_ok-why.ensures.first tells load grow costs)) (c.grow_first.ensures.spent (c.judge.ensures.reads.looks.same.tells ∙ tells))
+    (λ load grow costs. subst (λ (v : Verdict). GrowsTheFirst v grow) c.in-Grows.is (c.in_ok-why.ensures.first tells load grow costs)) (c.grow_first.ensures.spent (c.judge.ensures.looked.reads.looks.same.tells ∙ tells))
 
 pub returns-in-Fits-clause-loads : goal.returns-in-Fits-clause-loads
 returns-in-Fits-clause-loads g c tells =
-    within_behind c.args.command.now c.args.volume.now c.judge.new.volume (g.P.SectorView.space c.args.space.now) (g.P.SectorView.space c.judge.new.space) (g.P.SectorView.space c.perform.new.space) c.judge.ensures.reads tells (c.perform.ensures.loads (c.judge.ensures.reads.looks.same.tells ∙ tells))
+    within_behind c.args.command.now c.args.volume.now c.judge.new.volume (g.P.SectorView.space c.args.space.now) (g.P.SectorView.space c.judge.new.space) (g.P.SectorView.space c.perform.new.space) c.judge.ensures.looked.reads tells (c.perform.ensures.loads (c.judge.ensures.looked.reads.looks.same.tells ∙ tells))
 
 pub returns-in-Fits-clause-settled : goal.returns-in-Fits-clause-settled
-returns-in-Fits-clause-settled g c tells = c.perform.ensures.settled (c.judge.ensures.reads.looks.same.tells ∙ tells)
+returns-in-Fits-clause-settled g c tells = c.perform.ensures.settled (c.judge.ensures.looked.reads.looks.same.tells ∙ tells)
+
+pub returns-in-Refused-clause-settled : goal.returns-in-Refused-clause-settled
+returns-in-Refused-clause-settled g c tells = c.judge.ensures.serves.settled (c.judge.ensures.looked.reads.looks.same.tells ∙ tells)
+
+pub returns-in-CommitFirst-clause-settled : goal.returns-in-CommitFirst-clause-settled
+returns-in-CommitFirst-clause-settled g c tells = c.judge.ensures.serves.settled (c.judge.ensures.looked.reads.looks.same.tells ∙ tells)

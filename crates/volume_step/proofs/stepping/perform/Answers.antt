@@ -1,4 +1,4 @@
-use Rattle.std.proofs.Common.{rules, ◌≡◌, true, [], ap, subst, sym, ℕ, List}
+use Rattle.std.proofs.Common.{rules, ◌≡◌, true, [], ap, subst, sym, ℕ, List, ◌∙◌}
 use Rattle.std.specs.Prelude.{IfOk, None, Ok}
 use Rattle.hfs_language.specs.declared.command.Command.{Command}
 use Rattle.volume_runs.specs.Run.{shrunk_by}
@@ -10,9 +10,13 @@ use Rattle.volume_space.specs.Writing.{is_data_met}
 use Rattle.volume_step.specs.Steps.{IsMet, ShrinksAs}
 use Rattle.volume_step.proofs.Widening.{keeps_shrunk, touches_own}
 use Rattle.volume_step.proofs.Ready.{done_now, met_now}
-use Rattle.volume_step.proofs.ReadyData.{puts_data_now}
+use Rattle.volume_step.proofs.ReadyData.{puts_data_now, any_ok}
 use Rattle.volume_step.specs.Loads.{IsWithinLoad}
 use Rattle.hfs_language.specs.declared.command.Command.TheVariants as command
+use Rattle.volume_base.specs.Frame.{Serves}
+use Rattle.volume_base.specs.Standing.{IsSettled}
+use Rattle.volume_base.proofs.FoundEntry.{ok_so}
+use Rattle.volume_step.proofs.Done.{holds_kept}
 use Rattle.volume_step.proofs.stepping.perform.Goals as goal
 
 pub returns-in-Trunc-clause-shrunk : goal.returns-in-Trunc-clause-shrunk
@@ -28,10 +32,10 @@ pub returns-in-Write-clause-touches : goal.returns-in-Write-clause-touches
 returns-in-Write-clause-touches g c committed holds laid = touches_own committed c.args.volume.now c.write_value.new.volume (g.P.SectorView.space c.args.space.now) (g.P.SectorView.space c.write_value.new.space) (c.write_value.ensures.touches committed holds laid)
 
 pub returns-in_default-clause-touches : goal.returns-in_default-clause-touches
-returns-in_default-clause-touches g c committed holds laid = c.perform_without_data.ensures.touches committed
+returns-in_default-clause-touches g c committed holds laid = touches_own committed c.args.volume.now c.perform_without_data.new.volume (g.P.SectorView.space c.args.space.now) (g.P.SectorView.space c.perform_without_data.new.space) (c.perform_without_data.ensures.edits.ran.touches committed)
 
 pub returns-in_default-clause-same : goal.returns-in_default-clause-same
-returns-in_default-clause-same g c = (c.perform_without_data.ensures.touches []).same
+returns-in_default-clause-same g c = (c.perform_without_data.ensures.edits.ran.touches []).same
 
 -- ---- what fits now
 
@@ -64,3 +68,11 @@ pub returns-in-Write-clause-loads : goal.returns-in-Write-clause-loads
 returns-in-Write-clause-loads g c tells =
     subst (λ (k : Command). IsWithinLoad k c.args.volume.now (g.P.SectorView.space c.args.space.now) (g.P.SectorView.space c.write_value.new.space)) (sym c.in-Write.is)
     (subst (λ (l : List ℕ). IsWithinLoad (command.Write c.in-Write.path c.in-Write.from l) c.args.volume.now (g.P.SectorView.space c.args.space.now) (g.P.SectorView.space c.write_value.new.space)) c.as_slice.ensures (c.write_value.ensures.loads tells))
+
+pub returns-in_default-clause-holds : goal.returns-in_default-clause-holds
+returns-in_default-clause-holds g c committed was = any_ok c.perform_without_data.result (holds_kept committed c.args.volume.now c.perform_without_data.new.volume c.perform_without_data.ensures.edits.blocks.map was)
+
+pub returns-in_default-clause-settled : goal.returns-in_default-clause-settled
+returns-in_default-clause-settled g c tells =
+    ok_so (Serves c.perform_without_data.new.volume (g.P.SectorView.space c.perform_without_data.new.space)) (IsSettled c.perform_without_data.new.volume (g.P.SectorView.space c.perform_without_data.new.space).content)
+    c.perform_without_data.result c.perform_without_data.ensures.serves (λ s. s.settled ((c.perform_without_data.ensures.edits.ran.touches []).same.tells ∙ tells))

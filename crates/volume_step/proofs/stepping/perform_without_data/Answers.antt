@@ -5,71 +5,41 @@ use Rattle.volume_runs.specs.Run.{shrunk_by}
 use Rattle.hfs_volume.specs.TreeOf.{tree_of}
 use Rattle.hfs_volume.specs.Weight.{data_of}
 use Rattle.volume_base.specs.Keeping.{shrunk_of}
-use Rattle.volume_step.proofs.Widening.{keeps_shrunk, touches_own}
+use Rattle.volume_step.proofs.Widening.{keeps_shrunk}
 use Rattle.volume_step.proofs.ReadyData.{any_ok}
 use Rattle.volume_step.specs.Loads.{IsWithinLoad}
 use Rattle.hfs_language.specs.declared.command.Command.TheVariants as command
 use Rattle.volume_step.proofs.stepping.perform_without_data.Goals as goal
 
 pub returns-in-At-clause-shrunk : goal.returns-in-At-clause-shrunk
-returns-in-At-clause-shrunk g c tells = keeps_shrunk c.args.command.now (g.P.SectorView.space c.args.space.now).content (shrunk_of c.args.volume.now) (shrunk_of c.date.new.volume) (ap (λ (k : Command). shrunk_by (tree_of (g.P.SectorView.space c.args.space.now).content) (Ok k)) c.in-At.is) c.date.ensures.shrunk c.date.result
-
-pub returns-in-At-clause-touches : goal.returns-in-At-clause-touches
-returns-in-At-clause-touches g c committed = touches_own committed c.args.volume.now c.date.new.volume (g.P.SectorView.space c.args.space.now) (g.P.SectorView.space c.date.new.space) (c.date.ensures.touches committed)
+returns-in-At-clause-shrunk g c tells = keeps_shrunk c.args.command.now (g.P.SectorView.space c.args.space.now).content (shrunk_of c.args.volume.now) (shrunk_of c.date.new.volume) (ap (λ (k : Command). shrunk_by (tree_of (g.P.SectorView.space c.args.space.now).content) (Ok k)) c.in-At.is) c.date.ensures.edits.blocks.shrunk c.date.result
 
 pub returns-in-Chmod-clause-shrunk : goal.returns-in-Chmod-clause-shrunk
-returns-in-Chmod-clause-shrunk g c tells = keeps_shrunk c.args.command.now (g.P.SectorView.space c.args.space.now).content (shrunk_of c.args.volume.now) (shrunk_of c.set_mode.new.volume) (ap (λ (k : Command). shrunk_by (tree_of (g.P.SectorView.space c.args.space.now).content) (Ok k)) c.in-Chmod.is) c.set_mode.ensures.shrunk c.set_mode.result
-
-pub returns-in-Chmod-clause-touches : goal.returns-in-Chmod-clause-touches
-returns-in-Chmod-clause-touches g c committed = touches_own committed c.args.volume.now c.set_mode.new.volume (g.P.SectorView.space c.args.space.now) (g.P.SectorView.space c.set_mode.new.space) (c.set_mode.ensures.touches committed)
+returns-in-Chmod-clause-shrunk g c tells = keeps_shrunk c.args.command.now (g.P.SectorView.space c.args.space.now).content (shrunk_of c.args.volume.now) (shrunk_of c.set_mode.new.volume) (ap (λ (k : Command). shrunk_by (tree_of (g.P.SectorView.space c.args.space.now).content) (Ok k)) c.in-Chmod.is) c.set_mode.ensures.edits.blocks.shrunk c.set_mode.result
 
 pub returns-in-SetAttr-clause-shrunk : goal.returns-in-SetAttr-clause-shrunk
-returns-in-SetAttr-clause-shrunk g c tells = keeps_shrunk c.args.command.now (g.P.SectorView.space c.args.space.now).content (shrunk_of c.args.volume.now) (shrunk_of c.set_attribute.new.volume) (ap (λ (k : Command). shrunk_by (tree_of (g.P.SectorView.space c.args.space.now).content) (Ok k)) c.in-SetAttr.is) c.set_attribute.ensures.shrunk c.set_attribute.result
-
-pub returns-in-SetAttr-clause-touches : goal.returns-in-SetAttr-clause-touches
-returns-in-SetAttr-clause-touches g c committed = touches_own committed c.args.volume.now c.set_attribute.new.volume (g.P.SectorView.space c.args.space.now) (g.P.SectorView.space c.set_attribute.new.space) (c.set_attribute.ensures.touches committed)
+returns-in-SetAttr-clause-shrunk g c tells = keeps_shrunk c.args.command.now (g.P.SectorView.space c.args.space.now).content (shrunk_of c.args.volume.now) (shrunk_of c.set_attribute.new.volume) (ap (λ (k : Command). shrunk_by (tree_of (g.P.SectorView.space c.args.space.now).content) (Ok k)) c.in-SetAttr.is) c.set_attribute.ensures.edits.blocks.shrunk c.set_attribute.result
 
 pub returns-in-DelAttr-clause-shrunk : goal.returns-in-DelAttr-clause-shrunk
-returns-in-DelAttr-clause-shrunk g c tells = keeps_shrunk c.args.command.now (g.P.SectorView.space c.args.space.now).content (shrunk_of c.args.volume.now) (shrunk_of c.delete_attribute.new.volume) (ap (λ (k : Command). shrunk_by (tree_of (g.P.SectorView.space c.args.space.now).content) (Ok k)) c.in-DelAttr.is) c.delete_attribute.ensures.shrunk c.delete_attribute.result
-
-pub returns-in-DelAttr-clause-touches : goal.returns-in-DelAttr-clause-touches
-returns-in-DelAttr-clause-touches g c committed = touches_own committed c.args.volume.now c.delete_attribute.new.volume (g.P.SectorView.space c.args.space.now) (g.P.SectorView.space c.delete_attribute.new.space) (c.delete_attribute.ensures.touches committed)
+returns-in-DelAttr-clause-shrunk g c tells = keeps_shrunk c.args.command.now (g.P.SectorView.space c.args.space.now).content (shrunk_of c.args.volume.now) (shrunk_of c.delete_attribute.new.volume) (ap (λ (k : Command). shrunk_by (tree_of (g.P.SectorView.space c.args.space.now).content) (Ok k)) c.in-DelAttr.is) c.delete_attribute.ensures.edits.blocks.shrunk c.delete_attribute.result
 
 pub returns-in-Mkdir-clause-shrunk : goal.returns-in-Mkdir-clause-shrunk
-returns-in-Mkdir-clause-shrunk g c tells = keeps_shrunk c.args.command.now (g.P.SectorView.space c.args.space.now).content (shrunk_of c.args.volume.now) (shrunk_of c.make_folder.new.volume) (ap (λ (k : Command). shrunk_by (tree_of (g.P.SectorView.space c.args.space.now).content) (Ok k)) c.in-Mkdir.is) c.make_folder.ensures.shrunk c.make_folder.result
-
-pub returns-in-Mkdir-clause-touches : goal.returns-in-Mkdir-clause-touches
-returns-in-Mkdir-clause-touches g c committed = touches_own committed c.args.volume.now c.make_folder.new.volume (g.P.SectorView.space c.args.space.now) (g.P.SectorView.space c.make_folder.new.space) (c.make_folder.ensures.touches committed)
+returns-in-Mkdir-clause-shrunk g c tells = keeps_shrunk c.args.command.now (g.P.SectorView.space c.args.space.now).content (shrunk_of c.args.volume.now) (shrunk_of c.make_folder.new.volume) (ap (λ (k : Command). shrunk_by (tree_of (g.P.SectorView.space c.args.space.now).content) (Ok k)) c.in-Mkdir.is) c.make_folder.ensures.edits.blocks.shrunk c.make_folder.result
 
 pub returns-in-Create-clause-shrunk : goal.returns-in-Create-clause-shrunk
-returns-in-Create-clause-shrunk g c tells = keeps_shrunk c.args.command.now (g.P.SectorView.space c.args.space.now).content (shrunk_of c.args.volume.now) (shrunk_of c.make_file.new.volume) (ap (λ (k : Command). shrunk_by (tree_of (g.P.SectorView.space c.args.space.now).content) (Ok k)) c.in-Create.is) c.make_file.ensures.shrunk c.make_file.result
-
-pub returns-in-Create-clause-touches : goal.returns-in-Create-clause-touches
-returns-in-Create-clause-touches g c committed = touches_own committed c.args.volume.now c.make_file.new.volume (g.P.SectorView.space c.args.space.now) (g.P.SectorView.space c.make_file.new.space) (c.make_file.ensures.touches committed)
+returns-in-Create-clause-shrunk g c tells = keeps_shrunk c.args.command.now (g.P.SectorView.space c.args.space.now).content (shrunk_of c.args.volume.now) (shrunk_of c.make_file.new.volume) (ap (λ (k : Command). shrunk_by (tree_of (g.P.SectorView.space c.args.space.now).content) (Ok k)) c.in-Create.is) c.make_file.ensures.edits.blocks.shrunk c.make_file.result
 
 pub returns-in-Mv-clause-shrunk : goal.returns-in-Mv-clause-shrunk
-returns-in-Mv-clause-shrunk g c tells = keeps_shrunk c.args.command.now (g.P.SectorView.space c.args.space.now).content (shrunk_of c.args.volume.now) (shrunk_of c.move_entry.new.volume) (ap (λ (k : Command). shrunk_by (tree_of (g.P.SectorView.space c.args.space.now).content) (Ok k)) c.in-Mv.is) c.move_entry.ensures.shrunk c.move_entry.result
-
-pub returns-in-Mv-clause-touches : goal.returns-in-Mv-clause-touches
-returns-in-Mv-clause-touches g c committed = touches_own committed c.args.volume.now c.move_entry.new.volume (g.P.SectorView.space c.args.space.now) (g.P.SectorView.space c.move_entry.new.space) (c.move_entry.ensures.touches committed)
+returns-in-Mv-clause-shrunk g c tells = keeps_shrunk c.args.command.now (g.P.SectorView.space c.args.space.now).content (shrunk_of c.args.volume.now) (shrunk_of c.move_entry.new.volume) (ap (λ (k : Command). shrunk_by (tree_of (g.P.SectorView.space c.args.space.now).content) (Ok k)) c.in-Mv.is) c.move_entry.ensures.edits.blocks.shrunk c.move_entry.result
 
 pub returns-in-Rmdir-clause-shrunk : goal.returns-in-Rmdir-clause-shrunk
-returns-in-Rmdir-clause-shrunk g c tells = keeps_shrunk c.args.command.now (g.P.SectorView.space c.args.space.now).content (shrunk_of c.args.volume.now) (shrunk_of c.remove_folder.new.volume) (ap (λ (k : Command). shrunk_by (tree_of (g.P.SectorView.space c.args.space.now).content) (Ok k)) c.in-Rmdir.is) c.remove_folder.ensures.shrunk c.remove_folder.result
-
-pub returns-in-Rmdir-clause-touches : goal.returns-in-Rmdir-clause-touches
-returns-in-Rmdir-clause-touches g c committed = touches_own committed c.args.volume.now c.remove_folder.new.volume (g.P.SectorView.space c.args.space.now) (g.P.SectorView.space c.remove_folder.new.space) (c.remove_folder.ensures.touches committed)
+returns-in-Rmdir-clause-shrunk g c tells = keeps_shrunk c.args.command.now (g.P.SectorView.space c.args.space.now).content (shrunk_of c.args.volume.now) (shrunk_of c.remove_folder.new.volume) (ap (λ (k : Command). shrunk_by (tree_of (g.P.SectorView.space c.args.space.now).content) (Ok k)) c.in-Rmdir.is) c.remove_folder.ensures.edits.blocks.shrunk c.remove_folder.result
 
 pub returns-in-Rm-clause-shrunk : goal.returns-in-Rm-clause-shrunk
-returns-in-Rm-clause-shrunk g c tells = keeps_shrunk c.args.command.now (g.P.SectorView.space c.args.space.now).content (shrunk_of c.args.volume.now) (shrunk_of c.remove_file.new.volume) (ap (λ (k : Command). shrunk_by (tree_of (g.P.SectorView.space c.args.space.now).content) (Ok k)) c.in-Rm.is) c.remove_file.ensures.shrunk c.remove_file.result
-
-pub returns-in-Rm-clause-touches : goal.returns-in-Rm-clause-touches
-returns-in-Rm-clause-touches g c committed = touches_own committed c.args.volume.now c.remove_file.new.volume (g.P.SectorView.space c.args.space.now) (g.P.SectorView.space c.remove_file.new.space) (c.remove_file.ensures.touches committed)
+returns-in-Rm-clause-shrunk g c tells = keeps_shrunk c.args.command.now (g.P.SectorView.space c.args.space.now).content (shrunk_of c.args.volume.now) (shrunk_of c.remove_file.new.volume) (ap (λ (k : Command). shrunk_by (tree_of (g.P.SectorView.space c.args.space.now).content) (Ok k)) c.in-Rm.is) c.remove_file.ensures.edits.blocks.shrunk c.remove_file.result
 
 pub returns-in-Ln-clause-shrunk : goal.returns-in-Ln-clause-shrunk
-returns-in-Ln-clause-shrunk g c tells = keeps_shrunk c.args.command.now (g.P.SectorView.space c.args.space.now).content (shrunk_of c.args.volume.now) (shrunk_of c.link_file.new.volume) (ap (λ (k : Command). shrunk_by (tree_of (g.P.SectorView.space c.args.space.now).content) (Ok k)) c.in-Ln.is) c.link_file.ensures.shrunk c.link_file.result
-
-pub returns-in-Ln-clause-touches : goal.returns-in-Ln-clause-touches
-returns-in-Ln-clause-touches g c committed = touches_own committed c.args.volume.now c.link_file.new.volume (g.P.SectorView.space c.args.space.now) (g.P.SectorView.space c.link_file.new.space) (c.link_file.ensures.touches committed)
+returns-in-Ln-clause-shrunk g c tells = keeps_shrunk c.args.command.now (g.P.SectorView.space c.args.space.now).content (shrunk_of c.args.volume.now) (shrunk_of c.link_file.new.volume) (ap (λ (k : Command). shrunk_by (tree_of (g.P.SectorView.space c.args.space.now).content) (Ok k)) c.in-Ln.is) c.link_file.ensures.edits.blocks.shrunk c.link_file.result
 
 -- ---- no data
 
