@@ -1,16 +1,14 @@
 //! Steps of reclaiming that await the growth of a tree.
 ghost use Rattle.std.specs.Prelude.{◌≡◌, ℕ, false, List, Option, Some, IsTrue, IfOk, IfSome};
-ghost use Rattle.btree_edit.specs.Causes.{HasTroubleCause};
 ghost use Rattle.catalog.specs.Pairs.{value_at};
 ghost use Rattle.hfs_volume.specs.Content.{records_of, volume_of};
 ghost use Rattle.hfs_volume.specs.Links.{orphans_of};
 ghost use Rattle.hfs_volume.specs.Reclaim.{DropAttribute, DropOrphan, has_surplus_left, least};
 ghost use Rattle.hfs_volume.specs.declared.cost.Cost.TheVariants as cost;
+ghost use Rattle.volume_base.specs.Frame.{Looked, Serves};
 ghost use Rattle.volume_base.specs.Keeping.{shrunk_of};
 ghost use Rattle.volume_base.specs.Lists.{lists_of};
-ghost use Rattle.volume_base.specs.Looking.{ReadsVolume};
 ghost use Rattle.volume_base.specs.Room.{capacity_of};
-ghost use Rattle.volume_base.specs.Standing.{IsSettled, StandsOver};
 ghost use Rattle.volume_space.specs.Awaiting.{AwaitsGrowth, StepAwaits, first_wanted};
 
 use crate::ahead::WhichTree;
@@ -67,8 +65,7 @@ fn first_of(grow: [u32; 3]) -> Option<TreeWanted>
 
 /// The tree that has to grow for the drop of an entry.
 fn drop_wants<P: SectorSpace>(volume: &Volume, space: &P) -> Option<TreeWanted>
-    requires stands { StandsOver volume.now (P.SectorView.space space.now) }
-    requires settled { IsTrue (P.SectorView.space space.now).tells → IsSettled volume.now (P.SectorView.space space.now).content }
+    requires serves { Serves volume.now (P.SectorView.space space.now) }
     ensures { IsTrue (P.SectorView.space space.now).tells → IfSome result (λ wanted. (id : ℕ) → StepAwaits (capacity_of volume.now) (P.SectorView.space space.now).content (DropOrphan id) wanted) }
 {
     let edits = Edits {
@@ -82,8 +79,7 @@ fn drop_wants<P: SectorSpace>(volume: &Volume, space: &P) -> Option<TreeWanted>
 
 /// The tree that has to grow for the drop of an attribute.
 fn bare_wants<P: SectorSpace>(volume: &Volume, space: &P) -> Option<TreeWanted>
-    requires stands { StandsOver volume.now (P.SectorView.space space.now) }
-    requires settled { IsTrue (P.SectorView.space space.now).tells → IsSettled volume.now (P.SectorView.space space.now).content }
+    requires serves { Serves volume.now (P.SectorView.space space.now) }
     ensures { IsTrue (P.SectorView.space space.now).tells → IfSome result (λ wanted. (id : ℕ) (name : List ℕ) → StepAwaits (capacity_of volume.now) (P.SectorView.space space.now).content (DropAttribute id name) wanted) }
 {
     if volume.header.attributes_fork.logical_size == 0 {
@@ -105,16 +101,12 @@ fn owner_wants<P: SectorSpace>(
     space: &mut P,
     id: u32,
 ) -> Result<Option<TreeWanted>, Trouble>
-    requires stands { StandsOver volume.old (P.SectorView.space space.old) }
-    requires settled { IsTrue (P.SectorView.space space.old).tells → IsSettled volume.old (P.SectorView.space space.old).content }
+    requires serves { Serves volume.old (P.SectorView.space space.old) }
     requires lowest { IsTrue (P.SectorView.space space.old).tells → least (orphans_of (records_of (volume_of (P.SectorView.space space.old).content))) ≡ Some id }
     requires kept { IsTrue (P.SectorView.space space.old).tells → has_surplus_left (volume_of (P.SectorView.space space.old).content) (shrunk_of volume.old) ≡ false }
     ensures awaits { IsTrue (P.SectorView.space space.old).tells → IfOk result (λ found. IfSome found (AwaitsGrowth (capacity_of volume.old) (shrunk_of volume.old) (P.SectorView.space space.old).content)) }
-    ensures reads { ReadsVolume volume.old volume.new (P.SectorView.space space.old) (P.SectorView.space space.new) }
-    ensures stands { StandsOver volume.new (P.SectorView.space space.new) }
-    ensures settled { IsTrue (P.SectorView.space space.old).tells → IsSettled volume.new (P.SectorView.space space.new).content }
-    ensures below { P.SectorView.follows space.old space.new }
-    ensures cause { HasTroubleCause (P.SectorView.space space.old).faults (P.SectorView.space space.new).faults result }
+    ensures looked { Looked P.SectorView.space P.SectorView.follows volume.old volume.new space.old space.new result }
+    ensures serves { Serves volume.new (P.SectorView.space space.new) }
 {
     let found = next_owned(volume, alloc, space, id)?;
     if let Some(_name) = found {
@@ -130,16 +122,12 @@ fn waiting_wants<P: SectorSpace>(
     space: &mut P,
     id: u32,
 ) -> Result<Option<TreeWanted>, Trouble>
-    requires stands { StandsOver volume.old (P.SectorView.space space.old) }
-    requires settled { IsTrue (P.SectorView.space space.old).tells → IsSettled volume.old (P.SectorView.space space.old).content }
+    requires serves { Serves volume.old (P.SectorView.space space.old) }
     requires lowest { IsTrue (P.SectorView.space space.old).tells → least (orphans_of (records_of (volume_of (P.SectorView.space space.old).content))) ≡ Some id }
     requires kept { IsTrue (P.SectorView.space space.old).tells → has_surplus_left (volume_of (P.SectorView.space space.old).content) (shrunk_of volume.old) ≡ false }
     ensures awaits { IsTrue (P.SectorView.space space.old).tells → IfOk result (λ found. IfSome found (AwaitsGrowth (capacity_of volume.old) (shrunk_of volume.old) (P.SectorView.space space.old).content)) }
-    ensures reads { ReadsVolume volume.old volume.new (P.SectorView.space space.old) (P.SectorView.space space.new) }
-    ensures stands { StandsOver volume.new (P.SectorView.space space.new) }
-    ensures settled { IsTrue (P.SectorView.space space.old).tells → IsSettled volume.new (P.SectorView.space space.new).content }
-    ensures below { P.SectorView.follows space.old space.new }
-    ensures cause { HasTroubleCause (P.SectorView.space space.old).faults (P.SectorView.space space.new).faults result }
+    ensures looked { Looked P.SectorView.space P.SectorView.follows volume.old volume.new space.old space.new result }
+    ensures serves { Serves volume.new (P.SectorView.space space.new) }
 {
     let found = bare_waiting(volume, alloc, space, id)?;
     if let Some(_entry) = found {
@@ -154,15 +142,11 @@ fn unshrunk_wants<P: SectorSpace>(
     alloc: Global,
     space: &mut P,
 ) -> Result<Option<TreeWanted>, Trouble>
-    requires stands { StandsOver volume.old (P.SectorView.space space.old) }
-    requires settled { IsTrue (P.SectorView.space space.old).tells → IsSettled volume.old (P.SectorView.space space.old).content }
+    requires serves { Serves volume.old (P.SectorView.space space.old) }
     requires kept { IsTrue (P.SectorView.space space.old).tells → has_surplus_left (volume_of (P.SectorView.space space.old).content) (shrunk_of volume.old) ≡ false }
     ensures awaits { IsTrue (P.SectorView.space space.old).tells → IfOk result (λ found. IfSome found (AwaitsGrowth (capacity_of volume.old) (shrunk_of volume.old) (P.SectorView.space space.old).content)) }
-    ensures reads { ReadsVolume volume.old volume.new (P.SectorView.space space.old) (P.SectorView.space space.new) }
-    ensures stands { StandsOver volume.new (P.SectorView.space space.new) }
-    ensures settled { IsTrue (P.SectorView.space space.old).tells → IsSettled volume.new (P.SectorView.space space.new).content }
-    ensures below { P.SectorView.follows space.old space.new }
-    ensures cause { HasTroubleCause (P.SectorView.space space.old).faults (P.SectorView.space space.new).faults result }
+    ensures looked { Looked P.SectorView.space P.SectorView.follows volume.old volume.new space.old space.new result }
+    ensures serves { Serves volume.new (P.SectorView.space space.new) }
 {
     let found = next_waiting(volume, alloc, space)?;
     if let Some(id) = found {
@@ -179,16 +163,12 @@ fn shrunk_wants<P: SectorSpace>(
     id: u32,
     entry: &Entry,
 ) -> Result<Option<TreeWanted>, Trouble>
-    requires stands { StandsOver volume.old (P.SectorView.space space.old) }
-    requires settled { IsTrue (P.SectorView.space space.old).tells → IsSettled volume.old (P.SectorView.space space.old).content }
+    requires serves { Serves volume.old (P.SectorView.space space.old) }
     requires there { IsTrue (P.SectorView.space space.old).tells → value_at (lists_of volume.old (P.SectorView.space space.old).content).catalog_pairs entry.now.parent entry.now.name ≡ Some entry.now.rec }
     requires shrunk { shrunk_of volume.old ≡ Some id }
     ensures awaits { IsTrue (P.SectorView.space space.old).tells → IfOk result (λ found. IfSome found (AwaitsGrowth (capacity_of volume.old) (shrunk_of volume.old) (P.SectorView.space space.old).content)) }
-    ensures reads { ReadsVolume volume.old volume.new (P.SectorView.space space.old) (P.SectorView.space space.new) }
-    ensures stands { StandsOver volume.new (P.SectorView.space space.new) }
-    ensures settled { IsTrue (P.SectorView.space space.old).tells → IsSettled volume.new (P.SectorView.space space.new).content }
-    ensures below { P.SectorView.follows space.old space.new }
-    ensures cause { HasTroubleCause (P.SectorView.space space.old).faults (P.SectorView.space space.new).faults result }
+    ensures looked { Looked P.SectorView.space P.SectorView.follows volume.old volume.new space.old space.new result }
+    ensures serves { Serves volume.new (P.SectorView.space space.new) }
 {
     if !has_id(&entry.rec, id) {
         return Err(Trouble::Memory);
@@ -206,15 +186,11 @@ fn behind_shrunk<P: SectorSpace>(
     space: &mut P,
     id: u32,
 ) -> Result<Option<TreeWanted>, Trouble>
-    requires stands { StandsOver volume.old (P.SectorView.space space.old) }
-    requires settled { IsTrue (P.SectorView.space space.old).tells → IsSettled volume.old (P.SectorView.space space.old).content }
+    requires serves { Serves volume.old (P.SectorView.space space.old) }
     requires shrunk { shrunk_of volume.old ≡ Some id }
     ensures awaits { IsTrue (P.SectorView.space space.old).tells → IfOk result (λ found. IfSome found (AwaitsGrowth (capacity_of volume.old) (shrunk_of volume.old) (P.SectorView.space space.old).content)) }
-    ensures reads { ReadsVolume volume.old volume.new (P.SectorView.space space.old) (P.SectorView.space space.new) }
-    ensures stands { StandsOver volume.new (P.SectorView.space space.new) }
-    ensures settled { IsTrue (P.SectorView.space space.old).tells → IsSettled volume.new (P.SectorView.space space.new).content }
-    ensures below { P.SectorView.follows space.old space.new }
-    ensures cause { HasTroubleCause (P.SectorView.space space.old).faults (P.SectorView.space space.new).faults result }
+    ensures looked { Looked P.SectorView.space P.SectorView.follows volume.old volume.new space.old space.new result }
+    ensures serves { Serves volume.new (P.SectorView.space space.new) }
 {
     match volume.entry(alloc, space, id)? {
         Some(entry) => shrunk_wants(volume, alloc, space, id, &entry),
@@ -224,8 +200,7 @@ fn behind_shrunk<P: SectorSpace>(
 
 /// Whether a tree has to grow for a drop of an entry or of an attribute.
 fn may_want<P: SectorSpace>(volume: &Volume, space: &P) -> bool
-    requires stands { StandsOver volume.now (P.SectorView.space space.now) }
-    requires settled { IsTrue (P.SectorView.space space.now).tells → IsSettled volume.now (P.SectorView.space space.now).content }
+    requires serves { Serves volume.now (P.SectorView.space space.now) }
 {
     if drop_wants(volume, space).is_some() {
         return true;
@@ -240,15 +215,11 @@ pub fn next_growth<P: SectorSpace>(
     alloc: Global,
     space: &mut P,
 ) -> Result<Option<TreeWanted>, Trouble>
-    requires stands { StandsOver volume.old (P.SectorView.space space.old) }
-    requires settled { IsTrue (P.SectorView.space space.old).tells → IsSettled volume.old (P.SectorView.space space.old).content }
+    requires serves { Serves volume.old (P.SectorView.space space.old) }
     // Told, the next step awaits that growth.
     ensures awaits { IsTrue (P.SectorView.space space.old).tells → IfOk result (λ found. IfSome found (AwaitsGrowth (capacity_of volume.old) (shrunk_of volume.old) (P.SectorView.space space.old).content)) }
-    ensures reads { ReadsVolume volume.old volume.new (P.SectorView.space space.old) (P.SectorView.space space.new) }
-    ensures stands { StandsOver volume.new (P.SectorView.space space.new) }
-    ensures settled { IsTrue (P.SectorView.space space.old).tells → IsSettled volume.new (P.SectorView.space space.new).content }
-    ensures below { P.SectorView.follows space.old space.new }
-    ensures cause { HasTroubleCause (P.SectorView.space space.old).faults (P.SectorView.space space.new).faults result }
+    ensures looked { Looked P.SectorView.space P.SectorView.follows volume.old volume.new space.old space.new result }
+    ensures serves { Serves volume.new (P.SectorView.space space.new) }
 {
     if !may_want(volume, space) {
         return Ok(None);

@@ -18,12 +18,12 @@ ghost use Rattle.hfs_volume.specs.Weight.{Data, free_runs, needs_cut};
 ghost use Rattle.hfs_volume.specs.Aside.{IsJournalSector};
 ghost use Rattle.volume_cost.specs.Sizes.{AreSmall};
 ghost use Rattle.volume_base.specs.Changing.{catalog_node};
+ghost use Rattle.volume_base.specs.Frame.{Looked, Serves};
 ghost use Rattle.volume_base.specs.Lists.{lists_of};
 ghost use Rattle.hfs_volume.specs.Content.{overflow_in_volume, records_of, volume_of};
 ghost use Rattle.hfs_volume.specs.Cost.{overflow_records};
 ghost use Rattle.hfs_volume.specs.Forks.{data_kind, extents_of};
 ghost use Rattle.hfs_volume.specs.Records.{is_thread};
-ghost use Rattle.volume_base.specs.Looking.{ReadsVolume};
 ghost use Rattle.volume_base.specs.Reading.{HasFile};
 ghost use Rattle.volume_base.specs.Service.{IsInService};
 ghost use Rattle.volume_space.specs.Recording.{records_held};
@@ -353,8 +353,7 @@ fn affords_spread<P: SectorSpace>(
     counts: Counts,
     runs: u32,
 ) -> bool
-    requires stands { StandsOver volume.now (P.SectorView.space space.now) }
-    requires settled { IsTrue (P.SectorView.space space.now).tells → IsSettled volume.now (P.SectorView.space space.now).content }
+    requires serves { Serves volume.now (P.SectorView.space space.now) }
     requires few { extents < 2 ^ 60 }
     requires fresh { counts.fresh < 2 ^ 32 }
     requires freed { counts.freed < 2 ^ 32 }
@@ -389,8 +388,7 @@ fn is_put_spread<P: SectorSpace>(
     from: u64,
     long: usize,
 ) -> bool
-    requires stands { StandsOver volume.now (P.SectorView.space space.now) }
-    requires settled { IsTrue (P.SectorView.space space.now).tells → IsSettled volume.now (P.SectorView.space space.now).content }
+    requires serves { Serves volume.now (P.SectorView.space space.now) }
     requires few { extents < 2 ^ 60 }
     requires small { from + long ≤ 2 ^ 40 }
     ensures cut { IsTrue result → has_more size (from + long) (blocks_for volume.now.header.block_size size) total ≡ false }
@@ -433,8 +431,7 @@ fn how_to_put<P: SectorSpace>(
     from: u64,
     long: usize,
 ) -> Option<bool>
-    requires stands { StandsOver volume.now (P.SectorView.space space.now) }
-    requires settled { IsTrue (P.SectorView.space space.now).tells → IsSettled volume.now (P.SectorView.space space.now).content }
+    requires serves { Serves volume.now (P.SectorView.space space.now) }
     requires few { extents < 2 ^ 60 }
     requires small { from + long ≤ 2 ^ 40 }
     ensures cut { IfSome result (λ spread. has_more size (from + long) (blocks_for volume.now.header.block_size size) total ≡ false) }
@@ -634,16 +631,12 @@ fn data_extents<P: SectorSpace>(
     space: &mut P,
     file: &FileRecord,
 ) -> Result<ExtentList, Trouble>
-    requires stands { StandsOver volume.old (P.SectorView.space space.old) }
-    requires settled { IsTrue (P.SectorView.space space.old).tells → IsSettled volume.old (P.SectorView.space space.old).content }
+    requires serves { Serves volume.old (P.SectorView.space space.old) }
     requires there { IsTrue (P.SectorView.space space.old).tells → HasFile (records_of (volume_of (P.SectorView.space space.old).content)) file.now }
     ensures found { IsTrue (P.SectorView.space space.old).tells → IfOk result (λ list. list ≡ extents_of (overflow_in_volume (volume_of (P.SectorView.space space.old).content)) file.now.fields.id data_kind file.now.data_fork) }
-    ensures reads { ReadsVolume volume.old volume.new (P.SectorView.space space.old) (P.SectorView.space space.new) }
+    ensures looked { Looked P.SectorView.space P.SectorView.follows volume.old volume.new space.old space.new result }
     ensures rest { volume.new ≡ record volume.old { extents = volume.new.extents } }
-    ensures stands { StandsOver volume.new (P.SectorView.space space.new) }
-    ensures settled { IsTrue (P.SectorView.space space.old).tells → IsSettled volume.new (P.SectorView.space space.new).content }
-    ensures below { P.SectorView.follows space.old space.new }
-    ensures cause { HasTroubleCause (P.SectorView.space space.old).faults (P.SectorView.space space.new).faults result }
+    ensures serves { Serves volume.new (P.SectorView.space space.new) }
 {
     load_extents(
         alloc,
@@ -670,17 +663,13 @@ fn data_fork<P: SectorSpace>(
     space: &mut P,
     file: &FileRecord,
 ) -> Result<DataFork, Trouble>
-    requires stands { StandsOver volume.old (P.SectorView.space space.old) }
-    requires settled { IsTrue (P.SectorView.space space.old).tells → IsSettled volume.old (P.SectorView.space space.old).content }
+    requires serves { Serves volume.old (P.SectorView.space space.old) }
     requires fits { FitsFile file.now }
     requires told { IsTrue (P.SectorView.space space.old).tells → IsToldFile file.now (extents_in (P.SectorView.space space.old).content file.now) (P.SectorView.space space.old).content }
     ensures found { IsTrue (P.SectorView.space space.old).tells → IfOk result (λ fork. fork.list ≡ extents_in (P.SectorView.space space.old).content file.now) }
     ensures counted { IsTrue (P.SectorView.space space.old).tells → IfOk result (λ fork. fork.records ≡ records_held (volume_of (P.SectorView.space space.old).content) file.now.fields.id) }
-    ensures reads { ReadsVolume volume.old volume.new (P.SectorView.space space.old) (P.SectorView.space space.new) }
-    ensures stands { StandsOver volume.new (P.SectorView.space space.new) }
-    ensures settled { IsTrue (P.SectorView.space space.old).tells → IsSettled volume.new (P.SectorView.space space.new).content }
-    ensures below { P.SectorView.follows space.old space.new }
-    ensures cause { HasTroubleCause (P.SectorView.space space.old).faults (P.SectorView.space space.new).faults result }
+    ensures looked { Looked P.SectorView.space P.SectorView.follows volume.old volume.new space.old space.new result }
+    ensures serves { Serves volume.new (P.SectorView.space space.new) }
 {
     let list = data_extents(volume, alloc, space, file)?;
     let records = count_records(list.len());

@@ -21,14 +21,14 @@ ghost use Rattle.overflow.specs.Reading.{HasExtents, fork_records};
 ghost use Rattle.overflow.specs.Room.{HasStoreRoom, edits_for};
 ghost use Rattle.volume_cost.specs.Sizes.{AreSmall};
 ghost use Rattle.volume_space.specs.Cutting.{IsForkOf, kind_of, spread_load};
+ghost use Rattle.volume_base.specs.Frame.{Looked, Serves};
 ghost use Rattle.volume_base.specs.Lists.{lists_of};
-ghost use Rattle.volume_base.specs.Looking.{ReadsVolume};
 ghost use Rattle.volume_base.specs.Reading.{HasFile};
 ghost use Rattle.volume_base.specs.Service.{IsInService};
 ghost use Rattle.volume_space.specs.Recording.{records_held};
 ghost use Rattle.volume_space.specs.Spreading.{SpreadsExtents, StoresExtents, edits_load, is_met_extents, needs_extents, ChangesFew, light_load};
 ghost use Rattle.volume_base.specs.Spreading.{StoresFork};
-ghost use Rattle.volume_base.specs.Standing.{IsSettled, StandsOver, own_sectors};
+ghost use Rattle.volume_base.specs.Standing.{StandsOver, own_sectors};
 ghost use Rattle.volume_base.specs.Touching.{Touches};
 
 use crate::cutting::{ForkKind, count_blocks, fork_of};
@@ -240,15 +240,11 @@ pub(crate) fn fork_extents<P: SectorSpace>(
     file: &FileRecord,
     kind: ForkKind,
 ) -> Result<ExtentList, Trouble>
-    requires stands { StandsOver volume.old (P.SectorView.space space.old) }
-    requires settled { IsTrue (P.SectorView.space space.old).tells → IsSettled volume.old (P.SectorView.space space.old).content }
+    requires serves { Serves volume.old (P.SectorView.space space.old) }
     requires there { IsTrue (P.SectorView.space space.old).tells → HasFile (records_of (volume_of (P.SectorView.space space.old).content)) file.now }
     ensures found { IsTrue (P.SectorView.space space.old).tells → IfOk result (λ list. IsForkOf list (kind_of kind) file.now (P.SectorView.space space.old).content) }
-    ensures reads { ReadsVolume volume.old volume.new (P.SectorView.space space.old) (P.SectorView.space space.new) }
-    ensures stands { StandsOver volume.new (P.SectorView.space space.new) }
-    ensures settled { IsTrue (P.SectorView.space space.old).tells → IsSettled volume.new (P.SectorView.space space.new).content }
-    ensures below { P.SectorView.follows space.old space.new }
-    ensures cause { HasTroubleCause (P.SectorView.space space.old).faults (P.SectorView.space space.new).faults result }
+    ensures looked { Looked P.SectorView.space P.SectorView.follows volume.old volume.new space.old space.new result }
+    ensures serves { Serves volume.new (P.SectorView.space space.new) }
 {
     let fork = fork_of(kind, file);
     load_extents(

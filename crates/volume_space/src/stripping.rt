@@ -15,9 +15,9 @@ ghost use Rattle.volume_runs.specs.Rest.{IsHeldUp};
 ghost use Rattle.volume_base.specs.Attributing.{HasRoomToMark};
 ghost use Rattle.volume_base.specs.Changing.{KeepsBlocks};
 ghost use Rattle.volume_space.specs.Cutting.{KeepsUsed};
+ghost use Rattle.volume_base.specs.Frame.{Looked, Serves};
 ghost use Rattle.volume_base.specs.Keeping.{shrunk_of};
 ghost use Rattle.volume_base.specs.Lists.{lists_of};
-ghost use Rattle.volume_base.specs.Looking.{ReadsVolume};
 ghost use Rattle.volume_space.specs.Orphans.{AffordsStep, BaresWaiting, TidiesAs, bare_edits, PutsNext};
 ghost use Rattle.volume_base.specs.Orphans.{IsFirstName, is_blockless};
 ghost use Rattle.volume_base.specs.Room.{capacity_of, free_in};
@@ -60,15 +60,11 @@ fn first_owned<P: SectorSpace>(
     id: u32,
     entry: &Entry,
 ) -> Result<Option<Units>, Trouble>
-    requires stands { StandsOver volume.old (P.SectorView.space space.old) }
-    requires settled { IsTrue (P.SectorView.space space.old).tells → IsSettled volume.old (P.SectorView.space space.old).content }
+    requires serves { Serves volume.old (P.SectorView.space space.old) }
     ensures first { IsTrue (P.SectorView.space space.old).tells
         → IfOk result (λ found. IfSome found (λ name. (is_blockless entry.now.rec ≡ true) × IsFirstName name (names_of id (lists_of volume.old (P.SectorView.space space.old).content).attribute_pairs))) }
-    ensures reads { ReadsVolume volume.old volume.new (P.SectorView.space space.old) (P.SectorView.space space.new) }
-    ensures stands { StandsOver volume.new (P.SectorView.space space.new) }
-    ensures settled { IsTrue (P.SectorView.space space.old).tells → IsSettled volume.new (P.SectorView.space space.new).content }
-    ensures below { P.SectorView.follows space.old space.new }
-    ensures cause { HasTroubleCause (P.SectorView.space space.old).faults (P.SectorView.space space.new).faults result }
+    ensures looked { Looked P.SectorView.space P.SectorView.follows volume.old volume.new space.old space.new result }
+    ensures serves { Serves volume.new (P.SectorView.space space.new) }
 {
     if !is_blockless(&entry.rec) {
         return Ok(None);
@@ -85,15 +81,11 @@ pub(crate) fn next_owned<P: SectorSpace>(
     space: &mut P,
     id: u32,
 ) -> Result<Option<Units>, Trouble>
-    requires stands { StandsOver volume.old (P.SectorView.space space.old) }
-    requires settled { IsTrue (P.SectorView.space space.old).tells → IsSettled volume.old (P.SectorView.space space.old).content }
+    requires serves { Serves volume.old (P.SectorView.space space.old) }
     requires lowest { IsTrue (P.SectorView.space space.old).tells → least (orphans_of (records_of (volume_of (P.SectorView.space space.old).content))) ≡ Some id }
     ensures found { IsTrue (P.SectorView.space space.old).tells → (shrunk : Option ℕ) → has_surplus_left (volume_of (P.SectorView.space space.old).content) shrunk ≡ false → IfOk result (λ found. IfSome found (λ name. next_reclaim (volume_of (P.SectorView.space space.old).content) shrunk ≡ Some (DropAttribute id name))) }
-    ensures reads { ReadsVolume volume.old volume.new (P.SectorView.space space.old) (P.SectorView.space space.new) }
-    ensures stands { StandsOver volume.new (P.SectorView.space space.new) }
-    ensures settled { IsTrue (P.SectorView.space space.old).tells → IsSettled volume.new (P.SectorView.space space.new).content }
-    ensures below { P.SectorView.follows space.old space.new }
-    ensures cause { HasTroubleCause (P.SectorView.space space.old).faults (P.SectorView.space space.new).faults result }
+    ensures looked { Looked P.SectorView.space P.SectorView.follows volume.old volume.new space.old space.new result }
+    ensures serves { Serves volume.new (P.SectorView.space space.new) }
 {
     reclaim_drops_entries_of_bare_orphans();
     match volume.entry(alloc, space, id)? {
@@ -104,8 +96,7 @@ pub(crate) fn next_owned<P: SectorSpace>(
 
 /// What the drop of an attribute costs where all free blocks may be taken.
 fn cost_of_bare<P: SectorSpace>(volume: &Volume, space: &P) -> Cost
-    requires stands { StandsOver volume.now (P.SectorView.space space.now) }
-    requires settled { IsTrue (P.SectorView.space space.now).tells → IsSettled volume.now (P.SectorView.space space.now).content }
+    requires serves { Serves volume.now (P.SectorView.space space.now) }
     requires has { IsTrue (has_attributes volume.now.header) }
     ensures { IsTrue (P.SectorView.space space.now).tells → result ≡ cost_of (needs_asked bare_edits) (room_with (capacity_of volume.now) (free_in blocks.All volume.now.map) (volume_of (P.SectorView.space space.now).content)) }
 {
@@ -120,8 +111,7 @@ fn cost_of_bare<P: SectorSpace>(volume: &Volume, space: &P) -> Cost
 
 /// Whether something is missing for the drop of an attribute.
 fn lacks_bare<P: SectorSpace>(volume: &Volume, space: &P) -> bool
-    requires stands { StandsOver volume.now (P.SectorView.space space.now) }
-    requires settled { IsTrue (P.SectorView.space space.now).tells → IsSettled volume.now (P.SectorView.space space.now).content }
+    requires serves { Serves volume.now (P.SectorView.space space.now) }
     requires has { IsTrue (has_attributes volume.now.header) }
     ensures held_up { IsTrue (P.SectorView.space space.now).tells → IsTrue result → (id : ℕ) (name : List ℕ) → IsHeldUp (capacity_of volume.now) (volume_of (P.SectorView.space space.now).content) (DropAttribute id name) }
 {
@@ -130,8 +120,7 @@ fn lacks_bare<P: SectorSpace>(volume: &Volume, space: &P) -> bool
 
 /// Whether all free blocks suffice for the drop of an attribute, and no tree has to grow for it.
 fn affords_bare<P: SectorSpace>(volume: &Volume, space: &P) -> bool
-    requires stands { StandsOver volume.now (P.SectorView.space space.now) }
-    requires settled { IsTrue (P.SectorView.space space.now).tells → IsSettled volume.now (P.SectorView.space space.now).content }
+    requires serves { Serves volume.now (P.SectorView.space space.now) }
     requires has { IsTrue (has_attributes volume.now.header) }
     ensures affords { IsTrue (P.SectorView.space space.now).tells → IsTrue result → (id : ℕ) (name : List ℕ) → AffordsStep (capacity_of volume.now) (P.SectorView.space space.now).content (DropAttribute id name) }
 {

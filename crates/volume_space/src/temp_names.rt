@@ -12,10 +12,10 @@ ghost use Rattle.cat_records.specs.Records.{catalog_of, is_catalog};
 ghost use Rattle.catalog.specs.Children.{child_under, children_in};
 ghost use Rattle.catalog.specs.Pairs.{IsKeyOf};
 ghost use Rattle.hfs_volume.specs.Entries.{AreSpelled};
-ghost use Rattle.volume_base.specs.Looking.{IsCatalogOver, ReadsTree, ReadsVolume};
+ghost use Rattle.volume_base.specs.Frame.{Looked, Serves};
+ghost use Rattle.volume_base.specs.Looking.{IsCatalogOver, ReadsTree};
 ghost use Rattle.volume_base.specs.Lists.{lists_of};
 ghost use Rattle.volume_space.specs.Orphans.{found_among};
-ghost use Rattle.volume_base.specs.Standing.{IsSettled, StandsOver};
 
 use crate::orphans::found_next;
 use btree_edit::{Desk, seek, step};
@@ -157,14 +157,10 @@ pub(crate) fn waiting_in<P: SectorSpace>(
     space: &mut P,
     folder: u32,
 ) -> Result<Option<u32>, Trouble>
-    requires stands { StandsOver volume.old (P.SectorView.space space.old) }
-    requires settled { IsTrue (P.SectorView.space space.old).tells → IsSettled volume.old (P.SectorView.space space.old).content }
+    requires serves { Serves volume.old (P.SectorView.space space.old) }
     ensures found { IsTrue (P.SectorView.space space.old).tells → IfOk result (λ found. found ≡ found_among None (children_in folder (lists_of volume.old (P.SectorView.space space.old).content).catalog_pairs)) }
-    ensures reads { ReadsVolume volume.old volume.new (P.SectorView.space space.old) (P.SectorView.space space.new) }
-    ensures stands { StandsOver volume.new (P.SectorView.space space.new) }
-    ensures settled { IsTrue (P.SectorView.space space.old).tells → IsSettled volume.new (P.SectorView.space space.new).content }
-    ensures below { P.SectorView.follows space.old space.new }
-    ensures cause { HasTroubleCause (P.SectorView.space space.old).faults (P.SectorView.space space.new).faults result }
+    ensures looked { Looked P.SectorView.space P.SectorView.follows volume.old volume.new space.old space.new result }
+    ensures serves { Serves volume.new (P.SectorView.space space.new) }
 {
     search_folder(
         alloc,

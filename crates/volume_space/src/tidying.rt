@@ -13,9 +13,9 @@ ghost use Rattle.hfs_volume.specs.Weight.{room_with};
 ghost use Rattle.volume_runs.specs.Rest.{IsHeldUp};
 ghost use Rattle.volume_base.specs.Changing.{KeepsBlocks};
 ghost use Rattle.volume_space.specs.Cutting.{KeepsUsed};
+ghost use Rattle.volume_base.specs.Frame.{Looked, Serves};
 ghost use Rattle.volume_base.specs.Keeping.{shrunk_of};
 ghost use Rattle.volume_base.specs.Lists.{lists_of};
-ghost use Rattle.volume_base.specs.Looking.{ReadsVolume};
 ghost use Rattle.volume_space.specs.Orphans.{AffordsStep, IsToDrop, TidiesAs, drop_edits, grows_none, is_refused, PutsNext, TakesNextLoad};
 ghost use Rattle.volume_base.specs.Orphans.{is_blockless};
 ghost use Rattle.volume_base.specs.Room.{capacity_of, free_in};
@@ -72,14 +72,10 @@ pub(crate) fn next_waiting<P: SectorSpace>(
     alloc: Global,
     space: &mut P,
 ) -> Result<Option<u32>, Trouble>
-    requires stands { StandsOver volume.old (P.SectorView.space space.old) }
-    requires settled { IsTrue (P.SectorView.space space.old).tells → IsSettled volume.old (P.SectorView.space space.old).content }
+    requires serves { Serves volume.old (P.SectorView.space space.old) }
     ensures found { IsTrue (P.SectorView.space space.old).tells → IfOk result (λ found. found ≡ least (orphans_of (records_of (volume_of (P.SectorView.space space.old).content)))) }
-    ensures reads { ReadsVolume volume.old volume.new (P.SectorView.space space.old) (P.SectorView.space space.new) }
-    ensures stands { StandsOver volume.new (P.SectorView.space space.new) }
-    ensures settled { IsTrue (P.SectorView.space space.old).tells → IsSettled volume.new (P.SectorView.space space.new).content }
-    ensures below { P.SectorView.follows space.old space.new }
-    ensures cause { HasTroubleCause (P.SectorView.space space.old).faults (P.SectorView.space space.new).faults result }
+    ensures looked { Looked P.SectorView.space P.SectorView.follows volume.old volume.new space.old space.new result }
+    ensures serves { Serves volume.new (P.SectorView.space space.new) }
 {
     match volume.private {
         Some(private) => waiting_in(volume, alloc, space, private),
@@ -95,16 +91,12 @@ fn bare_entry<P: SectorSpace>(
     id: u32,
     entry: Entry,
 ) -> Result<Option<Entry>, Trouble>
-    requires stands { StandsOver volume.old (P.SectorView.space space.old) }
-    requires settled { IsTrue (P.SectorView.space space.old).tells → IsSettled volume.old (P.SectorView.space space.old).content }
+    requires serves { Serves volume.old (P.SectorView.space space.old) }
     ensures bare { IsTrue (P.SectorView.space space.old).tells
         → IfOk result (λ found. IfSome found (λ bare. (bare ≡ entry) × (is_blockless entry.rec ≡ true) × (length (names_of id (lists_of volume.old (P.SectorView.space space.old).content).attribute_pairs) ≡ 0))) }
     ensures same { IfOk result (λ found. IfSome found (λ bare. bare ≡ entry)) }
-    ensures reads { ReadsVolume volume.old volume.new (P.SectorView.space space.old) (P.SectorView.space space.new) }
-    ensures stands { StandsOver volume.new (P.SectorView.space space.new) }
-    ensures settled { IsTrue (P.SectorView.space space.old).tells → IsSettled volume.new (P.SectorView.space space.new).content }
-    ensures below { P.SectorView.follows space.old space.new }
-    ensures cause { HasTroubleCause (P.SectorView.space space.old).faults (P.SectorView.space space.new).faults result }
+    ensures looked { Looked P.SectorView.space P.SectorView.follows volume.old volume.new space.old space.new result }
+    ensures serves { Serves volume.new (P.SectorView.space space.new) }
 {
     if !is_blockless(&entry.rec) {
         return Ok(None);
@@ -123,16 +115,12 @@ pub(crate) fn bare_waiting<P: SectorSpace>(
     space: &mut P,
     id: u32,
 ) -> Result<Option<Entry>, Trouble>
-    requires stands { StandsOver volume.old (P.SectorView.space space.old) }
-    requires settled { IsTrue (P.SectorView.space space.old).tells → IsSettled volume.old (P.SectorView.space space.old).content }
+    requires serves { Serves volume.old (P.SectorView.space space.old) }
     requires lowest { IsTrue (P.SectorView.space space.old).tells → least (orphans_of (records_of (volume_of (P.SectorView.space space.old).content))) ≡ Some id }
     ensures found { IsTrue (P.SectorView.space space.old).tells → (shrunk : Option ℕ) → has_surplus_left (volume_of (P.SectorView.space space.old).content) shrunk ≡ false → IfOk result (λ found. IfSome found (IsToDrop shrunk (P.SectorView.space space.old).content)) }
     ensures name { IfOk result (λ found. IfSome found (λ entry. length entry.name ≤ 255)) }
-    ensures reads { ReadsVolume volume.old volume.new (P.SectorView.space space.old) (P.SectorView.space space.new) }
-    ensures stands { StandsOver volume.new (P.SectorView.space space.new) }
-    ensures settled { IsTrue (P.SectorView.space space.old).tells → IsSettled volume.new (P.SectorView.space space.new).content }
-    ensures below { P.SectorView.follows space.old space.new }
-    ensures cause { HasTroubleCause (P.SectorView.space space.old).faults (P.SectorView.space space.new).faults result }
+    ensures looked { Looked P.SectorView.space P.SectorView.follows volume.old volume.new space.old space.new result }
+    ensures serves { Serves volume.new (P.SectorView.space space.new) }
 {
     reclaim_drops_entries_of_bare_orphans();
     match volume.entry(alloc, space, id)? {
@@ -143,8 +131,7 @@ pub(crate) fn bare_waiting<P: SectorSpace>(
 
 /// What the drop of an entry costs where all free blocks may be taken.
 fn cost_of_drop<P: SectorSpace>(volume: &Volume, space: &P) -> Cost
-    requires stands { StandsOver volume.now (P.SectorView.space space.now) }
-    requires settled { IsTrue (P.SectorView.space space.now).tells → IsSettled volume.now (P.SectorView.space space.now).content }
+    requires serves { Serves volume.now (P.SectorView.space space.now) }
     ensures { IsTrue (P.SectorView.space space.now).tells → result ≡ cost_of (needs_asked drop_edits) (room_with (capacity_of volume.now) (free_in blocks.All volume.now.map) (volume_of (P.SectorView.space space.now).content)) }
 {
     let edits = Edits {
@@ -158,8 +145,7 @@ fn cost_of_drop<P: SectorSpace>(volume: &Volume, space: &P) -> Cost
 
 /// Whether something is missing for the drop of an entry.
 fn lacks_drop<P: SectorSpace>(volume: &Volume, space: &P) -> bool
-    requires stands { StandsOver volume.now (P.SectorView.space space.now) }
-    requires settled { IsTrue (P.SectorView.space space.now).tells → IsSettled volume.now (P.SectorView.space space.now).content }
+    requires serves { Serves volume.now (P.SectorView.space space.now) }
     ensures held_up { IsTrue (P.SectorView.space space.now).tells → IsTrue result → (id : ℕ) → IsHeldUp (capacity_of volume.now) (volume_of (P.SectorView.space space.now).content) (DropOrphan id) }
 {
     is_refused(cost_of_drop(volume, space))
@@ -167,8 +153,7 @@ fn lacks_drop<P: SectorSpace>(volume: &Volume, space: &P) -> bool
 
 /// Whether all free blocks suffice for the drop of an entry, and no tree has to grow for it.
 fn affords_drop<P: SectorSpace>(volume: &Volume, space: &P) -> bool
-    requires stands { StandsOver volume.now (P.SectorView.space space.now) }
-    requires settled { IsTrue (P.SectorView.space space.now).tells → IsSettled volume.now (P.SectorView.space space.now).content }
+    requires serves { Serves volume.now (P.SectorView.space space.now) }
     ensures affords { IsTrue (P.SectorView.space space.now).tells → IsTrue result → (id : ℕ) → AffordsStep (capacity_of volume.now) (P.SectorView.space space.now).content (DropOrphan id) }
 {
     grows_none(cost_of_drop(volume, space))

@@ -14,6 +14,6 @@ use Rattle.volume_space.proofs.awaiting.owner_wants.Goals as goal
 
 pub returns-in-Some-clause-awaits : goal.returns-in-Some-clause-awaits
 returns-in-Some-clause-awaits g c tells =
-    bare_next (g.P.SectorView.space c.args.space.now).content (g.P.SectorView.space c.next_owned.new.space).content (c.next_owned.ensures.reads.looks.content tells) (capacity_of c.args.volume.now) (capacity_of c.next_owned.new.volume) c.next_owned.ensures.reads.keeps.capacity (shrunk_of c.args.volume.now) c.args.id c.in-Some._name
+    bare_next (g.P.SectorView.space c.args.space.now).content (g.P.SectorView.space c.next_owned.new.space).content (c.next_owned.ensures.looked.reads.looks.content tells) (capacity_of c.args.volume.now) (capacity_of c.next_owned.new.volume) c.next_owned.ensures.looked.reads.keeps.capacity (shrunk_of c.args.volume.now) c.args.id c.in-Some._name
     (subst (λ (o : Option (List ℕ)). IfSome o (λ name. next_reclaim (volume_of (g.P.SectorView.space c.args.space.now).content) (shrunk_of c.args.volume.now) ≡ Some (DropAttribute c.args.id name))) c.in-Some.is (c.in_ok-found.ensures.found tells (shrunk_of c.args.volume.now) (c.requires.kept tells)))
-    c.bare_wants.result (c.bare_wants.ensures (c.next_owned.ensures.reads.looks.same.tells ∙ tells))
+    c.bare_wants.result (c.bare_wants.ensures (c.next_owned.ensures.looked.reads.looks.same.tells ∙ tells))

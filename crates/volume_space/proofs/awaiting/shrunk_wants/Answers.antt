@@ -10,9 +10,16 @@ use Rattle.volume_base.specs.declared.entries.Entry.{Entry}
 use Rattle.volume_base.proofs.Still.{lists_still, settled_still, volume_both}
 use Rattle.volume_space.specs.Orphans.{IsToDrop}
 use Rattle.volume_space.proofs.NextCut.{shrunk_rests}
+use Rattle.volume_base.proofs.Looked.{looked_wanting, looked_none}
 use Rattle.volume_space.proofs.awaiting.shrunk_wants.Goals as goal
 
 pub unshrunk_wants-requires-clause-kept : goal.unshrunk_wants-requires-clause-kept
 unshrunk_wants-requires-clause-kept g c tells =
-    shrunk_rests c.args.volume.now (g.P.SectorView.space c.args.space.now).content (c.requires.settled tells) c.args.entry.now c.args.entry.now.rec refl (c.requires.there tells) c.args.id (c.has_id.ensures.number c.if-not-has_id.false) (shrunk_of c.args.volume.now) c.requires.shrunk
+    shrunk_rests c.args.volume.now (g.P.SectorView.space c.args.space.now).content (c.requires.serves.settled tells) c.args.entry.now c.args.entry.now.rec refl (c.requires.there tells) c.args.id (c.has_id.ensures.number c.if-not-has_id.false) (shrunk_of c.args.volume.now) c.requires.shrunk
     (sym c.in_default.is ∙ c.surplus_in.ensures) (c.has_id.ensures.kind c.if-not-has_id.false)
+
+pub returns-then-not-has_id-clause-looked : goal.returns-then-not-has_id-clause-looked
+returns-then-not-has_id-clause-looked g c = looked_wanting g.met.P.SectorView.follows_refl c.requires.serves.stands
+
+pub returns-in-Some-clause-looked : goal.returns-in-Some-clause-looked
+returns-in-Some-clause-looked g c = looked_none g.met.P.SectorView.follows_refl c.requires.serves.stands

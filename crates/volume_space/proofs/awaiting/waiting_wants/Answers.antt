@@ -1,28 +1,23 @@
-use Rattle.std.proofs.Common.{◌≡◌, ◌≤◌, ℕ, true, false, List, length, refl, sym, ◌∙◌, ap, subst}
-use Rattle.std.specs.Prelude.{IfSome, IsTrue, Option, Some, None}
-use Rattle.sector_disk.specs.Lists.{Content}
-use Rattle.hfs_volume.specs.Content.{VolumeState, records_of, volume_of}
-use Rattle.hfs_volume.specs.Reclaim.{DropAttribute, has_surplus_left, next_reclaim}
+use Rattle.std.proofs.Common.{◌∙◌, subst}
+use Rattle.std.specs.Prelude.{IfSome, Option}
 use Rattle.volume_base.specs.Keeping.{shrunk_of}
-use Rattle.volume_base.specs.Lists.{lists_of}
 use Rattle.volume_base.specs.Room.{capacity_of}
 use Rattle.volume_base.specs.declared.entries.Entry.{Entry}
-use Rattle.volume_base.proofs.Still.{lists_still, settled_still, volume_both}
 use Rattle.volume_space.specs.Orphans.{IsToDrop}
 use Rattle.volume_space.proofs.Awaits.{awaited_behind, drop_next}
+use Rattle.volume_base.proofs.Framed.{looked_both}
 use Rattle.volume_space.proofs.awaiting.waiting_wants.Goals as goal
 
 pub returns-in-Some-clause-awaits : goal.returns-in-Some-clause-awaits
 returns-in-Some-clause-awaits g c tells =
     let waits : IsToDrop (shrunk_of c.args.volume.now) (g.P.SectorView.space c.args.space.now).content c.in-Some._entry = subst (λ (o : Option Entry). IfSome o (IsToDrop (shrunk_of c.args.volume.now) (g.P.SectorView.space c.args.space.now).content)) c.in-Some.is (c.in_ok-found.ensures.found tells (shrunk_of c.args.volume.now) (c.requires.kept tells)) in
-    drop_next (g.P.SectorView.space c.args.space.now).content (g.P.SectorView.space c.bare_waiting.new.space).content (c.bare_waiting.ensures.reads.looks.content tells) (capacity_of c.args.volume.now) (capacity_of c.bare_waiting.new.volume) c.bare_waiting.ensures.reads.keeps.capacity (shrunk_of c.args.volume.now) waits.id waits.next
-    c.drop_wants.result (c.drop_wants.ensures (c.bare_waiting.ensures.reads.looks.same.tells ∙ tells))
+    drop_next (g.P.SectorView.space c.args.space.now).content (g.P.SectorView.space c.bare_waiting.new.space).content (c.bare_waiting.ensures.looked.reads.looks.content tells) (capacity_of c.args.volume.now) (capacity_of c.bare_waiting.new.volume) c.bare_waiting.ensures.looked.reads.keeps.capacity (shrunk_of c.args.volume.now) waits.id waits.next
+    c.drop_wants.result (c.drop_wants.ensures (c.bare_waiting.ensures.looked.reads.looks.same.tells ∙ tells))
 
 pub returns-clause-awaits : goal.returns-clause-awaits
 returns-clause-awaits g c tells =
-    awaited_behind (g.P.SectorView.space c.args.space.now).content (g.P.SectorView.space c.bare_waiting.new.space).content (c.bare_waiting.ensures.reads.looks.content tells) (capacity_of c.args.volume.now) (capacity_of c.bare_waiting.new.volume) c.bare_waiting.ensures.reads.keeps.capacity
-    (shrunk_of c.args.volume.now) (shrunk_of c.bare_waiting.new.volume) c.bare_waiting.ensures.reads.keeps.shrunk c.owner_wants.result (c.owner_wants.ensures.awaits (c.bare_waiting.ensures.reads.looks.same.tells ∙ tells))
+    awaited_behind (g.P.SectorView.space c.args.space.now).content (g.P.SectorView.space c.bare_waiting.new.space).content (c.bare_waiting.ensures.looked.reads.looks.content tells) (capacity_of c.args.volume.now) (capacity_of c.bare_waiting.new.volume) c.bare_waiting.ensures.looked.reads.keeps.capacity
+    (shrunk_of c.args.volume.now) (shrunk_of c.bare_waiting.new.volume) c.bare_waiting.ensures.looked.reads.keeps.shrunk c.owner_wants.result (c.owner_wants.ensures.awaits (c.bare_waiting.ensures.looked.reads.looks.same.tells ∙ tells))
 
-pub returns-clause-reads : goal.returns-clause-reads
-returns-clause-reads g c =
-    volume_both c.args.volume.now c.bare_waiting.new.volume c.owner_wants.new.volume (g.P.SectorView.space c.args.space.now) (g.P.SectorView.space c.bare_waiting.new.space) (g.P.SectorView.space c.owner_wants.new.space) c.bare_waiting.ensures.reads c.owner_wants.ensures.reads
+pub returns-clause-looked : goal.returns-clause-looked
+returns-clause-looked g c = looked_both g.met.P.SectorView.follows_trans c.bare_waiting.ensures.looked c.owner_wants.ensures.looked

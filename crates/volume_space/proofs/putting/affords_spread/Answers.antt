@@ -43,14 +43,14 @@ returns g c = record {
       c.is_met.ensures
       ∙ (λ i. is_met_extents ((c.cost.ensures
       ∙ (λ j. cost_of ((c.needs_of_data.ensures.same ∙ ap (λ n. needs_of_put n c.args.counts.fresh c.args.counts.freed c.args.runs) many) j) (c.room-room.ensures j))
-      ∙ cost_kept v a (c.requires.stands.stands tells) (c.requires.settled tells) c.trees_grow_by_enough.ensures c.requires.stands.service.most blocks.Takable (needs_of_put all c.args.counts.fresh c.args.counts.freed c.args.runs) (λ some. absurd (omega (arith, some)))) i) (c.spare.ensures i))
+      ∙ cost_kept v a (c.requires.serves.stands.stands tells) (c.requires.serves.settled tells) c.trees_grow_by_enough.ensures c.requires.serves.stands.service.most blocks.Takable (needs_of_put all c.args.counts.fresh c.args.counts.freed c.args.runs) (λ some. absurd (omega (arith, some)))) i) (c.spare.ensures i))
       ∙ ok;
 }
 
 pub returns-then-not-is_measured : goal.returns-then-not-is_measured
 returns-then-not-is_measured g c = record {
   met = λ tells spread ok.
-      absurd (true≢false (sym (is_measured_told c.args.volume.now (g.P.SectorView.space c.args.space.now) (c.requires.stands.stands tells) (c.requires.settled tells) blocks.Takable) ∙ sym (ap is_measured c.room-room.ensures) ∙ sym c.is_measured.ensures ∙ c.if-not-is_measured.true));
+      absurd (true≢false (sym (is_measured_told c.args.volume.now (g.P.SectorView.space c.args.space.now) (c.requires.serves.stands.stands tells) (c.requires.serves.settled tells) blocks.Takable) ∙ sym (ap is_measured c.room-room.ensures) ∙ sym c.is_measured.ensures ∙ c.if-not-is_measured.true));
 }
 
 pub returns-in_default : goal.returns-in_default

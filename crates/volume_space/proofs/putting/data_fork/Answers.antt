@@ -12,4 +12,4 @@ returns-clause-counted g c tells =
     let of = c.requires.told tells in
     c.count_records-records.ensures
     ∙ ap overflow_records (c.len.ensures ∙ ap (λ (l : List Extent). length l) (c.in_ok-list.ensures.found tells))
-    ∙ sym (held_is c.args.volume.now (g.P.SectorView.space c.args.space.now).content (c.requires.settled tells) c.args.file.now (record { entry = of.entry; stands = of.stands; value = of.value }))
+    ∙ sym (held_is c.args.volume.now (g.P.SectorView.space c.args.space.now).content (c.requires.serves.settled tells) c.args.file.now (record { entry = of.entry; stands = of.stands; value = of.value }))

@@ -39,5 +39,5 @@ returns-clause-met g c tells =
     let a = g.P.SectorView.space c.args.space.now in
     not_met (is_put_met v (volume_of a.content) a.spare c.args.records c.args.extents c.args.total c.args.size c.args.from c.args.long)
     (λ ok. not_put (may_overflow c.args.extents (fewest_of (blocks_put v c.args.size c.args.from c.args.long) (free_runs (free_of v.map))))
-    (λ flat. true≢false (sym (c.is_put_now.ensures ∙ flat_met c.a_load_says_enough.ensures v a.content (c.requires.settled tells) a.spare c.args.records c.args.extents c.args.total c.args.size c.args.from c.args.long ok flat) ∙ c.if-is_put_now.false))
+    (λ flat. true≢false (sym (c.is_put_now.ensures ∙ flat_met c.a_load_says_enough.ensures v a.content (c.requires.serves.settled tells) a.spare c.args.records c.args.extents c.args.total c.args.size c.args.from c.args.long ok flat) ∙ c.if-is_put_now.false))
     (λ spread. true≢false (sym (c.is_put_spread.ensures.met tells spread ok) ∙ c.if-is_put_spread.false)))

@@ -23,7 +23,7 @@ use Rattle.volume_base.proofs.Still.{own_still, volume_both}
 use Rattle.volume_space.proofs.resizing.shorten.Goals as goal
 
 pub shorten_told-requires-clause-settled : goal.shorten_told-requires-clause-settled
-shorten_told-requires-clause-settled g c tells = c.facts.ensures.serves.settled (c.facts.ensures.looked.reads.looks.same.tells ∙ (sym c.facts.ensures.looked.reads.looks.same.tells ∙ tells))
+shorten_told-requires-clause-settled g c tells = c.facts.ensures.serves.settled tells
 
 pub shorten_told-requires-clause-told : goal.shorten_told-requires-clause-told
 shorten_told-requires-clause-told g c tells =

@@ -22,7 +22,7 @@ use Rattle.volume_space.proofs.ShortenedCalls.{refused_stat}
 use Rattle.volume_space.proofs.writing.lengthen.Goals as goal
 
 pub lengthen_told-requires-clause-settled : goal.lengthen_told-requires-clause-settled
-lengthen_told-requires-clause-settled g c tells = c.facts.ensures.serves.settled (c.facts.ensures.looked.reads.looks.same.tells ∙ (sym c.facts.ensures.looked.reads.looks.same.tells ∙ tells))
+lengthen_told-requires-clause-settled g c tells = c.facts.ensures.serves.settled tells
 
 pub lengthen_told-requires-clause-closed : goal.lengthen_told-requires-clause-closed
 lengthen_told-requires-clause-closed g c tells at shut =

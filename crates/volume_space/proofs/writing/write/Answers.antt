@@ -22,7 +22,7 @@ use Rattle.volume_space.proofs.PutTold.{write_refused_stat}
 use Rattle.volume_space.proofs.writing.write.Goals as goal
 
 pub write_told-requires-clause-settled : goal.write_told-requires-clause-settled
-write_told-requires-clause-settled g c tells = c.facts.ensures.serves.settled (c.facts.ensures.looked.reads.looks.same.tells ∙ (sym c.facts.ensures.looked.reads.looks.same.tells ∙ tells))
+write_told-requires-clause-settled g c tells = c.facts.ensures.serves.settled tells
 
 pub write_told-requires-clause-closed : goal.write_told-requires-clause-closed
 write_told-requires-clause-closed g c tells at shut =
