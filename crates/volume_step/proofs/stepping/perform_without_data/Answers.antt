@@ -9,6 +9,7 @@ use Rattle.volume_step.proofs.Widening.{keeps_shrunk}
 use Rattle.volume_step.proofs.ReadyData.{any_ok}
 use Rattle.volume_step.specs.Loads.{IsWithinLoad}
 use Rattle.hfs_language.specs.declared.command.Command.TheVariants as command
+use Rattle.volume_base.proofs.Joined.{edits_wanting}
 use Rattle.volume_step.proofs.stepping.perform_without_data.Goals as goal
 
 pub returns-in-At-clause-shrunk : goal.returns-in-At-clause-shrunk
@@ -102,3 +103,6 @@ returns-in-Mv-clause-loads g c tells = subst (λ (k : Command). IsWithinLoad k c
 
 pub returns-in-Rmdir-clause-loads : goal.returns-in-Rmdir-clause-loads
 returns-in-Rmdir-clause-loads g c tells = subst (λ (k : Command). IsWithinLoad k c.args.volume.now (g.P.SectorView.space c.args.space.now) (g.P.SectorView.space c.remove_folder.new.space)) (sym c.in-Rmdir.is) (c.remove_folder.ensures.loads tells)
+
+pub returns-in-Trunc-clause-edits : goal.returns-in-Trunc-clause-edits
+returns-in-Trunc-clause-edits g c = edits_wanting _ g.met.P.SectorView.follows_refl c.requires.serves.stands
