@@ -1,5 +1,5 @@
 //! An attribute of a file that lost its last name, dropped.
-ghost use Rattle.std.specs.Prelude.{◌≡◌, ◌≤◌, ℕ, true, false, Option, Some, IsTrue, IfOk, IfSome, length, List, OnOk, ◌+◌};
+ghost use Rattle.std.specs.Prelude.{◌≡◌, ◌≤◌, ℕ, true, false, Option, Some, IsTrue, IfOk, IfSome, length, List, OnOk};
 ghost use Rattle.std.specs.List.{Contains};
 ghost use Rattle.sector_disk.specs.Lists.{Content};
 ghost use Rattle.alloc_bitmap.specs.Map.{free_of};
@@ -13,9 +13,8 @@ ghost use Rattle.hfs_volume.specs.Reclaim.{DropAttribute, has_surplus_left, leas
 ghost use Rattle.hfs_volume.specs.Weight.{room_with};
 ghost use Rattle.volume_runs.specs.Rest.{IsHeldUp};
 ghost use Rattle.volume_base.specs.Attributing.{HasRoomToMark};
-ghost use Rattle.volume_base.specs.Changing.{KeepsBlocks};
 ghost use Rattle.volume_space.specs.Cutting.{KeepsUsed};
-ghost use Rattle.volume_base.specs.Frame.{Looked, Serves};
+ghost use Rattle.volume_base.specs.Frame.{Edits, Looked, Serves};
 ghost use Rattle.volume_base.specs.Keeping.{shrunk_of};
 ghost use Rattle.volume_base.specs.Lists.{lists_of};
 ghost use Rattle.volume_space.specs.Orphans.{AffordsStep, BaresWaiting, TidiesAs, bare_edits, PutsNext};
@@ -135,22 +134,15 @@ fn strip<P: SectorSpace>(
     id: u32,
     name: &Units,
 ) -> Result<(), Trouble>
-    requires stands { StandsOver volume.old (P.SectorView.space space.old) }
-    requires settled { IsTrue (P.SectorView.space space.old).tells → IsSettled volume.old (P.SectorView.space space.old).content }
+    requires serves { Serves volume.old (P.SectorView.space space.old) }
     requires has { IsTrue (has_attributes volume.old.header) }
     requires size { 4096 ≤ (numbers_of volume.old.attributes.file).node_size }
     requires name { length name.now ≤ 127 }
     requires waits { IsTrue (P.SectorView.space space.old).tells → next_reclaim (volume_of (P.SectorView.space space.old).content) (shrunk_of volume.old) ≡ Some (DropAttribute id name.now) }
     requires room { HasRoomToMark 1 volume.old (P.SectorView.space space.old) }
-    ensures stands { OnOk result (StandsOver volume.new (P.SectorView.space space.new)) }
-    ensures service { IsInService volume.new (P.SectorView.space space.new) }
-    ensures blocks { KeepsBlocks volume.old volume.new }
     ensures does { IsTrue (P.SectorView.space space.old).tells
         → OnOk result (IsSettled volume.new (P.SectorView.space space.new).content × ((waiting : BaresWaiting (shrunk_of volume.old) (P.SectorView.space space.old).content (P.SectorView.space space.new).content) × (waiting.id ≡ id) × (waiting.name ≡ name.now))) }
-    ensures touches { (committed : Content) → Touches committed (λ s. Contains (own_sectors volume.old) s) (P.SectorView.space space.old) (P.SectorView.space space.new) }
-    ensures spent { IsTrue (P.SectorView.space space.old).tells → (P.SectorView.space space.old).spare ≤ (P.SectorView.space space.new).spare + bare_load volume.old 1 }
-    ensures below { P.SectorView.follows space.old space.new }
-    ensures cause { HasTroubleCause (P.SectorView.space space.old).faults (P.SectorView.space space.new).faults result }
+    ensures edits { Edits P.SectorView.space P.SectorView.follows (bare_load volume.old 1) volume.old volume.new space.old space.new result }
 {
     reclaim_drops_an_attribute();
     reclaim_drops_attributes_of_orphans();
@@ -168,18 +160,12 @@ fn tidy_attribute<P: SectorSpace>(
     id: u32,
     name: &Units,
 ) -> Result<Tidying, Trouble>
-    requires stands { StandsOver volume.old (P.SectorView.space space.old) }
-    requires settled { IsTrue (P.SectorView.space space.old).tells → IsSettled volume.old (P.SectorView.space space.old).content }
+    requires serves { Serves volume.old (P.SectorView.space space.old) }
     requires waits { IsTrue (P.SectorView.space space.old).tells → next_reclaim (volume_of (P.SectorView.space space.old).content) (shrunk_of volume.old) ≡ Some (DropAttribute id name.now) }
     ensures tidied { IsTrue (P.SectorView.space space.old).tells → IfOk result (λ came. TidiesAs came (capacity_of volume.old) (shrunk_of volume.old) (free_of volume.old.map) (P.SectorView.space space.old).spare (P.SectorView.space space.old).content (P.SectorView.space space.new).content) }
-    ensures stands { OnOk result (StandsOver volume.new (P.SectorView.space space.new)) }
-    ensures settled { IsTrue (P.SectorView.space space.old).tells → OnOk result (IsSettled volume.new (P.SectorView.space space.new).content) }
-    ensures service { IsInService volume.new (P.SectorView.space space.new) }
-    ensures blocks { KeepsBlocks volume.old volume.new }
-    ensures touches { (committed : Content) → Touches committed (λ s. Contains (own_sectors volume.old) s) (P.SectorView.space space.old) (P.SectorView.space space.new) }
     ensures spent { IsTrue (P.SectorView.space space.old).tells → PutsNext (capacity_of volume.old) (shrunk_of volume.old) (volume_of (P.SectorView.space space.old).content) (P.SectorView.space space.old).spare (P.SectorView.space space.new).spare }
-    ensures below { P.SectorView.follows space.old space.new }
-    ensures cause { HasTroubleCause (P.SectorView.space space.old).faults (P.SectorView.space space.new).faults result }
+    ensures edits { Edits P.SectorView.space P.SectorView.follows (P.SectorView.space space.old).spare volume.old volume.new space.old space.new result }
+    ensures serves { OnOk result (Serves volume.new (P.SectorView.space space.new)) }
 {
     // No name is longer (TN1150, "Attributes File").
     if name.len() > 127 {

@@ -1,17 +1,13 @@
 //! The entry of a file that lost its last name, dropped from the private folder.
-ghost use Rattle.std.specs.Prelude.{◌≡◌, ◌≤◌, ◌+◌, IsTrue, length, OnOk};
-ghost use Rattle.std.specs.List.{Contains};
-ghost use Rattle.sector_disk.specs.Lists.{Content};
-ghost use Rattle.btree_edit.specs.Causes.{HasTroubleCause};
+ghost use Rattle.std.specs.Prelude.{◌≤◌, ◌+◌, IsTrue, length, OnOk};
 ghost use Rattle.btree_file.specs.Standing.{numbers_of};
-ghost use Rattle.volume_base.specs.Changing.{HasRoomToUpdate, KeepsBlocks};
+ghost use Rattle.volume_base.specs.Frame.{Edits, Serves};
+ghost use Rattle.volume_base.specs.Changing.{HasRoomToUpdate};
 ghost use Rattle.volume_base.specs.Keeping.{shrunk_of};
 ghost use Rattle.volume_base.specs.Making.{entry_load};
 ghost use Rattle.volume_space.specs.Orphans.{DropsFile, DropsWaiting, IsToDrop};
 ghost use Rattle.volume_base.specs.Removing.{HasRoomToRemove, remove_load};
-ghost use Rattle.volume_base.specs.Service.{IsInService};
-ghost use Rattle.volume_base.specs.Standing.{IsSettled, StandsOver, own_sectors};
-ghost use Rattle.volume_base.specs.Touching.{Touches};
+ghost use Rattle.volume_base.specs.Standing.{IsSettled};
 
 use hfs_volume::{header_may_change, reclaim_drops_an_entry, soundness_has_two_halves};
 use hx_bytes::Trouble;
@@ -27,23 +23,15 @@ fn take_out<P: SectorSpace>(
     space: &mut P,
     entry: &Entry,
 ) -> Result<(), Trouble>
-    requires stands { StandsOver volume.old (P.SectorView.space space.old) }
-    requires settled { IsTrue (P.SectorView.space space.old).tells → IsSettled volume.old (P.SectorView.space space.old).content }
+    requires serves { Serves volume.old (P.SectorView.space space.old) }
     requires size { 4096 ≤ (numbers_of volume.old.catalog.file).node_size }
     requires some { 1 ≤ length entry.now.name }
     requires name { length entry.now.name ≤ 255 }
     requires waits { IsTrue (P.SectorView.space space.old).tells → IsToDrop (shrunk_of volume.old) (P.SectorView.space space.old).content entry.now }
     requires room { HasRoomToRemove volume.old (P.SectorView.space space.old) }
-    ensures stands { OnOk result (StandsOver volume.new (P.SectorView.space space.new)) }
-    ensures service { IsInService volume.new (P.SectorView.space space.new) }
-    ensures blocks { KeepsBlocks volume.old volume.new }
     ensures drops { IsTrue (P.SectorView.space space.old).tells → OnOk result (DropsFile entry.now.parent entry.now.name volume.old volume.new (P.SectorView.space space.old).content (P.SectorView.space space.new).content) }
     ensures room { OnOk result (HasRoomToUpdate volume.new (P.SectorView.space space.new)) }
-    ensures own { own_sectors volume.new ≡ own_sectors volume.old }
-    ensures touches { (committed : Content) → Touches committed (λ s. Contains (own_sectors volume.old) s) (P.SectorView.space space.old) (P.SectorView.space space.new) }
-    ensures spent { IsTrue (P.SectorView.space space.old).tells → (P.SectorView.space space.old).spare ≤ (P.SectorView.space space.new).spare + (1 + entry_load volume.old) }
-    ensures below { P.SectorView.follows space.old space.new }
-    ensures cause { HasTroubleCause (P.SectorView.space space.old).faults (P.SectorView.space space.new).faults result }
+    ensures edits { Edits P.SectorView.space P.SectorView.follows (1 + entry_load volume.old) volume.old volume.new space.old space.new result }
 {
     edits_have_room();
     edits_take_their_load();
@@ -59,22 +47,15 @@ pub(crate) fn drop_waiting<P: SectorSpace>(
     space: &mut P,
     entry: &Entry,
 ) -> Result<(), Trouble>
-    requires stands { StandsOver volume.old (P.SectorView.space space.old) }
-    requires settled { IsTrue (P.SectorView.space space.old).tells → IsSettled volume.old (P.SectorView.space space.old).content }
+    requires serves { Serves volume.old (P.SectorView.space space.old) }
     requires size { 4096 ≤ (numbers_of volume.old.catalog.file).node_size }
     requires some { 1 ≤ length entry.now.name }
     requires name { length entry.now.name ≤ 255 }
     requires waits { IsTrue (P.SectorView.space space.old).tells → IsToDrop (shrunk_of volume.old) (P.SectorView.space space.old).content entry.now }
     requires room { HasRoomToRemove volume.old (P.SectorView.space space.old) }
-    ensures stands { OnOk result (StandsOver volume.new (P.SectorView.space space.new)) }
-    ensures service { IsInService volume.new (P.SectorView.space space.new) }
-    ensures blocks { KeepsBlocks volume.old volume.new }
     ensures does { IsTrue (P.SectorView.space space.old).tells
         → OnOk result (IsSettled volume.new (P.SectorView.space space.new).content × DropsWaiting (shrunk_of volume.old) (P.SectorView.space space.old).content (P.SectorView.space space.new).content) }
-    ensures touches { (committed : Content) → Touches committed (λ s. Contains (own_sectors volume.old) s) (P.SectorView.space space.old) (P.SectorView.space space.new) }
-    ensures spent { IsTrue (P.SectorView.space space.old).tells → (P.SectorView.space space.old).spare ≤ (P.SectorView.space space.new).spare + remove_load volume.old }
-    ensures below { P.SectorView.follows space.old space.new }
-    ensures cause { HasTroubleCause (P.SectorView.space space.old).faults (P.SectorView.space space.new).faults result }
+    ensures edits { Edits P.SectorView.space P.SectorView.follows (remove_load volume.old) volume.old volume.new space.old space.new result }
 {
     reclaim_drops_an_entry();
     soundness_has_two_halves();

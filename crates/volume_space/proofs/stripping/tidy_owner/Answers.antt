@@ -1,5 +1,5 @@
-use Rattle.std.proofs.Common.{◌≡◌, ◌≤◌, ℕ, List, arith, sym, ◌∙◌, ap, subst, refl, inl}
-use Rattle.std.specs.Prelude.{Option, IfSome, Some, IsTrue}
+use Rattle.std.proofs.Common.{◌≡◌, ℕ, List, arith, sym, ◌∙◌, ap, subst, inl, []}
+use Rattle.std.specs.Prelude.{Option, IfSome, Some}
 use Rattle.std.specs.List.{Contains}
 use Rattle.sector_disk.specs.Lists.{Content}
 use Rattle.alloc_bitmap.specs.Map.{BlockMap, free_of}
@@ -15,10 +15,10 @@ use Rattle.volume_base.proofs.Commanding.{touches_both, touches_looks}
 use Rattle.volume_space.proofs.KeptUsed.{used_blocks, used_both, used_read}
 use Rattle.volume_base.proofs.Seeing.{cause_since}
 use Rattle.volume_base.proofs.Still.{own_still}
+use Rattle.volume_base.specs.Frame.{Serves}
+use Rattle.volume_base.specs.Standing.{IsSettled}
+use Rattle.volume_base.proofs.FoundEntry.{ok_so}
 use Rattle.volume_space.proofs.stripping.tidy_owner.Goals as goal
-
-pub tidy_attribute-requires-clause-settled : goal.tidy_attribute-requires-clause-settled
-tidy_attribute-requires-clause-settled g c tells = c.next_owned.ensures.serves.settled tells
 
 pub tidy_attribute-requires-clause-waits : goal.tidy_attribute-requires-clause-waits
 tidy_attribute-requires-clause-waits g c tells =
@@ -34,17 +34,17 @@ returns-in-Some-clause-tidied g c tells =
 pub returns-in-Some-clause-touches : goal.returns-in-Some-clause-touches
 returns-in-Some-clause-touches g c committed =
     touches_both committed _ (g.P.SectorView.space c.args.space.now) (g.P.SectorView.space c.next_owned.new.space) (g.P.SectorView.space c.tidy_attribute.new.space) (touches_looks committed _ (g.P.SectorView.space c.args.space.now) (g.P.SectorView.space c.next_owned.new.space) c.next_owned.ensures.looked.reads.looks)
-    (subst (λ (l : List ℕ). Touches committed (λ s. Contains l s) (g.P.SectorView.space c.next_owned.new.space) (g.P.SectorView.space c.tidy_attribute.new.space)) (own_still c.args.volume.now c.next_owned.new.volume (g.P.SectorView.space c.args.space.now) (g.P.SectorView.space c.next_owned.new.space) c.next_owned.ensures.looked.reads) (c.tidy_attribute.ensures.touches committed))
+    (subst (λ (l : List ℕ). Touches committed (λ s. Contains l s) (g.P.SectorView.space c.next_owned.new.space) (g.P.SectorView.space c.tidy_attribute.new.space)) (own_still c.args.volume.now c.next_owned.new.volume (g.P.SectorView.space c.args.space.now) (g.P.SectorView.space c.next_owned.new.space) c.next_owned.ensures.looked.reads) (c.tidy_attribute.ensures.edits.ran.touches committed))
 
 pub returns-in-Some-clause-used : goal.returns-in-Some-clause-used
 returns-in-Some-clause-used g c =
-    used_both c.args.volume.now c.next_owned.new.volume c.tidy_attribute.new.volume (used_read c.args.volume.now c.next_owned.new.volume (g.P.SectorView.space c.args.space.now) (g.P.SectorView.space c.next_owned.new.space) c.next_owned.ensures.looked.reads) (used_blocks c.next_owned.new.volume c.tidy_attribute.new.volume c.tidy_attribute.ensures.blocks)
+    used_both c.args.volume.now c.next_owned.new.volume c.tidy_attribute.new.volume (used_read c.args.volume.now c.next_owned.new.volume (g.P.SectorView.space c.args.space.now) (g.P.SectorView.space c.next_owned.new.space) c.next_owned.ensures.looked.reads) (used_blocks c.next_owned.new.volume c.tidy_attribute.new.volume c.tidy_attribute.ensures.edits.blocks)
 
 pub returns-in-Some-clause-below : goal.returns-in-Some-clause-below
-returns-in-Some-clause-below g c = g.met.P.SectorView.follows_trans c.args.space.now c.next_owned.new.space c.tidy_attribute.new.space c.next_owned.ensures.looked.edits.ran.below c.tidy_attribute.ensures.below
+returns-in-Some-clause-below g c = g.met.P.SectorView.follows_trans c.args.space.now c.next_owned.new.space c.tidy_attribute.new.space c.next_owned.ensures.looked.edits.ran.below c.tidy_attribute.ensures.edits.ran.below
 
 pub returns-in-Some-clause-cause : goal.returns-in-Some-clause-cause
-returns-in-Some-clause-cause g c = cause_since (g.P.SectorView.space c.args.space.now).faults (g.P.SectorView.space c.next_owned.new.space).faults (g.P.SectorView.space c.tidy_attribute.new.space).faults c.tidy_attribute.result c.next_owned.ensures.looked.reads.looks.faults c.tidy_attribute.ensures.cause
+returns-in-Some-clause-cause g c = cause_since (g.P.SectorView.space c.args.space.now).faults (g.P.SectorView.space c.next_owned.new.space).faults (g.P.SectorView.space c.tidy_attribute.new.space).faults c.tidy_attribute.result c.next_owned.ensures.looked.reads.looks.faults c.tidy_attribute.ensures.edits.ran.cause
 
 pub returns-in-None-clause-tidied : goal.returns-in-None-clause-tidied
 returns-in-None-clause-tidied g c tells =
@@ -99,3 +99,8 @@ returns-in-None-clause-spent g c tells =
 
 pub returns-in_err-name-clause-spent : goal.returns-in_err-name-clause-spent
 returns-in_err-name-clause-spent g c tells = inl (omega (arith, c.next_owned.ensures.looked.reads.looks.spare))
+
+pub returns-in-Some-clause-settled : goal.returns-in-Some-clause-settled
+returns-in-Some-clause-settled g c tells =
+    ok_so (Serves c.tidy_attribute.new.volume (g.P.SectorView.space c.tidy_attribute.new.space)) (IsSettled c.tidy_attribute.new.volume (g.P.SectorView.space c.tidy_attribute.new.space).content) c.tidy_attribute.result c.tidy_attribute.ensures.serves
+    (λ s. s.settled ((c.tidy_attribute.ensures.edits.ran.touches []).same.tells ∙ (c.next_owned.ensures.looked.reads.looks.same.tells ∙ tells)))

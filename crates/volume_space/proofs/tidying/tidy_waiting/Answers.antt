@@ -1,5 +1,5 @@
-use Rattle.std.proofs.Common.{◌≡◌, ◌≤◌, ℕ, length, List, arith, sym, ◌∙◌, ap, subst, refl, inl}
-use Rattle.std.specs.Prelude.{Option, IfSome, IsTrue}
+use Rattle.std.proofs.Common.{◌≤◌, ℕ, length, List, arith, sym, ◌∙◌, ap, subst, inl, []}
+use Rattle.std.specs.Prelude.{Option, IfSome}
 use Rattle.std.specs.List.{Contains}
 use Rattle.sector_disk.specs.Lists.{Content}
 use Rattle.alloc_bitmap.specs.Map.{BlockMap, free_of}
@@ -17,10 +17,10 @@ use Rattle.volume_base.proofs.Commanding.{touches_both, touches_looks}
 use Rattle.volume_space.proofs.KeptUsed.{used_blocks, used_both, used_read}
 use Rattle.volume_base.proofs.Seeing.{cause_since}
 use Rattle.volume_base.proofs.Still.{own_still}
+use Rattle.volume_base.specs.Frame.{Serves}
+use Rattle.volume_base.specs.Standing.{IsSettled}
+use Rattle.volume_base.proofs.FoundEntry.{ok_so}
 use Rattle.volume_space.proofs.tidying.tidy_waiting.Goals as goal
-
-pub tidy_entry-requires-clause-settled : goal.tidy_entry-requires-clause-settled
-tidy_entry-requires-clause-settled g c tells = c.bare_waiting.ensures.serves.settled tells
 
 pub tidy_entry-requires-clause-name : goal.tidy_entry-requires-clause-name
 tidy_entry-requires-clause-name g c = subst (λ (o : Option Entry). IfSome o (λ entry. length entry.name ≤ 255)) c.in-Some.is c.in_ok-entry.ensures.name
@@ -40,17 +40,17 @@ returns-in-Some-clause-tidied g c tells =
 pub returns-in-Some-clause-touches : goal.returns-in-Some-clause-touches
 returns-in-Some-clause-touches g c committed =
     touches_both committed _ (g.P.SectorView.space c.args.space.now) (g.P.SectorView.space c.bare_waiting.new.space) (g.P.SectorView.space c.tidy_entry.new.space) (touches_looks committed _ (g.P.SectorView.space c.args.space.now) (g.P.SectorView.space c.bare_waiting.new.space) c.bare_waiting.ensures.looked.reads.looks)
-    (subst (λ (l : List ℕ). Touches committed (λ s. Contains l s) (g.P.SectorView.space c.bare_waiting.new.space) (g.P.SectorView.space c.tidy_entry.new.space)) (own_still c.args.volume.now c.bare_waiting.new.volume (g.P.SectorView.space c.args.space.now) (g.P.SectorView.space c.bare_waiting.new.space) c.bare_waiting.ensures.looked.reads) (c.tidy_entry.ensures.touches committed))
+    (subst (λ (l : List ℕ). Touches committed (λ s. Contains l s) (g.P.SectorView.space c.bare_waiting.new.space) (g.P.SectorView.space c.tidy_entry.new.space)) (own_still c.args.volume.now c.bare_waiting.new.volume (g.P.SectorView.space c.args.space.now) (g.P.SectorView.space c.bare_waiting.new.space) c.bare_waiting.ensures.looked.reads) (c.tidy_entry.ensures.edits.ran.touches committed))
 
 pub returns-in-Some-clause-used : goal.returns-in-Some-clause-used
 returns-in-Some-clause-used g c =
-    used_both c.args.volume.now c.bare_waiting.new.volume c.tidy_entry.new.volume (used_read c.args.volume.now c.bare_waiting.new.volume (g.P.SectorView.space c.args.space.now) (g.P.SectorView.space c.bare_waiting.new.space) c.bare_waiting.ensures.looked.reads) (used_blocks c.bare_waiting.new.volume c.tidy_entry.new.volume c.tidy_entry.ensures.blocks)
+    used_both c.args.volume.now c.bare_waiting.new.volume c.tidy_entry.new.volume (used_read c.args.volume.now c.bare_waiting.new.volume (g.P.SectorView.space c.args.space.now) (g.P.SectorView.space c.bare_waiting.new.space) c.bare_waiting.ensures.looked.reads) (used_blocks c.bare_waiting.new.volume c.tidy_entry.new.volume c.tidy_entry.ensures.edits.blocks)
 
 pub returns-in-Some-clause-below : goal.returns-in-Some-clause-below
-returns-in-Some-clause-below g c = g.met.P.SectorView.follows_trans c.args.space.now c.bare_waiting.new.space c.tidy_entry.new.space c.bare_waiting.ensures.looked.edits.ran.below c.tidy_entry.ensures.below
+returns-in-Some-clause-below g c = g.met.P.SectorView.follows_trans c.args.space.now c.bare_waiting.new.space c.tidy_entry.new.space c.bare_waiting.ensures.looked.edits.ran.below c.tidy_entry.ensures.edits.ran.below
 
 pub returns-in-Some-clause-cause : goal.returns-in-Some-clause-cause
-returns-in-Some-clause-cause g c = cause_since (g.P.SectorView.space c.args.space.now).faults (g.P.SectorView.space c.bare_waiting.new.space).faults (g.P.SectorView.space c.tidy_entry.new.space).faults c.tidy_entry.result c.bare_waiting.ensures.looked.reads.looks.faults c.tidy_entry.ensures.cause
+returns-in-Some-clause-cause g c = cause_since (g.P.SectorView.space c.args.space.now).faults (g.P.SectorView.space c.bare_waiting.new.space).faults (g.P.SectorView.space c.tidy_entry.new.space).faults c.tidy_entry.result c.bare_waiting.ensures.looked.reads.looks.faults c.tidy_entry.ensures.edits.ran.cause
 
 pub returns-in-None-clause-tidied : goal.returns-in-None-clause-tidied
 returns-in-None-clause-tidied g c tells =
@@ -105,3 +105,8 @@ returns-in-None-clause-spent g c tells =
 
 pub returns-in_err-entry-clause-spent : goal.returns-in_err-entry-clause-spent
 returns-in_err-entry-clause-spent g c tells = inl (omega (arith, c.bare_waiting.ensures.looked.reads.looks.spare))
+
+pub returns-in-Some-clause-settled : goal.returns-in-Some-clause-settled
+returns-in-Some-clause-settled g c tells =
+    ok_so (Serves c.tidy_entry.new.volume (g.P.SectorView.space c.tidy_entry.new.space)) (IsSettled c.tidy_entry.new.volume (g.P.SectorView.space c.tidy_entry.new.space).content) c.tidy_entry.result c.tidy_entry.ensures.serves
+    (λ s. s.settled ((c.tidy_entry.ensures.edits.ran.touches []).same.tells ∙ (c.bare_waiting.ensures.looked.reads.looks.same.tells ∙ tells)))

@@ -1,20 +1,16 @@
-use Rattle.std.proofs.Common.{[], ℕ, List, sym, ◌∙◌, ap, subst, arith}
-use Rattle.std.specs.List.{Contains}
-use Rattle.btree_edit.specs.Edits.{EditRoom, TakesAtMost, TakesEdits}
+use Rattle.std.proofs.Common.{[], sym, ◌∙◌, ap, subst, arith}
+use Rattle.btree_edit.specs.Edits.{EditRoom, TakesAtMost}
 use Rattle.btree_file.specs.Standing.{numbers_of}
 use Rattle.btree_file.specs.State.{state_of}
 use Rattle.volume_base.specs.Keeping.{shrunk_of}
-use Rattle.volume_base.specs.Touching.{Touches}
 use Rattle.volume_base.specs.declared.volume.Tree.{Tree}
 use Rattle.volume_base.specs.declared.volume.Volume.{Volume}
-use Rattle.volume_base.proofs.Added.{own_added, own_drawn}
-use Rattle.volume_base.proofs.Commanding.{touches_both}
 use Rattle.volume_base.proofs.RoomToRemove.{room_behind_removal, room_to_remove, spent_removal}
 use Rattle.volume_base.proofs.TakenOff.{threads_drawn}
 use Rattle.volume_space.proofs.TakenOut.{drops_file}
-use Rattle.volume_base.proofs.Touched.{touches_header}
-use Rattle.volume_base.proofs.Besides.{blocks_both, blocks_edit, blocks_header}
 use Rattle.volume_space.proofs.Unfiled.{stands_under}
+use Rattle.volume_base.proofs.Framed.{edits_err, edits_ok, edits_spent}
+use Rattle.volume_base.proofs.Joined.{edits_both, edits_header}
 use Rattle.volume_space.proofs.unfiling.take_out.Goals as goal
 
 pub remove-requires-clause-size : goal.remove-requires-clause-size
@@ -23,7 +19,7 @@ remove-requires-clause-size g c = omega (arith, c.requires.size, ap (λ (x : Vol
 pub remove-requires-clause-threads : goal.remove-requires-clause-threads
 remove-requires-clause-threads g c tells =
     let before = sym c.count_file_off.ensures.within.same.tells ∙ tells in
-    threads_drawn c.args.volume.now c.count_file_off.new.self (g.P.SectorView.space c.args.space.now) (g.P.SectorView.space c.count_file_off.new.space) c.count_file_off.ensures.rest (c.count_file_off.ensures.put (sym c.count_file_off.ensures.within.same.tells ∙ tells)) (c.requires.settled (sym c.count_file_off.ensures.within.same.tells ∙ tells))
+    threads_drawn c.args.volume.now c.count_file_off.new.self (g.P.SectorView.space c.args.space.now) (g.P.SectorView.space c.count_file_off.new.space) c.count_file_off.ensures.rest (c.count_file_off.ensures.put (sym c.count_file_off.ensures.within.same.tells ∙ tells)) (c.requires.serves.settled (sym c.count_file_off.ensures.within.same.tells ∙ tells))
 
 pub remove-requires-clause-room : goal.remove-requires-clause-room
 remove-requires-clause-room g c names tells =
@@ -36,7 +32,7 @@ returns-clause-drops g c tells =
     drops_file c.args.volume.now c.count_file_off.new.self (g.P.SectorView.space c.args.space.now) (g.P.SectorView.space c.count_file_off.new.space) c.count_file_off.ensures.rest (c.count_file_off.ensures.put tells) c.remove.new.self (g.P.SectorView.space c.remove.new.space)
     (c.count_file_off.ensures.stands.stands later) later (c.in_ok-remove.ensures.edits.ran.stands.stands (c.remove.ensures.frame.space.same.tells ∙ later)) c.remove.ensures.frame c.remove.ensures.rest
     c.args.entry.now.parent c.args.entry.now.name c.in_ok-remove.field-0 c.count_file_off.ensures.header
-    (stands_under c.args.volume.now (g.P.SectorView.space c.args.space.now) (c.requires.stands.stands tells) (c.requires.settled tells) (shrunk_of c.args.volume.now) c.args.entry.now (c.requires.waits tells))
+    (stands_under c.args.volume.now (g.P.SectorView.space c.args.space.now) (c.requires.serves.stands.stands tells) (c.requires.serves.settled tells) (shrunk_of c.args.volume.now) c.args.entry.now (c.requires.waits tells))
     (c.in_ok-remove.ensures.answer later) (c.in_ok-remove.ensures.removed later)
 
 pub returns-clause-room : goal.returns-clause-room
@@ -46,44 +42,12 @@ returns-clause-room g c =
     (subst (λ (t : Tree). TakesAtMost 2 516 (state_of [] t.file (g.P.SectorView.space c.count_file_off.new.space)) (state_of [] c.remove.new.self.catalog.file (g.P.SectorView.space c.remove.new.space))) (ap (λ (x : Volume). x.catalog) c.count_file_off.ensures.rest) (c.remove.ensures.takes []))
     c.remove.ensures.frame.space.same.tells
 
-pub returns-clause-own : goal.returns-clause-own
-returns-clause-own g c = own_added c.args.volume.now c.count_file_off.new.self c.remove.new.self (g.P.SectorView.space c.count_file_off.new.space) (g.P.SectorView.space c.remove.new.space) c.count_file_off.ensures.rest c.remove.ensures.frame c.remove.ensures.rest
-
-pub returns-in_err-remove-clause-own : goal.returns-in_err-remove-clause-own
-returns-in_err-remove-clause-own g c = own_added c.args.volume.now c.count_file_off.new.self c.remove.new.self (g.P.SectorView.space c.count_file_off.new.space) (g.P.SectorView.space c.remove.new.space) c.count_file_off.ensures.rest c.remove.ensures.frame c.remove.ensures.rest
-
-pub returns-clause-touches : goal.returns-clause-touches
-returns-clause-touches g c committed =
-    touches_both committed _ (g.P.SectorView.space c.args.space.now) (g.P.SectorView.space c.count_file_off.new.space) (g.P.SectorView.space c.remove.new.space)
-    (touches_header c.args.volume.now committed (g.P.SectorView.space c.args.space.now) (g.P.SectorView.space c.count_file_off.new.space) c.count_file_off.ensures.within)
-    (subst (λ (l : List ℕ). Touches committed (λ s. Contains l s) (g.P.SectorView.space c.count_file_off.new.space) (g.P.SectorView.space c.remove.new.space)) (own_drawn c.args.volume.now c.count_file_off.new.self c.remove.new.self (g.P.SectorView.space c.count_file_off.new.space) (g.P.SectorView.space c.remove.new.space) c.count_file_off.ensures.rest c.remove.ensures.frame c.remove.ensures.rest) (c.remove.ensures.edits.ran.touches committed))
-
-pub returns-in_err-remove-clause-touches : goal.returns-in_err-remove-clause-touches
-returns-in_err-remove-clause-touches g c committed =
-    touches_both committed _ (g.P.SectorView.space c.args.space.now) (g.P.SectorView.space c.count_file_off.new.space) (g.P.SectorView.space c.remove.new.space)
-    (touches_header c.args.volume.now committed (g.P.SectorView.space c.args.space.now) (g.P.SectorView.space c.count_file_off.new.space) c.count_file_off.ensures.within)
-    (subst (λ (l : List ℕ). Touches committed (λ s. Contains l s) (g.P.SectorView.space c.count_file_off.new.space) (g.P.SectorView.space c.remove.new.space)) (own_drawn c.args.volume.now c.count_file_off.new.self c.remove.new.self (g.P.SectorView.space c.count_file_off.new.space) (g.P.SectorView.space c.remove.new.space) c.count_file_off.ensures.rest c.remove.ensures.frame c.remove.ensures.rest) (c.remove.ensures.edits.ran.touches committed))
-
-pub returns-clause-spent : goal.returns-clause-spent
-returns-clause-spent g c tells =
-    spent_removal c.edits_have_room.ensures c.edits_take_their_load.ensures c.args.volume.now c.remove.new.self (g.P.SectorView.space c.args.space.now) (g.P.SectorView.space c.count_file_off.new.space) (g.P.SectorView.space c.remove.new.space) c.requires.room c.requires.size
+pub returns-clause-edits : goal.returns-clause-edits
+returns-clause-edits g c = edits_ok (edits_spent (edits_both g.met.P.SectorView.follows_trans (edits_header c.count_file_off.ensures.below c.count_file_off.ensures.stands c.count_file_off.ensures.rest c.count_file_off.ensures.within c.count_file_off.ensures.spent c.count_file_off.ensures.faults) c.in_ok-remove.ensures.edits) (λ tells. spent_removal c.edits_have_room.ensures c.edits_take_their_load.ensures c.args.volume.now c.remove.new.self (g.P.SectorView.space c.args.space.now) (g.P.SectorView.space c.count_file_off.new.space) (g.P.SectorView.space c.remove.new.space) c.requires.room c.requires.size
     c.count_file_off.ensures.within.same.tells c.count_file_off.ensures.spent
-    (subst (λ (t : Tree). TakesAtMost 2 516 (state_of [] t.file (g.P.SectorView.space c.count_file_off.new.space)) (state_of [] c.remove.new.self.catalog.file (g.P.SectorView.space c.remove.new.space))) (ap (λ (x : Volume). x.catalog) c.count_file_off.ensures.rest) (c.remove.ensures.takes [])) tells
+    (subst (λ (t : Tree). TakesAtMost 2 516 (state_of [] t.file (g.P.SectorView.space c.count_file_off.new.space)) (state_of [] c.remove.new.self.catalog.file (g.P.SectorView.space c.remove.new.space))) (ap (λ (x : Volume). x.catalog) c.count_file_off.ensures.rest) (c.remove.ensures.takes [])) tells))
 
-pub returns-in_err-remove-clause-spent : goal.returns-in_err-remove-clause-spent
-returns-in_err-remove-clause-spent g c tells =
-    spent_removal c.edits_have_room.ensures c.edits_take_their_load.ensures c.args.volume.now c.remove.new.self (g.P.SectorView.space c.args.space.now) (g.P.SectorView.space c.count_file_off.new.space) (g.P.SectorView.space c.remove.new.space) c.requires.room c.requires.size
+pub returns-in_err-remove-clause-edits : goal.returns-in_err-remove-clause-edits
+returns-in_err-remove-clause-edits g c = edits_err c.from_residual.ensures.1 (edits_spent (edits_both g.met.P.SectorView.follows_trans (edits_header c.count_file_off.ensures.below c.count_file_off.ensures.stands c.count_file_off.ensures.rest c.count_file_off.ensures.within c.count_file_off.ensures.spent c.count_file_off.ensures.faults) c.in_err-remove.ensures.edits) (λ tells. spent_removal c.edits_have_room.ensures c.edits_take_their_load.ensures c.args.volume.now c.remove.new.self (g.P.SectorView.space c.args.space.now) (g.P.SectorView.space c.count_file_off.new.space) (g.P.SectorView.space c.remove.new.space) c.requires.room c.requires.size
     c.count_file_off.ensures.within.same.tells c.count_file_off.ensures.spent
-    (subst (λ (t : Tree). TakesAtMost 2 516 (state_of [] t.file (g.P.SectorView.space c.count_file_off.new.space)) (state_of [] c.remove.new.self.catalog.file (g.P.SectorView.space c.remove.new.space))) (ap (λ (x : Volume). x.catalog) c.count_file_off.ensures.rest) (c.remove.ensures.takes [])) tells
-
-pub returns-clause-below : goal.returns-clause-below
-returns-clause-below g c = g.met.P.SectorView.follows_trans c.args.space.now c.count_file_off.new.space c.remove.new.space c.count_file_off.ensures.below c.remove.ensures.edits.ran.below
-
-pub returns-in_err-remove-clause-below : goal.returns-in_err-remove-clause-below
-returns-in_err-remove-clause-below g c = g.met.P.SectorView.follows_trans c.args.space.now c.count_file_off.new.space c.remove.new.space c.count_file_off.ensures.below c.remove.ensures.edits.ran.below
-
-pub returns-clause-blocks : goal.returns-clause-blocks
-returns-clause-blocks g c = blocks_both c.args.volume.now c.count_file_off.new.self c.remove.new.self (blocks_header c.args.volume.now c.count_file_off.new.self c.count_file_off.ensures.rest) (blocks_edit c.count_file_off.new.self c.remove.new.self c.remove.ensures.rest)
-
-pub returns-in_err-remove-clause-blocks : goal.returns-in_err-remove-clause-blocks
-returns-in_err-remove-clause-blocks g c = blocks_both c.args.volume.now c.count_file_off.new.self c.remove.new.self (blocks_header c.args.volume.now c.count_file_off.new.self c.count_file_off.ensures.rest) (blocks_edit c.count_file_off.new.self c.remove.new.self c.remove.ensures.rest)
+    (subst (λ (t : Tree). TakesAtMost 2 516 (state_of [] t.file (g.P.SectorView.space c.count_file_off.new.space)) (state_of [] c.remove.new.self.catalog.file (g.P.SectorView.space c.remove.new.space))) (ap (λ (x : Volume). x.catalog) c.count_file_off.ensures.rest) (c.remove.ensures.takes [])) tells))
