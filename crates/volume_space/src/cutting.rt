@@ -18,6 +18,7 @@ ghost use Rattle.hx_bytes.specs.Fork.{FitsFork};
 ghost use Rattle.hfs_model.specs.Step.{is_private_name};
 ghost use Rattle.overflow.specs.Records.{no_extent};
 ghost use Rattle.volume_header.specs.Header.{FitsHeader};
+ghost use Rattle.volume_base.specs.Frame.{Edits};
 ghost use Rattle.volume_base.specs.Changing.{HasRoomToUpdate, ReplacesRecord, catalog_node};
 ghost use Rattle.volume_space.specs.Cutting.{CutsFile, IsForkOf, IsNextCut, IsSplit, KeepsUsed, MayGive, PutsGiven, given_back, given_load, kind_of, trim_load};
 ghost use Rattle.volume_base.specs.Cutting.{IsCutOf, IsLastCut, cut_fork_of, fork_at, shorter_fork, with_freed};
@@ -357,14 +358,9 @@ fn put_shorter<P: SectorSpace>(
     requires fits { FitsFile file.now }
     requires less { cut.now.goes.count ≤ (fork_at (kind_of kind) file.now).total_blocks }
     requires room { HasRoomToUpdate volume.old (P.SectorView.space space.old) }
-    ensures stands { OnOk result (StandsOver volume.new (P.SectorView.space space.new)) }
-    ensures service { IsInService volume.new (P.SectorView.space space.new) }
     ensures rest { volume.new ≡ record volume.old { catalog = volume.new.catalog } }
     ensures replaces { IsTrue (P.SectorView.space space.old).tells → OnOk result (ReplacesRecord entry.now (File (with_fork (kind_of kind) (cut_fork_of volume.old.header.block_size (fork_at (kind_of kind) file.now) cut.now) file.now)) volume.old volume.new (P.SectorView.space space.old).content (P.SectorView.space space.new).content) }
-    ensures touches { (committed : Content) → Touches committed (λ s. Contains (own_sectors volume.old) s) (P.SectorView.space space.old) (P.SectorView.space space.new) }
-    ensures spent { IsTrue (P.SectorView.space space.old).tells → (P.SectorView.space space.old).spare ≤ (P.SectorView.space space.new).spare + catalog_node volume.old }
-    ensures below { P.SectorView.follows space.old space.new }
-    ensures cause { HasTroubleCause (P.SectorView.space space.old).faults (P.SectorView.space space.new).faults result }
+    ensures edits { Edits P.SectorView.space P.SectorView.follows (catalog_node volume.old) volume.old volume.new space.old space.new result }
 {
     let stored = fork_of(kind, file);
     let left = stored.total_blocks - cut.goes.count;

@@ -88,7 +88,7 @@ returns-clause-cuts g c tells =
     let between = (c.put_back.ensures.touches []).same.tells ∙ tells in
     let told = (c.store_extents.ensures.touches []).same.tells ∙ between in
     ok_both (StandsOver c.put_shorter.new.volume (g.P.SectorView.space c.put_shorter.new.space)) (ReplacesRecord c.args.entry.now (File (with_fork (kind_of c.args.kind) (cut_fork_of c.store_extents.new.volume.header.block_size (fork_at (kind_of c.args.kind) c.args.file.now) c.args.cut.now) c.args.file.now)) c.store_extents.new.volume c.put_shorter.new.volume (g.P.SectorView.space c.store_extents.new.space).content (g.P.SectorView.space c.put_shorter.new.space).content)
-    (IsSettled c.put_shorter.new.volume (g.P.SectorView.space c.put_shorter.new.space).content × CutsFile (shrunk_of c.args.volume.now) (g.P.SectorView.space c.args.space.now).content (g.P.SectorView.space c.put_shorter.new.space).content) c.put_shorter.result c.put_shorter.ensures.stands (c.put_shorter.ensures.replaces told)
+    (IsSettled c.put_shorter.new.volume (g.P.SectorView.space c.put_shorter.new.space).content × CutsFile (shrunk_of c.args.volume.now) (g.P.SectorView.space c.args.space.now).content (g.P.SectorView.space c.put_shorter.new.space).content) c.put_shorter.result c.put_shorter.ensures.edits.ran.stands (c.put_shorter.ensures.replaces told)
     (λ stands replaces. cut_whole c.args.volume.now c.store_extents.new.volume c.put_shorter.new.volume (g.P.SectorView.space c.args.space.now) (g.P.SectorView.space c.put_back.new.space) (g.P.SectorView.space c.store_extents.new.space) (g.P.SectorView.space c.put_shorter.new.space) (c.requires.stands.stands tells) (c.requires.settled tells) c.args.entry.now c.args.file.now c.args.list.now (kind_of c.args.kind) c.args._keep c.args.cut.now c.requires.gives c.requires.unchanged (kind_is c.args.kind)
     (c.requires.list tells) c.requires.cut c.requires.no_link (c.requires.there tells) c.requires.is
     (subst (λ (x : Volume). PutsGiven x (g.P.SectorView.space c.args.space.now).content (g.P.SectorView.space c.put_back.new.space).content) c.in_ok-put_back.ensures.gives (c.in_ok-put_back.ensures.puts tells))
@@ -96,7 +96,7 @@ returns-clause-cuts g c tells =
     (λ i. (c.number_of.ensures.same i, stays_in_use c.args._keep c.args.list.now c.args.cut.now (kind_of c.args.kind) c.args.file.now (g.P.SectorView.space c.args.space.now).content c.requires.cut.last (c.requires.list tells) i, c.in_ok-put_back.ensures.gives i)) (c.in_ok-store_extents.ensures.stores between))
     (subst (λ n. ReplacesRecord c.args.entry.now (File (with_fork (kind_of c.args.kind) (cut_fork_of n (fork_at (kind_of c.args.kind) c.args.file.now) c.args.cut.now) c.args.file.now)) c.store_extents.new.volume c.put_shorter.new.volume (g.P.SectorView.space c.store_extents.new.space).content (g.P.SectorView.space c.put_shorter.new.space).content)
     (ap (λ (x : Volume). x.header.block_size) c.store_extents.ensures.rest ∙ ap (λ (x : Volume). x.header.block_size) c.in_ok-put_back.ensures.gives) replaces)
-    (stands.stands ((c.put_shorter.ensures.touches []).same.tells ∙ told)) c.cut_of_a_shrunk_file_keeps_the_tree.ensures c.cut_of_an_orphan_keeps_the_tree.ensures c.other_files_keep_their_bytes.ensures c.requires.user (shrunk_of c.args.volume.now) (c.requires.next tells))
+    (stands.stands ((c.put_shorter.ensures.edits.ran.touches []).same.tells ∙ told)) c.cut_of_a_shrunk_file_keeps_the_tree.ensures c.cut_of_an_orphan_keeps_the_tree.ensures c.other_files_keep_their_bytes.ensures c.requires.user (shrunk_of c.args.volume.now) (c.requires.next tells))
 
 pub returns-clause-used : goal.returns-clause-used
 returns-clause-used g c =
@@ -108,14 +108,14 @@ pub returns-clause-touches : goal.returns-clause-touches
 returns-clause-touches g c committed = touches_both committed (λ s. Contains (own_sectors c.args.volume.now) s) (g.P.SectorView.space c.args.space.now) (g.P.SectorView.space c.put_back.new.space) (g.P.SectorView.space c.put_shorter.new.space) (c.put_back.ensures.touches committed)
     (subst (λ (l : List ℕ). Touches committed (λ s. Contains l s) (g.P.SectorView.space c.put_back.new.space) (g.P.SectorView.space c.put_shorter.new.space)) (ap (λ (x : Volume). own_sectors x) c.in_ok-put_back.ensures.gives)
     (touches_both committed (λ s. Contains (own_sectors c.put_back.new.volume) s) (g.P.SectorView.space c.put_back.new.space) (g.P.SectorView.space c.store_extents.new.space) (g.P.SectorView.space c.put_shorter.new.space) (c.store_extents.ensures.touches committed)
-    (subst (λ (l : List ℕ). Touches committed (λ s. Contains l s) (g.P.SectorView.space c.store_extents.new.space) (g.P.SectorView.space c.put_shorter.new.space)) c.store_extents.ensures.own (c.put_shorter.ensures.touches committed))))
+    (subst (λ (l : List ℕ). Touches committed (λ s. Contains l s) (g.P.SectorView.space c.store_extents.new.space) (g.P.SectorView.space c.put_shorter.new.space)) c.store_extents.ensures.own (c.put_shorter.ensures.edits.ran.touches committed))))
 
 pub returns-clause-below : goal.returns-clause-below
-returns-clause-below g c = g.met.P.SectorView.follows_trans c.args.space.now c.store_extents.new.space c.put_shorter.new.space (g.met.P.SectorView.follows_trans c.args.space.now c.put_back.new.space c.store_extents.new.space c.put_back.ensures.below c.store_extents.ensures.below) c.put_shorter.ensures.below
+returns-clause-below g c = g.met.P.SectorView.follows_trans c.args.space.now c.store_extents.new.space c.put_shorter.new.space (g.met.P.SectorView.follows_trans c.args.space.now c.put_back.new.space c.store_extents.new.space c.put_back.ensures.below c.store_extents.ensures.below) c.put_shorter.ensures.edits.ran.below
 
 pub returns-clause-cause : goal.returns-clause-cause
 returns-clause-cause g c =
-    cause_since (g.P.SectorView.space c.args.space.now).faults (g.P.SectorView.space c.store_extents.new.space).faults (g.P.SectorView.space c.put_shorter.new.space).faults c.put_shorter.result (omega (arith, (c.put_back.ensures.touches []).faults, (c.store_extents.ensures.touches []).faults)) c.put_shorter.ensures.cause
+    cause_since (g.P.SectorView.space c.args.space.now).faults (g.P.SectorView.space c.store_extents.new.space).faults (g.P.SectorView.space c.put_shorter.new.space).faults c.put_shorter.result (omega (arith, (c.put_back.ensures.touches []).faults, (c.store_extents.ensures.touches []).faults)) c.put_shorter.ensures.edits.ran.cause
 
 -- ---- where there is no room
 
@@ -181,4 +181,4 @@ returns-clause-spent g c tells =
     c.args._keep c.args.cut.now c.requires.cut.last c.put_back.new.volume (g.P.SectorView.space c.put_back.new.space) (c.in_ok-put_back.ensures.stands.stands between).trees.extents c.in_ok-put_back.ensures.gives (c.in_ok-put_back.ensures.puts tells)
     c.number_of.result c.number_of.ensures.same c.requires.number (g.P.SectorView.space c.store_extents.new.space).spare (c.store_extents.ensures.light between) in
     let node : catalog_node c.store_extents.new.volume ≡ catalog_node c.args.volume.now = ap (λ (x : Volume). catalog_node x) c.store_extents.ensures.rest ∙ ap (λ (x : Volume). catalog_node x) c.in_ok-put_back.ensures.gives in
-    omega (arith, c.put_back.ensures.spent, stored, c.put_shorter.ensures.spent ((c.store_extents.ensures.touches []).same.tells ∙ between), node)
+    omega (arith, c.put_back.ensures.spent, stored, c.put_shorter.ensures.edits.ran.spent ((c.store_extents.ensures.touches []).same.tells ∙ between), node)

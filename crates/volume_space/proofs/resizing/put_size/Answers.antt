@@ -6,9 +6,9 @@ use Rattle.hfs_volume.specs.Records.{is_thread}
 use Rattle.catalog.specs.Entries.{IsOfKind}
 use Rattle.volume_base.specs.Changing.{ReplacesRecord}
 use Rattle.volume_space.specs.Resizing.{SetsSize}
-use Rattle.volume_base.proofs.Commanding.{touches_none}
 use Rattle.volume_base.proofs.FoundEntry.{ok_so}
 use Rattle.volume_space.proofs.ShortenedCalls.{size_some}
+use Rattle.volume_base.proofs.Framed.{edits_none}
 use Rattle.volume_space.proofs.resizing.put_size.Goals as goal
 
 pub replace-requires-clause-kind : goal.replace-requires-clause-kind
@@ -29,8 +29,5 @@ returns-clause-sets g c tells kind =
 pub returns-in_default-clause-sets : goal.returns-in_default-clause-sets
 returns-in_default-clause-sets g c tells kind = absurd (size_some c.args.volume.now.header.modify_date c.args.size c.args.entry.now.rec kind (sym c.with_size.ensures.same ∙ c.in_default.is))
 
-pub returns-in_default-clause-touches : goal.returns-in_default-clause-touches
-returns-in_default-clause-touches g c committed = touches_none committed _ (g.P.SectorView.space c.args.space.now)
-
-pub returns-in_default-clause-service : goal.returns-in_default-clause-service
-returns-in_default-clause-service g c = c.requires.stands.service
+pub returns-in_default-clause-edits : goal.returns-in_default-clause-edits
+returns-in_default-clause-edits g c = edits_none _ g.met.P.SectorView.follows_refl c.requires.stands

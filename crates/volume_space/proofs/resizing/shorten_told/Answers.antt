@@ -50,7 +50,7 @@ returns-clause-shrunk g c tells =
     ∙ shrunk_told (tree_of (g.P.SectorView.space c.args.space.now).content) c.args._path.now c.args.told.now it.node about.0 c.args.size c.args.volume.now.shrunk
 
 pub returns-clause-stands : goal.returns-clause-stands
-returns-clause-stands g c = stands_then c.set_size.new.volume c.shrunk_after-volume.result (g.P.SectorView.space c.set_size.new.space) c.in_ok-set_size.ensures.stands
+returns-clause-stands g c = stands_then c.set_size.new.volume c.shrunk_after-volume.result (g.P.SectorView.space c.set_size.new.space) c.in_ok-set_size.ensures.edits.ran.stands
 
 pub returns-clause-settled : goal.returns-clause-settled
 returns-clause-settled g c tells =
@@ -60,19 +60,19 @@ returns-clause-settled g c tells =
     settled_then c.set_size.new.volume c.shrunk_after-volume.result (g.P.SectorView.space c.set_size.new.space).content does.0
 
 pub returns-clause-service : goal.returns-clause-service
-returns-clause-service g c = service_then c.set_size.new.volume c.shrunk_after-volume.result (g.P.SectorView.space c.set_size.new.space) c.set_size.ensures.service
+returns-clause-service g c = service_then c.set_size.new.volume c.shrunk_after-volume.result (g.P.SectorView.space c.set_size.new.space) c.set_size.ensures.edits.ran.service
 
 pub returns-clause-loads : goal.returns-clause-loads
 returns-clause-loads g c tells n grow is =
     let it = told_node (tree_of (g.P.SectorView.space c.args.space.now).content) c.args._path.now c.args.told.now (c.requires.told tells) in
     let about = trunc_told (tree_of (g.P.SectorView.space c.args.space.now).content) c.args._path.now c.args.told.now it c.args.size (sym c.in_default.is ∙ c.against_trunc.ensures) in
-    omega (arith, c.set_size.ensures.spent tells, trunc_load c.args.volume.now (g.P.SectorView.space c.args.space.now).content (c.requires.settled tells) c.args.volume.now.capacity c.args.size c.args._path.now (tree_of (g.P.SectorView.space c.args.space.now).content) (short_data (tree_of (g.P.SectorView.space c.args.space.now).content) c.args._path.now c.args.told.now it.node about.0 c.args.size c.if-told-size.false) n grow is)
+    omega (arith, c.set_size.ensures.edits.ran.spent tells, trunc_load c.args.volume.now (g.P.SectorView.space c.args.space.now).content (c.requires.settled tells) c.args.volume.now.capacity c.args.size c.args._path.now (tree_of (g.P.SectorView.space c.args.space.now).content) (short_data (tree_of (g.P.SectorView.space c.args.space.now).content) c.args._path.now c.args.told.now it.node about.0 c.args.size c.if-told-size.false) n grow is)
 
 pub returns-in_err-set_size-clause-loads : goal.returns-in_err-set_size-clause-loads
 returns-in_err-set_size-clause-loads g c tells n grow is =
     let it = told_node (tree_of (g.P.SectorView.space c.args.space.now).content) c.args._path.now c.args.told.now (c.requires.told tells) in
     let about = trunc_told (tree_of (g.P.SectorView.space c.args.space.now).content) c.args._path.now c.args.told.now it c.args.size (sym c.in_default.is ∙ c.against_trunc.ensures) in
-    omega (arith, c.set_size.ensures.spent tells, trunc_load c.args.volume.now (g.P.SectorView.space c.args.space.now).content (c.requires.settled tells) c.args.volume.now.capacity c.args.size c.args._path.now (tree_of (g.P.SectorView.space c.args.space.now).content) (short_data (tree_of (g.P.SectorView.space c.args.space.now).content) c.args._path.now c.args.told.now it.node about.0 c.args.size c.if-told-size.false) n grow is)
+    omega (arith, c.set_size.ensures.edits.ran.spent tells, trunc_load c.args.volume.now (g.P.SectorView.space c.args.space.now).content (c.requires.settled tells) c.args.volume.now.capacity c.args.size c.args._path.now (tree_of (g.P.SectorView.space c.args.space.now).content) (short_data (tree_of (g.P.SectorView.space c.args.space.now).content) c.args._path.now c.args.told.now it.node about.0 c.args.size c.if-told-size.false) n grow is)
 
 pub returns-then-told-size-clause-grows : goal.returns-then-told-size-clause-grows
 returns-then-told-size-clause-grows g c tells =
