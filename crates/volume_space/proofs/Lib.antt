@@ -27,6 +27,7 @@ pub mod ExtentsGrownUnchanged
 pub mod ExtentsGrownWhole
 pub mod FewChanges
 pub mod FewerEdits
+mod Freed
 pub mod GivenBack
 pub mod GrownAhead
 pub mod GrownBits

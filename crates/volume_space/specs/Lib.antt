@@ -4,6 +4,7 @@ pub mod CuttingAhead
 pub mod Growing
 pub mod Mapping
 pub mod Orphans
+pub mod Reclaiming
 pub mod Recording
 pub mod Resizing
 pub mod Spilling

@@ -1,8 +1,6 @@
 //! A cut of blocks past a file's size, ahead of data that makes the file longer.
 ghost use Rattle.std.specs.Prelude.{◌≡◌, ◌≤◌, ◌==◌, ◌&&◌, nat_lt, Some, Ok, true, false, IsTrue, IfNone, IfOk, IfSome, OnOk, length};
-ghost use Rattle.std.specs.List.{Contains};
 ghost use Rattle.sector_disk.specs.Lists.{Content};
-ghost use Rattle.btree_edit.specs.Causes.{HasTroubleCause};
 ghost use Rattle.cat_records.specs.Fits.{FitsRecord};
 ghost use Rattle.catalog.specs.Pairs.{value_at};
 ghost use Rattle.hfs_language.specs.Written.{FitsPath};
@@ -14,15 +12,15 @@ ghost use Rattle.hfs_volume.specs.Records.{is_thread};
 ghost use Rattle.hfs_volume.specs.TreeOf.{tree_of};
 ghost use Rattle.hfs_volume.specs.Weight.{cut_cost, free_blocks, has_surplus, room_with};
 ghost use Rattle.hfs_volume.specs.declared.cost.Cost.TheVariants as cost;
-ghost use Rattle.volume_space.specs.Cutting.{KeepsUsed, surplus_in};
+ghost use Rattle.volume_space.specs.Cutting.{surplus_in};
 ghost use Rattle.volume_space.specs.CuttingAhead.{CutsAhead, CutsAs, CutsSome, IsShortCut, is_sized_file, PutsCut, TakesCutLoad};
+ghost use Rattle.volume_space.specs.Reclaiming.{Frees};
+ghost use Rattle.volume_base.specs.Frame.{Serves};
 ghost use Rattle.volume_base.specs.Keeping.{shrunk_of};
 ghost use Rattle.volume_base.specs.Lists.{lists_of};
 ghost use Rattle.volume_base.specs.Refusing.{facts_or};
 ghost use Rattle.volume_base.specs.Room.{capacity_of};
-ghost use Rattle.volume_base.specs.Service.{IsInService};
-ghost use Rattle.volume_base.specs.Standing.{IsSettled, StandsOver, own_sectors};
-ghost use Rattle.volume_base.specs.Touching.{Touches};
+ghost use Rattle.volume_base.specs.Standing.{IsSettled};
 
 use crate::tidying::Tidying;
 use crate::trimming::{Surplus, surplus_in, tidy_cut};
@@ -95,8 +93,7 @@ fn cut_past<P: SectorSpace>(
     entry: &Entry,
     surplus: Surplus,
 ) -> Result<CutAhead, Trouble>
-    requires stands { StandsOver volume.old (P.SectorView.space space.old) }
-    requires settled { IsTrue (P.SectorView.space space.old).tells → IsSettled volume.old (P.SectorView.space space.old).content }
+    requires serves { Serves volume.old (P.SectorView.space space.old) }
     requires name { length entry.now.name ≤ 255 }
     requires there { IsTrue (P.SectorView.space space.old).tells → value_at (lists_of volume.old (P.SectorView.space space.old).content).catalog_pairs entry.now.parent entry.now.name ≡ Some entry.now.rec }
     requires fits { is_thread entry.now.rec ≡ false → FitsRecord entry.now.rec }
@@ -105,14 +102,9 @@ fn cut_past<P: SectorSpace>(
     requires some { Some surplus ≡ surplus_in volume.old.header.block_size entry.now.rec }
     ensures came { IsTrue (P.SectorView.space space.old).tells → IfOk result (λ came. CutsSome came (capacity_of volume.old) id (P.SectorView.space space.old).content (P.SectorView.space space.new).content) }
     ensures short { IsTrue (P.SectorView.space space.old).tells → IfOk result (λ came. IsShortCut came (capacity_of volume.old) (P.SectorView.space space.old).spare (volume_of (P.SectorView.space space.old).content)) }
-    ensures stands { OnOk result (StandsOver volume.new (P.SectorView.space space.new)) }
-    ensures settled { IsTrue (P.SectorView.space space.old).tells → OnOk result (IsSettled volume.new (P.SectorView.space space.new).content) }
-    ensures service { IsInService volume.new (P.SectorView.space space.new) }
-    ensures used { KeepsUsed volume.old volume.new }
-    ensures touches { (committed : Content) → Touches committed (λ s. Contains (own_sectors volume.old) s) (P.SectorView.space space.old) (P.SectorView.space space.new) }
     ensures spent { IsTrue (P.SectorView.space space.old).tells → PutsCut (capacity_of volume.old) (volume_of (P.SectorView.space space.old).content) (P.SectorView.space space.old).spare (P.SectorView.space space.new).spare }
-    ensures below { P.SectorView.follows space.old space.new }
-    ensures cause { HasTroubleCause (P.SectorView.space space.old).faults (P.SectorView.space space.new).faults result }
+    ensures frees { Frees P.SectorView.space P.SectorView.follows volume.old volume.new space.old space.new result }
+    ensures serves { OnOk result (Serves volume.new (P.SectorView.space space.new)) }
 {
     if let Some(why) = refused_cut(volume) {
         return Ok(CutAhead::Refused(why));
@@ -133,22 +125,16 @@ fn cut_entry<P: SectorSpace>(
     size: u64,
     entry: &Entry,
 ) -> Result<CutAhead, Trouble>
-    requires stands { StandsOver volume.old (P.SectorView.space space.old) }
-    requires settled { IsTrue (P.SectorView.space space.old).tells → IsSettled volume.old (P.SectorView.space space.old).content }
+    requires serves { Serves volume.old (P.SectorView.space space.old) }
     requires name { length entry.now.name ≤ 255 }
     requires there { IsTrue (P.SectorView.space space.old).tells → value_at (lists_of volume.old (P.SectorView.space space.old).content).catalog_pairs entry.now.parent entry.now.name ≡ Some entry.now.rec }
     requires fits { is_thread entry.now.rec ≡ false → FitsRecord entry.now.rec }
     requires shrunk { shrunk_of volume.old ≡ Some id }
     ensures came { IsTrue (P.SectorView.space space.old).tells → IfOk result (λ came. CutsAs came (capacity_of volume.old) id (has_surplus (volume_of (P.SectorView.space space.old).content) id size) (P.SectorView.space space.old).content (P.SectorView.space space.new).content) }
     ensures short { IsTrue (P.SectorView.space space.old).tells → IfOk result (λ came. IsShortCut came (capacity_of volume.old) (P.SectorView.space space.old).spare (volume_of (P.SectorView.space space.old).content)) }
-    ensures stands { OnOk result (StandsOver volume.new (P.SectorView.space space.new)) }
-    ensures settled { IsTrue (P.SectorView.space space.old).tells → OnOk result (IsSettled volume.new (P.SectorView.space space.new).content) }
-    ensures service { IsInService volume.new (P.SectorView.space space.new) }
-    ensures used { KeepsUsed volume.old volume.new }
-    ensures touches { (committed : Content) → Touches committed (λ s. Contains (own_sectors volume.old) s) (P.SectorView.space space.old) (P.SectorView.space space.new) }
     ensures spent { IsTrue (P.SectorView.space space.old).tells → PutsCut (capacity_of volume.old) (volume_of (P.SectorView.space space.old).content) (P.SectorView.space space.old).spare (P.SectorView.space space.new).spare }
-    ensures below { P.SectorView.follows space.old space.new }
-    ensures cause { HasTroubleCause (P.SectorView.space space.old).faults (P.SectorView.space space.new).faults result }
+    ensures frees { Frees P.SectorView.space P.SectorView.follows volume.old volume.new space.old space.new result }
+    ensures serves { OnOk result (Serves volume.new (P.SectorView.space space.new)) }
 {
     if !is_sized_file(&entry.rec, id, size) {
         return Err(Trouble::Memory);
@@ -167,19 +153,13 @@ fn cut_there<P: SectorSpace>(
     id: u32,
     size: u64,
 ) -> Result<CutAhead, Trouble>
-    requires stands { StandsOver volume.old (P.SectorView.space space.old) }
-    requires settled { IsTrue (P.SectorView.space space.old).tells → IsSettled volume.old (P.SectorView.space space.old).content }
+    requires serves { Serves volume.old (P.SectorView.space space.old) }
     requires shrunk { shrunk_of volume.old ≡ Some id }
     ensures came { IsTrue (P.SectorView.space space.old).tells → IfOk result (λ came. CutsAs came (capacity_of volume.old) id (has_surplus (volume_of (P.SectorView.space space.old).content) id size) (P.SectorView.space space.old).content (P.SectorView.space space.new).content) }
     ensures short { IsTrue (P.SectorView.space space.old).tells → IfOk result (λ came. IsShortCut came (capacity_of volume.old) (P.SectorView.space space.old).spare (volume_of (P.SectorView.space space.old).content)) }
-    ensures stands { OnOk result (StandsOver volume.new (P.SectorView.space space.new)) }
-    ensures settled { IsTrue (P.SectorView.space space.old).tells → OnOk result (IsSettled volume.new (P.SectorView.space space.new).content) }
-    ensures service { IsInService volume.new (P.SectorView.space space.new) }
-    ensures used { KeepsUsed volume.old volume.new }
-    ensures touches { (committed : Content) → Touches committed (λ s. Contains (own_sectors volume.old) s) (P.SectorView.space space.old) (P.SectorView.space space.new) }
     ensures spent { IsTrue (P.SectorView.space space.old).tells → PutsCut (capacity_of volume.old) (volume_of (P.SectorView.space space.old).content) (P.SectorView.space space.old).spare (P.SectorView.space space.new).spare }
-    ensures below { P.SectorView.follows space.old space.new }
-    ensures cause { HasTroubleCause (P.SectorView.space space.old).faults (P.SectorView.space space.new).faults result }
+    ensures frees { Frees P.SectorView.space P.SectorView.follows volume.old volume.new space.old space.new result }
+    ensures serves { OnOk result (Serves volume.new (P.SectorView.space space.new)) }
 {
     match volume.entry(alloc, space, id)? {
         Some(entry) => cut_entry(volume, alloc, space, id, size, &entry),
@@ -195,18 +175,12 @@ fn cut_file<P: SectorSpace>(
     id: u32,
     size: u64,
 ) -> Result<CutAhead, Trouble>
-    requires stands { StandsOver volume.old (P.SectorView.space space.old) }
-    requires settled { IsTrue (P.SectorView.space space.old).tells → IsSettled volume.old (P.SectorView.space space.old).content }
+    requires serves { Serves volume.old (P.SectorView.space space.old) }
     ensures came { IsTrue (P.SectorView.space space.old).tells → IfOk result (λ came. CutsAs came (capacity_of volume.old) id (has_surplus (volume_of (P.SectorView.space space.old).content) id size) (P.SectorView.space space.old).content (P.SectorView.space space.new).content) }
     ensures short { IsTrue (P.SectorView.space space.old).tells → IfOk result (λ came. IsShortCut came (capacity_of volume.old) (P.SectorView.space space.old).spare (volume_of (P.SectorView.space space.old).content)) }
-    ensures stands { OnOk result (StandsOver volume.new (P.SectorView.space space.new)) }
-    ensures settled { IsTrue (P.SectorView.space space.old).tells → OnOk result (IsSettled volume.new (P.SectorView.space space.new).content) }
-    ensures service { IsInService volume.new (P.SectorView.space space.new) }
-    ensures used { KeepsUsed volume.old volume.new }
-    ensures touches { (committed : Content) → Touches committed (λ s. Contains (own_sectors volume.old) s) (P.SectorView.space space.old) (P.SectorView.space space.new) }
     ensures spent { IsTrue (P.SectorView.space space.old).tells → PutsCut (capacity_of volume.old) (volume_of (P.SectorView.space space.old).content) (P.SectorView.space space.old).spare (P.SectorView.space space.new).spare }
-    ensures below { P.SectorView.follows space.old space.new }
-    ensures cause { HasTroubleCause (P.SectorView.space space.old).faults (P.SectorView.space space.new).faults result }
+    ensures frees { Frees P.SectorView.space P.SectorView.follows volume.old volume.new space.old space.new result }
+    ensures serves { OnOk result (Serves volume.new (P.SectorView.space space.new)) }
 {
     let shrunk = volume.shrunk;
     volume.shrunk = Some(id);
@@ -224,19 +198,13 @@ fn cut_told<P: SectorSpace>(
     told: &Facts,
     end: u128,
 ) -> Result<CutAhead, Trouble>
-    requires stands { StandsOver volume.old (P.SectorView.space space.old) }
-    requires settled { IsTrue (P.SectorView.space space.old).tells → IsSettled volume.old (P.SectorView.space space.old).content }
+    requires serves { Serves volume.old (P.SectorView.space space.old) }
     requires told { IsTrue (P.SectorView.space space.old).tells → Ok told.now ≡ facts_or (step_line (tree_of (P.SectorView.space space.old).content) (Ok (command.Stat _path.now))).0 }
     ensures came { IsTrue (P.SectorView.space space.old).tells → IfOk result (λ came. CutsAhead came (capacity_of volume.old) _path.now end (P.SectorView.space space.old).content (P.SectorView.space space.new).content) }
     ensures short { IsTrue (P.SectorView.space space.old).tells → IfOk result (λ came. IsShortCut came (capacity_of volume.old) (P.SectorView.space space.old).spare (volume_of (P.SectorView.space space.old).content)) }
-    ensures stands { OnOk result (StandsOver volume.new (P.SectorView.space space.new)) }
-    ensures settled { IsTrue (P.SectorView.space space.old).tells → OnOk result (IsSettled volume.new (P.SectorView.space space.new).content) }
-    ensures service { IsInService volume.new (P.SectorView.space space.new) }
-    ensures used { KeepsUsed volume.old volume.new }
-    ensures touches { (committed : Content) → Touches committed (λ s. Contains (own_sectors volume.old) s) (P.SectorView.space space.old) (P.SectorView.space space.new) }
     ensures spent { IsTrue (P.SectorView.space space.old).tells → PutsCut (capacity_of volume.old) (volume_of (P.SectorView.space space.old).content) (P.SectorView.space space.old).spare (P.SectorView.space space.new).spare }
-    ensures below { P.SectorView.follows space.old space.new }
-    ensures cause { HasTroubleCause (P.SectorView.space space.old).faults (P.SectorView.space space.new).faults result }
+    ensures frees { Frees P.SectorView.space P.SectorView.follows volume.old volume.new space.old space.new result }
+    ensures serves { OnOk result (Serves volume.new (P.SectorView.space space.new)) }
 {
     if told.folder {
         return Err(Trouble::Memory);
@@ -257,25 +225,17 @@ pub fn cut_ahead<P: SectorSpace>(
     path: &Path,
     end: u128,
 ) -> Result<CutAhead, Trouble>
-    requires stands { StandsOver volume.old (P.SectorView.space space.old) }
-    requires settled { IsTrue (P.SectorView.space space.old).tells → IsSettled volume.old (P.SectorView.space space.old).content }
+    requires serves { Serves volume.old (P.SectorView.space space.old) }
     requires fits { FitsPath path.now }
     // Told, a cut was made where one goes first, or nothing was changed.
     ensures came { IsTrue (P.SectorView.space space.old).tells → IfOk result (λ came. CutsAhead came (capacity_of volume.old) path.now end (P.SectorView.space space.old).content (P.SectorView.space space.new).content) }
     // A commit comes first only where there is too little room for the cut.
     ensures short { IsTrue (P.SectorView.space space.old).tells → IfOk result (λ came. IsShortCut came (capacity_of volume.old) (P.SectorView.space space.old).spare (volume_of (P.SectorView.space space.old).content)) }
-    ensures stands { OnOk result (StandsOver volume.new (P.SectorView.space space.new)) }
-    ensures settled { IsTrue (P.SectorView.space space.old).tells → OnOk result (IsSettled volume.new (P.SectorView.space space.new).content) }
-    ensures service { IsInService volume.new (P.SectorView.space space.new) }
-    // No block that a content has in use is lost, and the file shrunk last and the capacity are as they were.
-    ensures used { KeepsUsed volume.old volume.new }
-    // On a fault too, it puts sectors of its own alone, whatever was committed last.
-    ensures touches { (committed : Content) → Touches committed (λ s. Contains (own_sectors volume.old) s) (P.SectorView.space space.old) (P.SectorView.space space.new) }
     // On a fault too, it puts no more sectors than a cut puts at most, and than its load.
     ensures spent { IsTrue (P.SectorView.space space.old).tells → PutsCut (capacity_of volume.old) (volume_of (P.SectorView.space space.old).content) (P.SectorView.space space.old).spare (P.SectorView.space space.new).spare }
     ensures loads { IsTrue (P.SectorView.space space.old).tells → TakesCutLoad (capacity_of volume.old) (volume_of (P.SectorView.space space.old).content) (P.SectorView.space space.old).spare (P.SectorView.space space.new).spare }
-    ensures below { P.SectorView.follows space.old space.new }
-    ensures cause { HasTroubleCause (P.SectorView.space space.old).faults (P.SectorView.space space.new).faults result }
+    ensures frees { Frees P.SectorView.space P.SectorView.follows volume.old volume.new space.old space.new result }
+    ensures serves { OnOk result (Serves volume.new (P.SectorView.space space.new)) }
 {
     match volume.facts(alloc, space, path)? {
         Ok(told) => cut_told(volume, alloc, space, path, &told, end),

@@ -1,10 +1,7 @@
 //! An attribute of a file that lost its last name, dropped.
 ghost use Rattle.std.specs.Prelude.{◌≡◌, ◌≤◌, ℕ, true, false, Option, Some, IsTrue, IfOk, IfSome, length, List, OnOk};
-ghost use Rattle.std.specs.List.{Contains};
-ghost use Rattle.sector_disk.specs.Lists.{Content};
 ghost use Rattle.alloc_bitmap.specs.Map.{free_of};
 ghost use Rattle.attributes.specs.Owned.{names_of};
-ghost use Rattle.btree_edit.specs.Causes.{HasTroubleCause};
 ghost use Rattle.btree_file.specs.Standing.{numbers_of};
 ghost use Rattle.hfs_volume.specs.Content.{has_attributes, records_of, volume_of};
 ghost use Rattle.hfs_volume.specs.Cost.{cost_of};
@@ -13,19 +10,17 @@ ghost use Rattle.hfs_volume.specs.Reclaim.{DropAttribute, has_surplus_left, leas
 ghost use Rattle.hfs_volume.specs.Weight.{room_with};
 ghost use Rattle.volume_runs.specs.Rest.{IsHeldUp};
 ghost use Rattle.volume_base.specs.Attributing.{HasRoomToMark};
-ghost use Rattle.volume_space.specs.Cutting.{KeepsUsed};
 ghost use Rattle.volume_base.specs.Frame.{Edits, Looked, Serves};
 ghost use Rattle.volume_base.specs.Keeping.{shrunk_of};
 ghost use Rattle.volume_base.specs.Lists.{lists_of};
 ghost use Rattle.volume_space.specs.Orphans.{AffordsStep, BaresWaiting, TidiesAs, bare_edits, PutsNext};
+ghost use Rattle.volume_space.specs.Reclaiming.{Frees};
 ghost use Rattle.volume_base.specs.Orphans.{IsFirstName, is_blockless};
 ghost use Rattle.volume_base.specs.Room.{capacity_of, free_in};
 ghost use Rattle.volume_base.specs.Weighing.{needs_asked};
 ghost use Rattle.volume_base.specs.declared.room.FreeBlocks.TheVariants as blocks;
 ghost use Rattle.volume_base.specs.Removing.{bare_load};
-ghost use Rattle.volume_base.specs.Service.{IsInService};
-ghost use Rattle.volume_base.specs.Standing.{IsSettled, StandsOver, own_sectors};
-ghost use Rattle.volume_base.specs.Touching.{Touches};
+ghost use Rattle.volume_base.specs.Standing.{IsSettled};
 
 use crate::orphans::is_blockless;
 use crate::tidying::{Tidying, grows_none, is_refused};
@@ -199,19 +194,13 @@ pub(crate) fn tidy_owner<P: SectorSpace>(
     space: &mut P,
     id: u32,
 ) -> Result<Tidying, Trouble>
-    requires stands { StandsOver volume.old (P.SectorView.space space.old) }
-    requires settled { IsTrue (P.SectorView.space space.old).tells → IsSettled volume.old (P.SectorView.space space.old).content }
+    requires serves { Serves volume.old (P.SectorView.space space.old) }
     requires lowest { IsTrue (P.SectorView.space space.old).tells → least (orphans_of (records_of (volume_of (P.SectorView.space space.old).content))) ≡ Some id }
     requires kept { IsTrue (P.SectorView.space space.old).tells → has_surplus_left (volume_of (P.SectorView.space space.old).content) (shrunk_of volume.old) ≡ false }
     ensures tidied { IsTrue (P.SectorView.space space.old).tells → IfOk result (λ came. TidiesAs came (capacity_of volume.old) (shrunk_of volume.old) (free_of volume.old.map) (P.SectorView.space space.old).spare (P.SectorView.space space.old).content (P.SectorView.space space.new).content) }
-    ensures stands { OnOk result (StandsOver volume.new (P.SectorView.space space.new)) }
-    ensures settled { IsTrue (P.SectorView.space space.old).tells → OnOk result (IsSettled volume.new (P.SectorView.space space.new).content) }
-    ensures service { IsInService volume.new (P.SectorView.space space.new) }
-    ensures used { KeepsUsed volume.old volume.new }
-    ensures touches { (committed : Content) → Touches committed (λ s. Contains (own_sectors volume.old) s) (P.SectorView.space space.old) (P.SectorView.space space.new) }
     ensures spent { IsTrue (P.SectorView.space space.old).tells → PutsNext (capacity_of volume.old) (shrunk_of volume.old) (volume_of (P.SectorView.space space.old).content) (P.SectorView.space space.old).spare (P.SectorView.space space.new).spare }
-    ensures below { P.SectorView.follows space.old space.new }
-    ensures cause { HasTroubleCause (P.SectorView.space space.old).faults (P.SectorView.space space.new).faults result }
+    ensures frees { Frees P.SectorView.space P.SectorView.follows volume.old volume.new space.old space.new result }
+    ensures serves { OnOk result (Serves volume.new (P.SectorView.space space.new)) }
 {
     match next_owned(volume, alloc, space, id)? {
         Some(name) => tidy_attribute(volume, alloc, space, id, &name),

@@ -5,10 +5,9 @@ use Rattle.hfs_volume.specs.Content.{volume_of}
 use Rattle.hfs_volume.specs.TreeOf.{tree_of}
 use Rattle.hfs_volume.specs.Weight.{has_surplus}
 use Rattle.volume_base.specs.Room.{capacity_of}
-use Rattle.volume_base.proofs.Commanding.{touches_none}
-use Rattle.volume_space.proofs.KeptUsed.{used_none}
 use Rattle.volume_space.proofs.PastSizes.{cuts_longer, cuts_path, cuts_sized}
 use Rattle.volume_base.proofs.ToldFile.{about, told_node}
+use Rattle.volume_space.proofs.Freed.{frees_none, frees_wanting}
 use Rattle.volume_space.proofs.cutting_ahead.cut_told.Goals as goal
 
 pub returns-clause-came : goal.returns-clause-came
@@ -27,15 +26,6 @@ returns-then-not-is_longer-clause-came g c tells =
     let file = about (tree_of a) c.args._path.now c.args.told.now it (sym (ap (λ (f : Facts). f.folder) it.facts) ∙ c.if-told.false) in
     (it.node, file.file, (ap (λ b. b && has_surplus (volume_of a) it.node.id (length it.node.bytes)) (ap (λ n. nat_lt n c.args.end) file.size ∙ sym c.is_longer.ensures ∙ c.if-not-is_longer.true), refl))
 
-pub returns-then-not-is_longer-clause-touches : goal.returns-then-not-is_longer-clause-touches
-returns-then-not-is_longer-clause-touches g c committed = touches_none committed _ (g.P.SectorView.space c.args.space.now)
-
-pub returns-then-not-is_longer-clause-used : goal.returns-then-not-is_longer-clause-used
-returns-then-not-is_longer-clause-used g c = used_none c.args.volume.now
-
-pub returns-then-not-is_longer-clause-service : goal.returns-then-not-is_longer-clause-service
-returns-then-not-is_longer-clause-service g c = c.requires.stands.service
-
 -- ---- what it puts
 
 pub returns-then-told-clause-spent : goal.returns-then-told-clause-spent
@@ -43,3 +33,9 @@ returns-then-told-clause-spent g c tells = omega arith
 
 pub returns-then-not-is_longer-clause-spent : goal.returns-then-not-is_longer-clause-spent
 returns-then-not-is_longer-clause-spent g c tells = omega arith
+
+pub returns-then-told-clause-frees : goal.returns-then-told-clause-frees
+returns-then-told-clause-frees g c = frees_wanting g.met.P.SectorView.follows_refl c.requires.serves.stands
+
+pub returns-then-not-is_longer-clause-frees : goal.returns-then-not-is_longer-clause-frees
+returns-then-not-is_longer-clause-frees g c = frees_none g.met.P.SectorView.follows_refl c.requires.serves.stands

@@ -1,5 +1,4 @@
-use Rattle.std.proofs.Common.{ℕ, List, sym, ◌∙◌, ap, subst, inl, arith}
-use Rattle.std.specs.List.{Contains}
+use Rattle.std.proofs.Common.{sym, ◌∙◌, ap, inl, arith}
 use Rattle.sector_disk.specs.Lists.{Content}
 use Rattle.alloc_bitmap.specs.Map.{BlockMap, free_of}
 use Rattle.hfs_volume.specs.Content.{records_of, volume_of}
@@ -7,18 +6,12 @@ use Rattle.hfs_volume.specs.Links.{orphans_of}
 use Rattle.hfs_volume.specs.Reclaim.{has_surplus_left, least}
 use Rattle.volume_base.specs.Keeping.{shrunk_of}
 use Rattle.volume_base.specs.Room.{capacity_of}
-use Rattle.volume_base.specs.Touching.{Touches}
 use Rattle.volume_space.proofs.StepSpent.{next_behind}
 use Rattle.volume_space.proofs.Affording.{tidied_behind}
-use Rattle.volume_base.proofs.Commanding.{touches_both, touches_looks}
 use Rattle.volume_space.proofs.HeldUp.{rests_none}
-use Rattle.volume_space.proofs.KeptUsed.{used_both, used_read}
-use Rattle.volume_base.proofs.Seeing.{cause_since}
-use Rattle.volume_base.proofs.Still.{own_still}
+use Rattle.volume_space.proofs.Freed.{frees_behind, frees_err, frees_looked}
+use Rattle.volume_base.proofs.Looked.{looked_again}
 use Rattle.volume_space.proofs.tidying.tidy_unshrunk.Goals as goal
-
-pub tidy_waiting-requires-clause-settled : goal.tidy_waiting-requires-clause-settled
-tidy_waiting-requires-clause-settled g c tells = c.next_waiting.ensures.serves.settled tells
 
 pub tidy_waiting-requires-clause-kept : goal.tidy_waiting-requires-clause-kept
 tidy_waiting-requires-clause-kept g c tells =
@@ -36,33 +29,6 @@ returns-in-Some-clause-tidied g c tells =
     tidied_behind (g.P.SectorView.space c.args.space.now).content (g.P.SectorView.space c.next_waiting.new.space).content (g.P.SectorView.space c.tidy_waiting.new.space).content (c.next_waiting.ensures.looked.reads.looks.content tells) (capacity_of c.args.volume.now) (capacity_of c.next_waiting.new.volume) c.next_waiting.ensures.looked.reads.keeps.capacity (shrunk_of c.args.volume.now) (shrunk_of c.next_waiting.new.volume) c.next_waiting.ensures.looked.reads.keeps.shrunk (free_of c.args.volume.now.map) (free_of c.next_waiting.new.volume.map) (ap (λ (m : BlockMap). free_of m) c.next_waiting.ensures.looked.reads.keeps.map) (g.P.SectorView.space c.args.space.now).spare (g.P.SectorView.space c.next_waiting.new.space).spare c.next_waiting.ensures.looked.reads.looks.spare c.tidy_waiting.result
     (c.tidy_waiting.ensures.tidied (c.next_waiting.ensures.looked.reads.looks.same.tells ∙ tells))
 
-pub returns-in-Some-clause-touches : goal.returns-in-Some-clause-touches
-returns-in-Some-clause-touches g c committed =
-    touches_both committed _ (g.P.SectorView.space c.args.space.now) (g.P.SectorView.space c.next_waiting.new.space) (g.P.SectorView.space c.tidy_waiting.new.space) (touches_looks committed _ (g.P.SectorView.space c.args.space.now) (g.P.SectorView.space c.next_waiting.new.space) c.next_waiting.ensures.looked.reads.looks)
-    (subst (λ (l : List ℕ). Touches committed (λ s. Contains l s) (g.P.SectorView.space c.next_waiting.new.space) (g.P.SectorView.space c.tidy_waiting.new.space)) (own_still c.args.volume.now c.next_waiting.new.volume (g.P.SectorView.space c.args.space.now) (g.P.SectorView.space c.next_waiting.new.space) c.next_waiting.ensures.looked.reads) (c.tidy_waiting.ensures.touches committed))
-
-pub returns-in-Some-clause-used : goal.returns-in-Some-clause-used
-returns-in-Some-clause-used g c =
-    used_both c.args.volume.now c.next_waiting.new.volume c.tidy_waiting.new.volume (used_read c.args.volume.now c.next_waiting.new.volume (g.P.SectorView.space c.args.space.now) (g.P.SectorView.space c.next_waiting.new.space) c.next_waiting.ensures.looked.reads) c.tidy_waiting.ensures.used
-
-pub returns-in-Some-clause-below : goal.returns-in-Some-clause-below
-returns-in-Some-clause-below g c = g.met.P.SectorView.follows_trans c.args.space.now c.next_waiting.new.space c.tidy_waiting.new.space c.next_waiting.ensures.looked.edits.ran.below c.tidy_waiting.ensures.below
-
-pub returns-in-Some-clause-cause : goal.returns-in-Some-clause-cause
-returns-in-Some-clause-cause g c = cause_since (g.P.SectorView.space c.args.space.now).faults (g.P.SectorView.space c.next_waiting.new.space).faults (g.P.SectorView.space c.tidy_waiting.new.space).faults c.tidy_waiting.result c.next_waiting.ensures.looked.reads.looks.faults c.tidy_waiting.ensures.cause
-
-pub returns-in-None-clause-touches : goal.returns-in-None-clause-touches
-returns-in-None-clause-touches g c committed = touches_looks committed _ (g.P.SectorView.space c.args.space.now) (g.P.SectorView.space c.next_waiting.new.space) c.next_waiting.ensures.looked.reads.looks
-
-pub returns-in-None-clause-used : goal.returns-in-None-clause-used
-returns-in-None-clause-used g c = used_read c.args.volume.now c.next_waiting.new.volume (g.P.SectorView.space c.args.space.now) (g.P.SectorView.space c.next_waiting.new.space) c.next_waiting.ensures.looked.reads
-
-pub returns-in_err-id-clause-touches : goal.returns-in_err-id-clause-touches
-returns-in_err-id-clause-touches g c committed = touches_looks committed _ (g.P.SectorView.space c.args.space.now) (g.P.SectorView.space c.next_waiting.new.space) c.next_waiting.ensures.looked.reads.looks
-
-pub returns-in_err-id-clause-used : goal.returns-in_err-id-clause-used
-returns-in_err-id-clause-used g c = used_read c.args.volume.now c.next_waiting.new.volume (g.P.SectorView.space c.args.space.now) (g.P.SectorView.space c.next_waiting.new.space) c.next_waiting.ensures.looked.reads
-
 pub returns-in-None-clause-tidied : goal.returns-in-None-clause-tidied
 returns-in-None-clause-tidied g c tells =
     (c.next_waiting.ensures.looked.reads.looks.content tells, rests_none (capacity_of c.args.volume.now) (shrunk_of c.args.volume.now) (volume_of (g.P.SectorView.space c.args.space.now).content) (c.requires.kept tells) (sym (c.in_ok-id.ensures.found tells) ∙ c.in-None.is))
@@ -79,3 +45,12 @@ returns-in-None-clause-spent g c tells = inl (omega (arith, c.next_waiting.ensur
 
 pub returns-in_err-id-clause-spent : goal.returns-in_err-id-clause-spent
 returns-in_err-id-clause-spent g c tells = inl (omega (arith, c.next_waiting.ensures.looked.reads.looks.spare))
+
+pub returns-in-Some-clause-frees : goal.returns-in-Some-clause-frees
+returns-in-Some-clause-frees g c = frees_behind g.met.P.SectorView.follows_trans c.next_waiting.ensures.looked c.tidy_waiting.ensures.frees
+
+pub returns-in-None-clause-frees : goal.returns-in-None-clause-frees
+returns-in-None-clause-frees g c = frees_looked (looked_again c.next_waiting.ensures.looked)
+
+pub returns-in_err-id-clause-frees : goal.returns-in_err-id-clause-frees
+returns-in_err-id-clause-frees g c = frees_err c.from_residual.ensures.1 (frees_looked c.in_err-id.ensures.looked)

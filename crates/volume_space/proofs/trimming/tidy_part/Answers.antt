@@ -1,4 +1,4 @@
-use Rattle.std.proofs.Common.{ℕ, false, true, List, inr, arith, sym, ◌∙◌, ap, subst, refl, inl}
+use Rattle.std.proofs.Common.{ℕ, false, true, List, inr, arith, sym, ◌∙◌, ap, subst, refl, inl, []}
 use Rattle.std.specs.Prelude.{Option}
 use Rattle.std.specs.List.{Contains}
 use Rattle.alloc_bitmap.specs.Map.{free_of}
@@ -9,39 +9,21 @@ use Rattle.volume_space.specs.Cutting.{IsNextCut, kind_of}
 use Rattle.volume_base.specs.Keeping.{shrunk_of}
 use Rattle.volume_base.specs.Room.{capacity_of}
 use Rattle.volume_base.specs.Touching.{Touches}
-use Rattle.volume_base.proofs.Commanding.{touches_none}
 use Rattle.volume_space.proofs.StepSpent.{cut_spent}
 use Rattle.volume_space.proofs.HeldUp.{rests_cut}
-use Rattle.volume_space.proofs.KeptUsed.{used_both, used_none}
+use Rattle.volume_space.proofs.KeptUsed.{used_both}
 use Rattle.volume_space.specs.Cutting.{CutsFile}
 use Rattle.volume_space.proofs.CutKept.{load_kept, may_kept, own_kept, used_kept}
 use Rattle.volume_space.proofs.WhenKept.{lists_kept, settled_kept, stands_kept, unchanged_kept}
 use Rattle.volume_space.proofs.Shorts.{short_cut, short_next}
+use Rattle.volume_space.proofs.Freed.{frees_err, frees_none}
 use Rattle.volume_space.proofs.trimming.tidy_part.Goals as goal
 
-pub returns-then-not-affords_cut-clause-touches : goal.returns-then-not-affords_cut-clause-touches
-returns-then-not-affords_cut-clause-touches g c committed = touches_none committed _ (g.P.SectorView.space c.args.space.now)
-
-pub returns-then-not-affords_cut-clause-used : goal.returns-then-not-affords_cut-clause-used
-returns-then-not-affords_cut-clause-used g c = used_none c.args.volume.now
-
-pub returns-then-not-affords_cut-clause-service : goal.returns-then-not-affords_cut-clause-service
-returns-then-not-affords_cut-clause-service g c = c.requires.stands.service
-
-pub returns-then-not-fits_cut-clause-touches : goal.returns-then-not-fits_cut-clause-touches
-returns-then-not-fits_cut-clause-touches g c committed = touches_none committed _ (g.P.SectorView.space c.args.space.now)
-
-pub returns-then-not-fits_cut-clause-used : goal.returns-then-not-fits_cut-clause-used
-returns-then-not-fits_cut-clause-used g c = used_none c.args.volume.now
-
-pub returns-then-not-fits_cut-clause-service : goal.returns-then-not-fits_cut-clause-service
-returns-then-not-fits_cut-clause-service g c = c.requires.stands.service
-
 pub cut_fork-requires-clause-stands : goal.cut_fork-requires-clause-stands
-cut_fork-requires-clause-stands g c = stands_kept c.args.volume.now c.keep.new.self c.keep.ensures (g.P.SectorView.space c.args.space.now) c.requires.stands
+cut_fork-requires-clause-stands g c = stands_kept c.args.volume.now c.keep.new.self c.keep.ensures (g.P.SectorView.space c.args.space.now) c.requires.serves.stands
 
 pub cut_fork-requires-clause-settled : goal.cut_fork-requires-clause-settled
-cut_fork-requires-clause-settled g c tells = settled_kept c.args.volume.now c.keep.new.self c.keep.ensures (g.P.SectorView.space c.args.space.now) (c.requires.settled tells)
+cut_fork-requires-clause-settled g c tells = settled_kept c.args.volume.now c.keep.new.self c.keep.ensures (g.P.SectorView.space c.args.space.now) (c.requires.serves.settled tells)
 
 pub cut_fork-requires-clause-there : goal.cut_fork-requires-clause-there
 cut_fork-requires-clause-there g c tells = ap (λ (l : VolumeState). value_at l.catalog_pairs c.args.entry.now.parent c.args.entry.now.name) (lists_kept c.args.volume.now c.keep.new.self c.keep.ensures (g.P.SectorView.space c.args.space.now).content) ∙ c.requires.there tells
@@ -53,7 +35,7 @@ pub cut_fork-requires-clause-next : goal.cut_fork-requires-clause-next
 cut_fork-requires-clause-next g c tells = subst (λ (o : Option ℕ). IsNextCut o (g.P.SectorView.space c.args.space.now).content (id_in c.args.entry.now.rec) (kind_of c.args.surplus.kind) c.args.surplus.keep) (sym c.keep.ensures.same.shrunk) (c.requires.next tells)
 
 pub cut_fork-requires-clause-unchanged : goal.cut_fork-requires-clause-unchanged
-cut_fork-requires-clause-unchanged g c = unchanged_kept c.args.volume.now c.keep.new.self c.keep.ensures (g.P.SectorView.space c.args.space.now) c.requires.stands.service
+cut_fork-requires-clause-unchanged g c = unchanged_kept c.args.volume.now c.keep.new.self c.keep.ensures (g.P.SectorView.space c.args.space.now) c.requires.serves.stands.service
 
 pub cut_fork-requires-clause-room : goal.cut_fork-requires-clause-room
 cut_fork-requires-clause-room g c = omega (arith, load_kept c.args.volume.now c.keep.new.self c.keep.ensures, c.fits_cut.ensures.fits c.if-not-fits_cut.false)
@@ -61,35 +43,20 @@ cut_fork-requires-clause-room g c = omega (arith, load_kept c.args.volume.now c.
 pub returns-clause-tidied : goal.returns-clause-tidied
 returns-clause-tidied g c tells =
     let done = subst (λ (o : Option ℕ). CutsFile o (g.P.SectorView.space c.args.space.now).content (g.P.SectorView.space c.cut_fork.new.space).content) c.keep.ensures.same.shrunk (c.in_ok-cut_fork.ensures.cuts tells).1 in
-    inr (inr (record { cuts = done; affords = c.affords_cut.ensures.affords (g.P.SectorView.space c.args.space.now).content (c.requires.settled tells) c.if-not-affords_cut.false done.step done.is_cut }))
-
-pub returns-clause-settled : goal.returns-clause-settled
-returns-clause-settled g c tells = (c.in_ok-cut_fork.ensures.cuts tells).0
-
-pub returns-clause-used : goal.returns-clause-used
-returns-clause-used g c = used_both c.args.volume.now c.keep.new.self c.cut_fork.new.volume (used_kept c.args.volume.now c.keep.new.self c.keep.ensures) c.cut_fork.ensures.used
-
-pub returns-clause-touches : goal.returns-clause-touches
-returns-clause-touches g c committed = subst (λ (l : List ℕ). Touches committed (λ s. Contains l s) (g.P.SectorView.space c.args.space.now) (g.P.SectorView.space c.cut_fork.new.space)) (own_kept c.args.volume.now c.keep.new.self c.keep.ensures) (c.cut_fork.ensures.touches committed)
-
-pub returns-in_err-cut_fork-clause-used : goal.returns-in_err-cut_fork-clause-used
-returns-in_err-cut_fork-clause-used g c = used_both c.args.volume.now c.keep.new.self c.cut_fork.new.volume (used_kept c.args.volume.now c.keep.new.self c.keep.ensures) c.cut_fork.ensures.used
-
-pub returns-in_err-cut_fork-clause-touches : goal.returns-in_err-cut_fork-clause-touches
-returns-in_err-cut_fork-clause-touches g c committed = subst (λ (l : List ℕ). Touches committed (λ s. Contains l s) (g.P.SectorView.space c.args.space.now) (g.P.SectorView.space c.cut_fork.new.space)) (own_kept c.args.volume.now c.keep.new.self c.keep.ensures) (c.cut_fork.ensures.touches committed)
+    inr (inr (record { cuts = done; affords = c.affords_cut.ensures.affords (g.P.SectorView.space c.args.space.now).content (c.requires.serves.settled tells) c.if-not-affords_cut.false done.step done.is_cut }))
 
 pub returns-then-not-affords_cut-clause-tidied : goal.returns-then-not-affords_cut-clause-tidied
 returns-then-not-affords_cut-clause-tidied g c tells = (
   refl,
   rests_cut (capacity_of c.args.volume.now) (shrunk_of c.args.volume.now) (g.P.SectorView.space c.args.space.now).content (id_in c.args.entry.now.rec) (kind_of c.args.surplus.kind) c.args.surplus.keep (c.requires.next tells)
-      (λ step cut. c.affords_cut.ensures.held_up (g.P.SectorView.space c.args.space.now).content (c.requires.settled tells) c.if-not-affords_cut.true step cut),
+      (λ step cut. c.affords_cut.ensures.held_up (g.P.SectorView.space c.args.space.now).content (c.requires.serves.settled tells) c.if-not-affords_cut.true step cut),
 )
 
 pub returns-then-not-fits_cut-clause-tidied : goal.returns-then-not-fits_cut-clause-tidied
 returns-then-not-fits_cut-clause-tidied g c tells = (
   refl,
   short_next (capacity_of c.args.volume.now) (shrunk_of c.args.volume.now) (free_of c.args.volume.now.map) (g.P.SectorView.space c.args.space.now).spare (g.P.SectorView.space c.args.space.now).content (id_in c.args.entry.now.rec) (kind_of c.args.surplus.kind) c.args.surplus.keep (c.requires.next tells)
-      (λ step cut. short_cut c.args.volume.now (g.P.SectorView.space c.args.space.now).content (c.requires.settled tells) (g.P.SectorView.space c.args.space.now).spare (c.fits_cut.ensures.short c.if-not-fits_cut.true) step cut),
+      (λ step cut. short_cut c.args.volume.now (g.P.SectorView.space c.args.space.now).content (c.requires.serves.settled tells) (g.P.SectorView.space c.args.space.now).spare (c.fits_cut.ensures.short c.if-not-fits_cut.true) step cut),
 )
 
 -- ---- what it puts
@@ -102,10 +69,45 @@ returns-then-not-fits_cut-clause-spent g c tells = inl (omega arith)
 
 pub returns-clause-spent : goal.returns-clause-spent
 returns-clause-spent g c tells =
-    cut_spent c.args.volume.now (g.P.SectorView.space c.args.space.now).content (c.requires.settled tells) (g.P.SectorView.space c.args.space.now).spare (g.P.SectorView.space c.cut_fork.new.space).spare
+    cut_spent c.args.volume.now (g.P.SectorView.space c.args.space.now).content (c.requires.serves.settled tells) (g.P.SectorView.space c.args.space.now).spare (g.P.SectorView.space c.cut_fork.new.space).spare
     (omega (arith, c.cut_fork.ensures.spent tells, load_kept c.args.volume.now c.keep.new.self c.keep.ensures)) (shrunk_of c.args.volume.now) (id_in c.args.entry.now.rec) (kind_of c.args.surplus.kind) c.args.surplus.keep (c.requires.next tells)
 
 pub returns-in_err-cut_fork-clause-spent : goal.returns-in_err-cut_fork-clause-spent
 returns-in_err-cut_fork-clause-spent g c tells =
-    cut_spent c.args.volume.now (g.P.SectorView.space c.args.space.now).content (c.requires.settled tells) (g.P.SectorView.space c.args.space.now).spare (g.P.SectorView.space c.cut_fork.new.space).spare
+    cut_spent c.args.volume.now (g.P.SectorView.space c.args.space.now).content (c.requires.serves.settled tells) (g.P.SectorView.space c.args.space.now).spare (g.P.SectorView.space c.cut_fork.new.space).spare
     (omega (arith, c.cut_fork.ensures.spent tells, load_kept c.args.volume.now c.keep.new.self c.keep.ensures)) (shrunk_of c.args.volume.now) (id_in c.args.entry.now.rec) (kind_of c.args.surplus.kind) c.args.surplus.keep (c.requires.next tells)
+
+pub returns-then-not-affords_cut-clause-frees : goal.returns-then-not-affords_cut-clause-frees
+returns-then-not-affords_cut-clause-frees g c = frees_none g.met.P.SectorView.follows_refl c.requires.serves.stands
+
+pub returns-then-not-fits_cut-clause-frees : goal.returns-then-not-fits_cut-clause-frees
+returns-then-not-fits_cut-clause-frees g c = frees_none g.met.P.SectorView.follows_refl c.requires.serves.stands
+
+pub returns-clause-frees : goal.returns-clause-frees
+returns-clause-frees g c = record {
+  ran = record {
+    below = c.cut_fork.ensures.below;
+    cause = record { later = c.in_ok-cut_fork.ensures.cause.later; failed = tt };
+    service = c.cut_fork.ensures.service;
+    stands = c.in_ok-cut_fork.ensures.stands;
+    touches = λ committed. subst (λ (l : List ℕ). Touches committed (λ s. Contains l s) (g.P.SectorView.space c.args.space.now) (g.P.SectorView.space c.cut_fork.new.space)) (own_kept c.args.volume.now c.keep.new.self c.keep.ensures) (c.cut_fork.ensures.touches committed);
+    spent = λ tells. omega arith;
+  };
+  used = used_both c.args.volume.now c.keep.new.self c.cut_fork.new.volume (used_kept c.args.volume.now c.keep.new.self c.keep.ensures) c.cut_fork.ensures.used;
+}
+
+pub returns-in_err-cut_fork-clause-frees : goal.returns-in_err-cut_fork-clause-frees
+returns-in_err-cut_fork-clause-frees g c = frees_err c.from_residual.ensures.1 (record {
+  ran = record {
+    below = c.cut_fork.ensures.below;
+    cause = c.in_err-cut_fork.ensures.cause;
+    service = c.cut_fork.ensures.service;
+    stands = tt;
+    touches = λ committed. subst (λ (l : List ℕ). Touches committed (λ s. Contains l s) (g.P.SectorView.space c.args.space.now) (g.P.SectorView.space c.cut_fork.new.space)) (own_kept c.args.volume.now c.keep.new.self c.keep.ensures) (c.cut_fork.ensures.touches committed);
+    spent = λ tells. omega arith;
+  };
+  used = used_both c.args.volume.now c.keep.new.self c.cut_fork.new.volume (used_kept c.args.volume.now c.keep.new.self c.keep.ensures) c.cut_fork.ensures.used;
+})
+
+pub returns-clause-serves : goal.returns-clause-serves
+returns-clause-serves g c = record { stands = c.in_ok-cut_fork.ensures.stands; settled = λ told. (c.in_ok-cut_fork.ensures.cuts (sym (c.cut_fork.ensures.touches []).same.tells ∙ told)).0 }

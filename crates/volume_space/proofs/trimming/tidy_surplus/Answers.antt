@@ -1,6 +1,5 @@
-use Rattle.std.proofs.Common.{◌≡◌, ◌≤◌, ℕ, false, length, List, inl, arith, sym, ◌∙◌, ap, subst, refl}
-use Rattle.std.specs.Prelude.{Option, IfSome, IsTrue}
-use Rattle.std.specs.List.{Contains}
+use Rattle.std.proofs.Common.{◌≡◌, ◌≤◌, false, length, inl, arith, sym, ◌∙◌, ap, subst}
+use Rattle.std.specs.Prelude.{Option, IfSome}
 use Rattle.alloc_bitmap.specs.Map.{BlockMap, free_of}
 use Rattle.cat_records.specs.Fits.{FitsRecord}
 use Rattle.catalog.specs.Pairs.{value_at}
@@ -10,23 +9,18 @@ use Rattle.hfs_volume.specs.Reclaim.{has_surplus_left}
 use Rattle.volume_base.specs.Keeping.{shrunk_of}
 use Rattle.volume_base.specs.Lists.{lists_of}
 use Rattle.volume_base.specs.Room.{capacity_of}
-use Rattle.volume_base.specs.Touching.{Touches}
 use Rattle.volume_base.specs.declared.entries.Entry.{Entry}
 use Rattle.volume_space.proofs.StepSpent.{next_behind}
 use Rattle.volume_space.proofs.Affording.{tidied_behind}
-use Rattle.volume_base.proofs.Commanding.{touches_both, touches_looks}
 use Rattle.volume_base.proofs.FoundEntry.{settled_spelled}
-use Rattle.volume_space.proofs.KeptUsed.{used_both, used_read}
 use Rattle.volume_space.proofs.NextCut.{none_rests, there_by}
-use Rattle.volume_base.proofs.Seeing.{cause_since}
-use Rattle.volume_base.proofs.Still.{lists_still, own_still, settled_still}
+use Rattle.volume_base.proofs.Still.{lists_still}
+use Rattle.volume_space.proofs.Freed.{frees_behind, frees_err, frees_looked}
+use Rattle.volume_base.proofs.Framed.{serves_still}
 use Rattle.volume_space.proofs.trimming.tidy_surplus.Goals as goal
 
 pub entry-requires-clause-spelled : goal.entry-requires-clause-spelled
-entry-requires-clause-spelled g c tells = settled_spelled c.args.volume.now (g.P.SectorView.space c.args.space.now).content (c.requires.settled tells)
-
-pub tidy_shrunk-requires-clause-settled : goal.tidy_shrunk-requires-clause-settled
-tidy_shrunk-requires-clause-settled g c tells = settled_still c.args.volume.now c.entry.new.self (g.P.SectorView.space c.args.space.now) (g.P.SectorView.space c.entry.new.space) c.entry.ensures.looked.reads (sym c.entry.ensures.looked.reads.looks.same.tells ∙ tells) (c.requires.settled (sym c.entry.ensures.looked.reads.looks.same.tells ∙ tells))
+entry-requires-clause-spelled g c tells = settled_spelled c.args.volume.now (g.P.SectorView.space c.args.space.now).content (c.requires.serves.settled tells)
 
 pub tidy_shrunk-requires-clause-name : goal.tidy_shrunk-requires-clause-name
 tidy_shrunk-requires-clause-name g c = subst (λ (o : Option Entry). IfSome o (λ entry. length entry.name ≤ 255)) c.in-Some.is c.in_ok-entry.ensures.name
@@ -48,58 +42,16 @@ returns-in-Some-clause-tidied g c tells =
     tidied_behind (g.P.SectorView.space c.args.space.now).content (g.P.SectorView.space c.entry.new.space).content (g.P.SectorView.space c.tidy_shrunk.new.space).content (c.entry.ensures.looked.reads.looks.content tells) (capacity_of c.args.volume.now) (capacity_of c.entry.new.self) c.entry.ensures.looked.reads.keeps.capacity (shrunk_of c.args.volume.now) (shrunk_of c.entry.new.self) c.entry.ensures.looked.reads.keeps.shrunk (free_of c.args.volume.now.map) (free_of c.entry.new.self.map) (ap (λ (m : BlockMap). free_of m) c.entry.ensures.looked.reads.keeps.map) (g.P.SectorView.space c.args.space.now).spare (g.P.SectorView.space c.entry.new.space).spare c.entry.ensures.looked.reads.looks.spare c.tidy_shrunk.result
     (c.tidy_shrunk.ensures.tidied (c.entry.ensures.looked.reads.looks.same.tells ∙ tells))
 
-pub returns-in-Some-clause-touches : goal.returns-in-Some-clause-touches
-returns-in-Some-clause-touches g c committed =
-    touches_both committed _ (g.P.SectorView.space c.args.space.now) (g.P.SectorView.space c.entry.new.space) (g.P.SectorView.space c.tidy_shrunk.new.space) (touches_looks committed _ (g.P.SectorView.space c.args.space.now) (g.P.SectorView.space c.entry.new.space) c.entry.ensures.looked.reads.looks)
-    (subst (λ (l : List ℕ). Touches committed (λ s. Contains l s) (g.P.SectorView.space c.entry.new.space) (g.P.SectorView.space c.tidy_shrunk.new.space)) (own_still c.args.volume.now c.entry.new.self (g.P.SectorView.space c.args.space.now) (g.P.SectorView.space c.entry.new.space) c.entry.ensures.looked.reads) (c.tidy_shrunk.ensures.touches committed))
-
-pub returns-in-Some-clause-used : goal.returns-in-Some-clause-used
-returns-in-Some-clause-used g c =
-    used_both c.args.volume.now c.entry.new.self c.tidy_shrunk.new.volume (used_read c.args.volume.now c.entry.new.self (g.P.SectorView.space c.args.space.now) (g.P.SectorView.space c.entry.new.space) c.entry.ensures.looked.reads) c.tidy_shrunk.ensures.used
-
-pub returns-in-Some-clause-below : goal.returns-in-Some-clause-below
-returns-in-Some-clause-below g c = g.met.P.SectorView.follows_trans c.args.space.now c.entry.new.space c.tidy_shrunk.new.space c.entry.ensures.looked.edits.ran.below c.tidy_shrunk.ensures.below
-
-pub returns-in-Some-clause-cause : goal.returns-in-Some-clause-cause
-returns-in-Some-clause-cause g c = cause_since (g.P.SectorView.space c.args.space.now).faults (g.P.SectorView.space c.entry.new.space).faults (g.P.SectorView.space c.tidy_shrunk.new.space).faults c.tidy_shrunk.result c.entry.ensures.looked.reads.looks.faults c.tidy_shrunk.ensures.cause
-
-pub tidy_unshrunk-requires-clause-settled : goal.tidy_unshrunk-requires-clause-settled
-tidy_unshrunk-requires-clause-settled g c tells = settled_still c.args.volume.now c.entry.new.self (g.P.SectorView.space c.args.space.now) (g.P.SectorView.space c.entry.new.space) c.entry.ensures.looked.reads (sym c.entry.ensures.looked.reads.looks.same.tells ∙ tells) (c.requires.settled (sym c.entry.ensures.looked.reads.looks.same.tells ∙ tells))
-
 pub tidy_unshrunk-requires-clause-kept : goal.tidy_unshrunk-requires-clause-kept
 tidy_unshrunk-requires-clause-kept g c tells =
     let before = sym c.entry.ensures.looked.reads.looks.same.tells ∙ tells in
     (λ i. has_surplus_left (volume_of (c.entry.ensures.looked.reads.looks.content before i)) (c.entry.ensures.looked.reads.keeps.shrunk i))
-    ∙ none_rests c.args.volume.now (g.P.SectorView.space c.args.space.now).content (c.requires.settled before) (c.requires.stands.stands before).trees c.args.id (shrunk_of c.args.volume.now) c.requires.shrunk (sym c.in-None.is ∙ c.in_ok-entry.ensures.found before)
+    ∙ none_rests c.args.volume.now (g.P.SectorView.space c.args.space.now).content (c.requires.serves.settled before) (c.requires.serves.stands.stands before).trees c.args.id (shrunk_of c.args.volume.now) c.requires.shrunk (sym c.in-None.is ∙ c.in_ok-entry.ensures.found before)
 
 pub returns-in-None-clause-tidied : goal.returns-in-None-clause-tidied
 returns-in-None-clause-tidied g c tells =
     tidied_behind (g.P.SectorView.space c.args.space.now).content (g.P.SectorView.space c.entry.new.space).content (g.P.SectorView.space c.tidy_unshrunk.new.space).content (c.entry.ensures.looked.reads.looks.content tells) (capacity_of c.args.volume.now) (capacity_of c.entry.new.self) c.entry.ensures.looked.reads.keeps.capacity (shrunk_of c.args.volume.now) (shrunk_of c.entry.new.self) c.entry.ensures.looked.reads.keeps.shrunk (free_of c.args.volume.now.map) (free_of c.entry.new.self.map) (ap (λ (m : BlockMap). free_of m) c.entry.ensures.looked.reads.keeps.map) (g.P.SectorView.space c.args.space.now).spare (g.P.SectorView.space c.entry.new.space).spare c.entry.ensures.looked.reads.looks.spare c.tidy_unshrunk.result
     (c.tidy_unshrunk.ensures.tidied (c.entry.ensures.looked.reads.looks.same.tells ∙ tells))
-
-pub returns-in-None-clause-touches : goal.returns-in-None-clause-touches
-returns-in-None-clause-touches g c committed =
-    touches_both committed _ (g.P.SectorView.space c.args.space.now) (g.P.SectorView.space c.entry.new.space) (g.P.SectorView.space c.tidy_unshrunk.new.space) (touches_looks committed _ (g.P.SectorView.space c.args.space.now) (g.P.SectorView.space c.entry.new.space) c.entry.ensures.looked.reads.looks)
-    (subst (λ (l : List ℕ). Touches committed (λ s. Contains l s) (g.P.SectorView.space c.entry.new.space) (g.P.SectorView.space c.tidy_unshrunk.new.space)) (own_still c.args.volume.now c.entry.new.self (g.P.SectorView.space c.args.space.now) (g.P.SectorView.space c.entry.new.space) c.entry.ensures.looked.reads) (c.tidy_unshrunk.ensures.touches committed))
-
-pub returns-in-None-clause-used : goal.returns-in-None-clause-used
-returns-in-None-clause-used g c =
-    used_both c.args.volume.now c.entry.new.self c.tidy_unshrunk.new.volume (used_read c.args.volume.now c.entry.new.self (g.P.SectorView.space c.args.space.now) (g.P.SectorView.space c.entry.new.space) c.entry.ensures.looked.reads) c.tidy_unshrunk.ensures.used
-
-pub returns-in-None-clause-below : goal.returns-in-None-clause-below
-returns-in-None-clause-below g c = g.met.P.SectorView.follows_trans c.args.space.now c.entry.new.space c.tidy_unshrunk.new.space c.entry.ensures.looked.edits.ran.below c.tidy_unshrunk.ensures.below
-
-pub returns-in-None-clause-cause : goal.returns-in-None-clause-cause
-returns-in-None-clause-cause g c = cause_since (g.P.SectorView.space c.args.space.now).faults (g.P.SectorView.space c.entry.new.space).faults (g.P.SectorView.space c.tidy_unshrunk.new.space).faults c.tidy_unshrunk.result c.entry.ensures.looked.reads.looks.faults c.tidy_unshrunk.ensures.cause
-
-pub returns-in_err-entry-clause-touches : goal.returns-in_err-entry-clause-touches
-returns-in_err-entry-clause-touches g c committed = touches_looks committed _ (g.P.SectorView.space c.args.space.now) (g.P.SectorView.space c.entry.new.space) c.entry.ensures.looked.reads.looks
-
-pub returns-in_err-entry-clause-used : goal.returns-in_err-entry-clause-used
-returns-in_err-entry-clause-used g c = used_read c.args.volume.now c.entry.new.self (g.P.SectorView.space c.args.space.now) (g.P.SectorView.space c.entry.new.space) c.entry.ensures.looked.reads
-
-pub returns-in_err-entry-clause-service : goal.returns-in_err-entry-clause-service
-returns-in_err-entry-clause-service g c = c.entry.ensures.looked.stands.service
 
 -- ---- what it puts
 
@@ -115,3 +67,18 @@ returns-in-None-clause-spent g c tells =
 
 pub returns-in_err-entry-clause-spent : goal.returns-in_err-entry-clause-spent
 returns-in_err-entry-clause-spent g c tells = inl (omega (arith, c.entry.ensures.looked.reads.looks.spare))
+
+pub tidy_shrunk-requires-clause-serves : goal.tidy_shrunk-requires-clause-serves
+tidy_shrunk-requires-clause-serves g c = serves_still c.entry.ensures.looked c.requires.serves
+
+pub tidy_unshrunk-requires-clause-serves : goal.tidy_unshrunk-requires-clause-serves
+tidy_unshrunk-requires-clause-serves g c = serves_still c.entry.ensures.looked c.requires.serves
+
+pub returns-in-Some-clause-frees : goal.returns-in-Some-clause-frees
+returns-in-Some-clause-frees g c = frees_behind g.met.P.SectorView.follows_trans c.entry.ensures.looked c.tidy_shrunk.ensures.frees
+
+pub returns-in-None-clause-frees : goal.returns-in-None-clause-frees
+returns-in-None-clause-frees g c = frees_behind g.met.P.SectorView.follows_trans c.entry.ensures.looked c.tidy_unshrunk.ensures.frees
+
+pub returns-in_err-entry-clause-frees : goal.returns-in_err-entry-clause-frees
+returns-in_err-entry-clause-frees g c = frees_err c.from_residual.ensures.1 (frees_looked c.in_err-entry.ensures.looked)

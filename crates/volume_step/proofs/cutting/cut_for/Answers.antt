@@ -4,9 +4,8 @@ use Rattle.hfs_language.specs.declared.command.Command.{Command}
 use Rattle.volume_space.specs.CuttingAhead.{CutsAhead}
 use Rattle.volume_base.specs.Room.{capacity_of}
 use Rattle.volume_space.specs.declared.cutting_ahead.CutAhead.{CutAhead}
-use Rattle.volume_base.proofs.Commanding.{touches_none}
-use Rattle.volume_space.proofs.KeptUsed.{used_none}
 use Rattle.volume_step.specs.Steps.{data_path}
+use Rattle.volume_space.proofs.Freed.{frees_wanting}
 use Rattle.volume_step.proofs.cutting.cut_for.Goals as goal
 
 pub returns-in-Write-clause-came : goal.returns-in-Write-clause-came
@@ -15,17 +14,8 @@ returns-in-Write-clause-came g c tells = subst (λ (k : Command). IfOk c.cut_ahe
 pub returns-in-Trunc-clause-came : goal.returns-in-Trunc-clause-came
 returns-in-Trunc-clause-came g c tells = subst (λ (k : Command). IfOk c.cut_ahead-in-Trunc.result (λ (came : CutAhead). CutsAhead came (capacity_of c.args.volume.now) (data_path k) c.args.end (g.P.SectorView.space c.args.space.now).content (g.P.SectorView.space c.cut_ahead-in-Trunc.new.space).content)) (sym c.in-Trunc.is) (c.cut_ahead-in-Trunc.ensures.came tells)
 
-pub returns-in_default-clause-touches : goal.returns-in_default-clause-touches
-returns-in_default-clause-touches g c committed = touches_none committed _ (g.P.SectorView.space c.args.space.now)
-
-pub returns-in_default-clause-used : goal.returns-in_default-clause-used
-returns-in_default-clause-used g c = used_none c.args.volume.now
-
-pub returns-in_default-clause-service : goal.returns-in_default-clause-service
-returns-in_default-clause-service g c = c.requires.stands.service
-
-pub returns-in_default-clause-cause : goal.returns-in_default-clause-cause
-returns-in_default-clause-cause g c = record { later = omega arith; failed = tt }
-
 pub returns-in_default-clause-loads : goal.returns-in_default-clause-loads
 returns-in_default-clause-loads g c tells free load grow costs = omega arith
+
+pub returns-in_default-clause-frees : goal.returns-in_default-clause-frees
+returns-in_default-clause-frees g c = frees_wanting g.met.P.SectorView.follows_refl c.requires.serves.stands

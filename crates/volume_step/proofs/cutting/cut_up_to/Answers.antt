@@ -12,28 +12,28 @@ pub returns-clause-answered : goal.returns-clause-answered
 returns-clause-answered g c tells =
     let a = (g.P.SectorView.space c.args.space.now) in
     let b = g.P.SectorView.space c.cut_for.new.space in
-    let later = (c.cut_for.ensures.touches []).same.tells ∙ tells in
+    let later = (c.cut_for.ensures.frees.ran.touches []).same.tells ∙ tells in
     subst (λ (o : Outcome). StepsTo o (capacity_of c.args.volume.now) c.args._number c.args.command.now a.content b.content) (sym c.outcome_of.ensures)
     (steps_by (capacity_of c.args.volume.now) c.args._number c.args.command.now a.content b.content (c.requires.waits tells) c.soundness_has_two_halves.ensures c.requires.changes (sound_here c.args.volume.now a (c.requires.stands.stands tells) (c.requires.settled tells)) c.args.end c.requires.end c.in_ok-came.came
-    (sound_here c.cut_for.new.volume b (c.in_ok-came.ensures.stands.stands later) (c.in_ok-came.ensures.settled tells)) (c.in_ok-came.ensures.came tells))
+    (sound_here c.cut_for.new.volume b (c.in_ok-came.ensures.serves.stands.stands later) (c.in_ok-came.ensures.serves.settled later)) (c.in_ok-came.ensures.came tells))
 
 pub returns-clause-place : goal.returns-clause-place
 returns-clause-place g c tells =
     let a = (g.P.SectorView.space c.args.space.now) in
     let b = g.P.SectorView.space c.cut_for.new.space in
-    let later = (c.cut_for.ensures.touches []).same.tells ∙ tells in
+    let later = (c.cut_for.ensures.frees.ran.touches []).same.tells ∙ tells in
     place_by (capacity_of c.args.volume.now) c.args._number c.args.command.now a.content b.content (c.requires.waits tells) c.soundness_has_two_halves.ensures c.requires.changes (sound_here c.args.volume.now a (c.requires.stands.stands tells) (c.requires.settled tells)) c.args.end c.requires.end c.in_ok-came.came
-    (sound_here c.cut_for.new.volume b (c.in_ok-came.ensures.stands.stands later) (c.in_ok-came.ensures.settled tells)) (c.in_ok-came.ensures.came tells)
+    (sound_here c.cut_for.new.volume b (c.in_ok-came.ensures.serves.stands.stands later) (c.in_ok-came.ensures.serves.settled later)) (c.in_ok-came.ensures.came tells)
 
 pub returns-clause-shrunk : goal.returns-clause-shrunk
 returns-clause-shrunk g c tells =
-    cut_shrinks (capacity_of c.args.volume.now) c.args._number c.args.command.now (g.P.SectorView.space c.args.space.now).content (g.P.SectorView.space c.cut_for.new.space).content (c.requires.waits tells) (shrunk_of c.args.volume.now) (shrunk_of c.cut_for.new.volume) c.cut_for.ensures.used.shrunk c.in_ok-came.came c.outcome_of.result c.outcome_of.ensures
+    cut_shrinks (capacity_of c.args.volume.now) c.args._number c.args.command.now (g.P.SectorView.space c.args.space.now).content (g.P.SectorView.space c.cut_for.new.space).content (c.requires.waits tells) (shrunk_of c.args.volume.now) (shrunk_of c.cut_for.new.volume) c.cut_for.ensures.frees.used.shrunk c.in_ok-came.came c.outcome_of.result c.outcome_of.ensures
 
 pub returns-clause-holds : goal.returns-clause-holds
-returns-clause-holds g c committed was = c.cut_for.ensures.used.holds committed was
+returns-clause-holds g c committed was = c.cut_for.ensures.frees.used.holds committed was
 
 pub returns-clause-capacity : goal.returns-clause-capacity
-returns-clause-capacity g c = c.cut_for.ensures.used.capacity
+returns-clause-capacity g c = c.cut_for.ensures.frees.used.capacity
 
 pub returns-clause-short : goal.returns-clause-short
 returns-clause-short g c tells same =
@@ -45,3 +45,6 @@ returns-clause-loads g c tells = cut_loads c.args.command.now c.args.volume.now 
 
 pub returns-in_err-came-clause-loads : goal.returns-in_err-came-clause-loads
 returns-in_err-came-clause-loads g c tells = cut_loads c.args.command.now c.args.volume.now (g.P.SectorView.space c.args.space.now) (g.P.SectorView.space c.cut_for.new.space) c.requires.changes (c.requires.waits tells) (c.cut_for.ensures.loads tells)
+
+pub returns-clause-settled : goal.returns-clause-settled
+returns-clause-settled g c tells = c.in_ok-came.ensures.serves.settled ((c.cut_for.ensures.frees.ran.touches []).same.tells ∙ tells)

@@ -1,4 +1,4 @@
-use Rattle.std.proofs.Common.{ℕ, sym, ◌∙◌, subst, arith}
+use Rattle.std.proofs.Common.{ℕ, sym, ◌∙◌, subst, arith, []}
 use Rattle.std.specs.Prelude.{IfSome, OnOk, Option}
 use Rattle.sector_disk.specs.Lists.{Content}
 use Rattle.hfs_volume.specs.Aside.{IsJournalSector}
@@ -12,6 +12,9 @@ use Rattle.volume_step.proofs.Done.{holds_kept}
 use Rattle.volume_step.proofs.GrownFor.{lacks_behind, reclaims_behind}
 use Rattle.volume_step.proofs.Loaded.{step_behind}
 use Rattle.volume_step.proofs.Widening.{own_or_free_still, touches_behind, touches_looked, touches_own}
+use Rattle.volume_base.specs.Frame.{Serves}
+use Rattle.volume_base.specs.Standing.{IsSettled}
+use Rattle.volume_base.proofs.FoundEntry.{ok_so}
 use Rattle.volume_step.proofs.tidying.tidy.Goals as goal
 
 pub grow_for-requires-clause-settled : goal.grow_for-requires-clause-settled
@@ -28,9 +31,6 @@ grow_for-requires-clause-awaits g c told =
     subst (λ (k : ℕ × Option ℕ × Content). AwaitsGrowth k.0 k.1 k.2 c.in-Some.wanted) {x = (capacity_of c.args.volume.now, shrunk_of c.args.volume.now, (g.P.SectorView.space c.args.space.now).content)} {y = (capacity_of c.next_growth.new.volume, shrunk_of c.next_growth.new.volume, (g.P.SectorView.space c.next_growth.new.space).content)}
     (λ i. (sym c.next_growth.ensures.looked.reads.keeps.capacity i, sym c.next_growth.ensures.looked.reads.keeps.shrunk i, sym (c.next_growth.ensures.looked.reads.looks.content tells) i))
     (subst (λ (o : Option TreeWanted). IfSome o (AwaitsGrowth (capacity_of c.args.volume.now) (shrunk_of c.args.volume.now) (g.P.SectorView.space c.args.space.now).content)) c.in-Some.is (c.in_ok-found.ensures.awaits tells))
-
-pub tidy_now-requires-clause-settled : goal.tidy_now-requires-clause-settled
-tidy_now-requires-clause-settled g c tells = c.next_growth.ensures.serves.settled tells
 
 pub returns-in-Some-clause-reclaims : goal.returns-in-Some-clause-reclaims
 returns-in-Some-clause-reclaims g c tells =
@@ -74,25 +74,25 @@ pub returns-clause-place : goal.returns-clause-place
 returns-clause-place g c tells = subst (λ (k : Content). OnOk c.tidy_now.result (KeepsJournal k (g.P.SectorView.space c.tidy_now.new.space).content)) (c.next_growth.ensures.looked.reads.looks.content tells) (c.tidy_now.ensures.place (c.next_growth.ensures.looked.reads.looks.same.tells ∙ tells))
 
 pub returns-clause-holds : goal.returns-clause-holds
-returns-clause-holds g c committed was = c.tidy_now.ensures.holds committed (holds_kept committed c.args.volume.now c.next_growth.new.volume c.next_growth.ensures.looked.reads.keeps.map was)
+returns-clause-holds g c committed was = c.tidy_now.ensures.frees.used.holds committed (holds_kept committed c.args.volume.now c.next_growth.new.volume c.next_growth.ensures.looked.reads.keeps.map was)
 
 pub returns-clause-capacity : goal.returns-clause-capacity
-returns-clause-capacity g c = c.tidy_now.ensures.capacity ∙ c.next_growth.ensures.looked.reads.keeps.capacity
+returns-clause-capacity g c = c.tidy_now.ensures.frees.used.capacity ∙ c.next_growth.ensures.looked.reads.keeps.capacity
 
 pub returns-clause-shrunk : goal.returns-clause-shrunk
-returns-clause-shrunk g c = c.tidy_now.ensures.shrunk ∙ c.next_growth.ensures.looked.reads.keeps.shrunk
+returns-clause-shrunk g c = c.tidy_now.ensures.frees.used.shrunk ∙ c.next_growth.ensures.looked.reads.keeps.shrunk
 
 pub returns-clause-touches : goal.returns-clause-touches
 returns-clause-touches g c committed =
     touches_behind committed c.args.volume.now c.next_growth.new.volume c.tidy_now.new.volume (g.P.SectorView.space c.args.space.now) (g.P.SectorView.space c.next_growth.new.space) (g.P.SectorView.space c.tidy_now.new.space)
     (own_or_free_still c.args.volume.now c.next_growth.new.volume (g.P.SectorView.space c.args.space.now) (g.P.SectorView.space c.next_growth.new.space) c.next_growth.ensures.looked.reads) c.next_growth.ensures.looked.reads.looks
-    (touches_own committed c.next_growth.new.volume c.tidy_now.new.volume (g.P.SectorView.space c.next_growth.new.space) (g.P.SectorView.space c.tidy_now.new.space) (c.tidy_now.ensures.touches committed))
+    (touches_own committed c.next_growth.new.volume c.tidy_now.new.volume (g.P.SectorView.space c.next_growth.new.space) (g.P.SectorView.space c.tidy_now.new.space) (c.tidy_now.ensures.frees.ran.touches committed))
 
 pub returns-clause-below : goal.returns-clause-below
-returns-clause-below g c = g.met.P.SectorView.follows_trans c.args.space.now c.next_growth.new.space c.tidy_now.new.space c.next_growth.ensures.looked.edits.ran.below c.tidy_now.ensures.below
+returns-clause-below g c = g.met.P.SectorView.follows_trans c.args.space.now c.next_growth.new.space c.tidy_now.new.space c.next_growth.ensures.looked.edits.ran.below c.tidy_now.ensures.frees.ran.below
 
 pub returns-clause-cause : goal.returns-clause-cause
-returns-clause-cause g c = cause_since (g.P.SectorView.space c.args.space.now).faults (g.P.SectorView.space c.next_growth.new.space).faults (g.P.SectorView.space c.tidy_now.new.space).faults c.tidy_now.result c.next_growth.ensures.looked.reads.looks.faults c.tidy_now.ensures.cause
+returns-clause-cause g c = cause_since (g.P.SectorView.space c.args.space.now).faults (g.P.SectorView.space c.next_growth.new.space).faults (g.P.SectorView.space c.tidy_now.new.space).faults c.tidy_now.result c.next_growth.ensures.looked.reads.looks.faults c.tidy_now.ensures.frees.ran.cause
 
 pub returns-in_err-found-clause-touches : goal.returns-in_err-found-clause-touches
 returns-in_err-found-clause-touches g c committed = touches_looked committed c.args.volume.now c.next_growth.new.volume (g.P.SectorView.space c.args.space.now) (g.P.SectorView.space c.next_growth.new.space) c.next_growth.ensures.looked.reads.looks
@@ -122,3 +122,8 @@ returns-in-Some-clause-loads g c tells =
 
 pub returns-in_err-found-clause-loads : goal.returns-in_err-found-clause-loads
 returns-in_err-found-clause-loads g c tells step load grow next is = omega (arith, c.next_growth.ensures.looked.reads.looks.spare)
+
+pub returns-clause-settled : goal.returns-clause-settled
+returns-clause-settled g c tells =
+    ok_so (Serves c.tidy_now.new.volume (g.P.SectorView.space c.tidy_now.new.space)) (IsSettled c.tidy_now.new.volume (g.P.SectorView.space c.tidy_now.new.space).content) c.tidy_now.result c.tidy_now.ensures.serves
+    (λ s. s.settled ((c.tidy_now.ensures.frees.ran.touches []).same.tells ∙ (c.next_growth.ensures.looked.reads.looks.same.tells ∙ tells)))
