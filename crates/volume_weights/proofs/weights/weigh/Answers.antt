@@ -84,3 +84,24 @@ returns-in_ok-weigh_ln-in-Ln-clause-cuts g c tells waits = absurd (never_waits (
 
 pub returns-in-At-clause-looked : goal.returns-in-At-clause-looked
 returns-in-At-clause-looked g c = looked_none g.met.P.SectorView.follows_refl c.requires.serves.stands
+
+pub returns-in-Read-clause-looked : goal.returns-in-Read-clause-looked
+returns-in-Read-clause-looked g c = looked_none g.met.P.SectorView.follows_refl c.requires.serves.stands
+
+pub returns-in-Read-2-clause-looked : goal.returns-in-Read-2-clause-looked
+returns-in-Read-2-clause-looked g c = looked_none g.met.P.SectorView.follows_refl c.requires.serves.stands
+
+pub returns-in-Read-3-clause-looked : goal.returns-in-Read-3-clause-looked
+returns-in-Read-3-clause-looked g c = looked_none g.met.P.SectorView.follows_refl c.requires.serves.stands
+
+pub returns-in-Read-4-clause-looked : goal.returns-in-Read-4-clause-looked
+returns-in-Read-4-clause-looked g c = looked_none g.met.P.SectorView.follows_refl c.requires.serves.stands
+
+pub returns-in-Read-5-clause-looked : goal.returns-in-Read-5-clause-looked
+returns-in-Read-5-clause-looked g c = looked_none g.met.P.SectorView.follows_refl c.requires.serves.stands
+
+pub returns-in-Read-6-clause-looked : goal.returns-in-Read-6-clause-looked
+returns-in-Read-6-clause-looked g c = looked_none g.met.P.SectorView.follows_refl c.requires.serves.stands
+
+pub returns-in-Read-7-clause-looked : goal.returns-in-Read-7-clause-looked
+returns-in-Read-7-clause-looked g c = looked_none g.met.P.SectorView.follows_refl c.requires.serves.stands
