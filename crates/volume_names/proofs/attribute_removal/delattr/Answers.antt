@@ -92,7 +92,7 @@ returns-in-None-clause-refused g c tells is = (volume_both c.args.volume.now c.o
 
 pub returns-in-None-clause-edits : goal.returns-in-None-clause-edits
 returns-in-None-clause-edits g c =
-    edits_spent (edits_both g.met.P.SectorView.follows_trans c.owner.ensures.looked.edits c.owned.ensures.looked.edits) (λ tells. omega (arith, (volume_both c.args.volume.now c.owner.new.self c.owned.new.self (g.P.SectorView.space c.args.space.now) (g.P.SectorView.space c.owner.new.space) (g.P.SectorView.space c.owned.new.space) c.owner.ensures.looked.reads c.owned.ensures.looked.reads).looks.spare))
+    edits_ok (edits_spent (edits_both g.met.P.SectorView.follows_trans c.owner.ensures.looked.edits c.in_ok-others-in-Ok.ensures.looked.edits) (λ tells. omega (arith, (volume_both c.args.volume.now c.owner.new.self c.owned.new.self (g.P.SectorView.space c.args.space.now) (g.P.SectorView.space c.owner.new.space) (g.P.SectorView.space c.owned.new.space) c.owner.ensures.looked.reads c.owned.ensures.looked.reads).looks.spare)))
 
 pub returns-in-None-clause-loads : goal.returns-in-None-clause-loads
 returns-in-None-clause-loads g c tells n grow is = omega (arith, (volume_both c.args.volume.now c.owner.new.self c.owned.new.self (g.P.SectorView.space c.args.space.now) (g.P.SectorView.space c.owner.new.space) (g.P.SectorView.space c.owned.new.space) c.owner.ensures.looked.reads c.owned.ensures.looked.reads).looks.spare)

@@ -26,27 +26,27 @@ returns-clause-answer g c tells =
 pub returns-clause-added : goal.returns-clause-added
 returns-clause-added g c tells =
     let space_is = c.space-1.given.1 (sym (ap (λ (l : List ℕ). get_or l 1 0) c.add.ensures.same.names)) in
-    rw space_is (pairs_again [] c.args.tree.now c.add.new.store.tree.now (g.P.SectorView.space c.args.space.now) (g.P.SectorView.space c.add.new.store.space.now) tells c.add.ensures.edits.ran.below.0
+    rw space_is (pairs_again [] c.args.tree.now c.add.new.store.tree.now (g.P.SectorView.space c.args.space.now) (g.P.SectorView.space c.add.new.store.space.now) tells c.add.ensures.below.0
     (λ answer before after. Adding (record { parent = c.args.parent; name = c.args.name.now; value = c.args.rec.now }) before after answer) c.add.result (c.requires.holds tells).stands (c.add.new.store.agrees (c.add.ensures.same.tells ∙ tells)) (c.add.ensures.header tells (c.requires.holds tells).stands.settled) (c.add.ensures.added tells))
 
 pub returns-clause-holds : goal.returns-clause-holds
 returns-clause-holds g c tells =
     let tree_is = c.tree-1.given.1 (sym (ap (λ (l : List ℕ). get_or l 0 0) c.add.ensures.same.names)) in
     let space_is = c.space-1.given.1 (sym (ap (λ (l : List ℕ). get_or l 1 0) c.add.ensures.same.names)) in
-    rw (tree_is, space_is) (holds_again _ c.args.tree.now c.add.new.store.tree.now (g.P.SectorView.space c.args.space.now) (g.P.SectorView.space c.add.new.store.space.now) tells c.add.ensures.edits.ran.below.0 c.add.result
+    rw (tree_is, space_is) (holds_again _ c.args.tree.now c.add.new.store.tree.now (g.P.SectorView.space c.args.space.now) (g.P.SectorView.space c.add.new.store.space.now) tells c.add.ensures.below.0 c.add.result
     (c.requires.holds tells) (c.add.new.store.agrees (c.add.ensures.same.tells ∙ tells)) (c.add.ensures.header tells (c.requires.holds tells).stands.settled) (c.add.ensures.tree tells))
 
 pub returns-clause-frame : goal.returns-clause-frame
 returns-clause-frame g c =
     let tree_is = c.tree-1.given.1 (sym (ap (λ (l : List ℕ). get_or l 0 0) c.add.ensures.same.names)) in
     let space_is = c.space-1.given.1 (sym (ap (λ (l : List ℕ). get_or l 1 0) c.add.ensures.same.names)) in
-    rw (tree_is, space_is) c.add.ensures.edits.ran.below.0
+    rw (tree_is, space_is) c.add.ensures.below.0
 
 pub returns-clause-edits : goal.returns-clause-edits
 returns-clause-edits g c names =
     let tree_is = c.tree-1.given.1 (sym (ap (λ (l : List ℕ). get_or l 0 0) c.add.ensures.same.names)) in
     let space_is = c.space-1.given.1 (sym (ap (λ (l : List ℕ). get_or l 1 0) c.add.ensures.same.names)) in
-    rw (tree_is, space_is) (edits_renamed _ _ names c.args.tree.now c.add.new.store.tree.now (g.P.SectorView.space c.args.space.now) (g.P.SectorView.space c.add.new.store.space.now) 2 516 c.add.result c.add.ensures.takes_edits)
+    rw (tree_is, space_is) (edits_renamed _ _ names c.args.tree.now c.add.new.store.tree.now (g.P.SectorView.space c.args.space.now) (g.P.SectorView.space c.add.new.store.space.now) 2 516 c.add.result c.add.ensures.edits)
 
 pub returns-clause-takes : goal.returns-clause-takes
 returns-clause-takes g c names =
@@ -57,7 +57,7 @@ returns-clause-takes g c names =
 pub returns-clause-below : goal.returns-clause-below
 returns-clause-below g c =
     let space_is = c.space-1.given.1 (sym (ap (λ (l : List ℕ). get_or l 1 0) c.add.ensures.same.names)) in
-    rw space_is c.add.ensures.edits.ran.below.1
+    rw space_is c.add.ensures.below.1
 
 pub invariant_of-on-clause-inside : goal.invariant_of-on-clause-inside
 invariant_of-on-clause-inside g c = c.requires.inside

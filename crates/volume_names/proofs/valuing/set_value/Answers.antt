@@ -21,27 +21,27 @@ set-requires-clause-room g c = c.requires.room _
 pub returns-clause-set : goal.returns-clause-set
 returns-clause-set g c tells =
     let space_is = c.space-1.given.1 (sym (ap (λ (l : List ℕ). get_or l 1 0) c.set.ensures.same.names)) in
-    rw space_is (pairs_again [] c.args.tree.now c.set.new.store.tree.now (g.P.SectorView.space c.args.space.now) (g.P.SectorView.space c.set.new.store.space.now) tells c.set.ensures.edits.ran.below.0
+    rw space_is (pairs_again [] c.args.tree.now c.set.new.store.tree.now (g.P.SectorView.space c.args.space.now) (g.P.SectorView.space c.set.new.store.space.now) tells c.set.ensures.below.0
     (λ answer before after. Setting c.args.id c.args.name.now c.args.value.now before after answer) c.set.result (c.requires.holds tells).stands (c.set.new.store.agrees (c.set.ensures.same.tells ∙ tells)) (c.set.ensures.header tells (c.requires.holds tells).stands.settled) (c.set.ensures.set tells))
 
 pub returns-clause-sorted : goal.returns-clause-sorted
 returns-clause-sorted g c tells =
     let space_is = c.space-1.given.1 (sym (ap (λ (l : List ℕ). get_or l 1 0) c.set.ensures.same.names)) in
-    rw space_is (pairs_again [] c.args.tree.now c.set.new.store.tree.now (g.P.SectorView.space c.args.space.now) (g.P.SectorView.space c.set.new.store.space.now) tells c.set.ensures.edits.ran.below.0
+    rw space_is (pairs_again [] c.args.tree.now c.set.new.store.tree.now (g.P.SectorView.space c.args.space.now) (g.P.SectorView.space c.set.new.store.space.now) tells c.set.ensures.below.0
     (λ answer before after. AreSortedAttributes after) c.set.result (c.requires.holds tells).stands (c.set.new.store.agrees (c.set.ensures.same.tells ∙ tells)) (c.set.ensures.header tells (c.requires.holds tells).stands.settled) (c.set.ensures.sorted tells))
 
 pub returns-clause-holds : goal.returns-clause-holds
 returns-clause-holds g c tells =
     let tree_is = c.tree-1.given.1 (sym (ap (λ (l : List ℕ). get_or l 0 0) c.set.ensures.same.names)) in
     let space_is = c.space-1.given.1 (sym (ap (λ (l : List ℕ). get_or l 1 0) c.set.ensures.same.names)) in
-    rw (tree_is, space_is) (holds_again _ c.args.tree.now c.set.new.store.tree.now (g.P.SectorView.space c.args.space.now) (g.P.SectorView.space c.set.new.store.space.now) tells c.set.ensures.edits.ran.below.0 c.set.result
+    rw (tree_is, space_is) (holds_again _ c.args.tree.now c.set.new.store.tree.now (g.P.SectorView.space c.args.space.now) (g.P.SectorView.space c.set.new.store.space.now) tells c.set.ensures.below.0 c.set.result
     (c.requires.holds tells) (c.set.new.store.agrees (c.set.ensures.same.tells ∙ tells)) (c.set.ensures.header tells (c.requires.holds tells).stands.settled) (c.set.ensures.tree tells))
 
 pub returns-clause-frame : goal.returns-clause-frame
 returns-clause-frame g c =
     let tree_is = c.tree-1.given.1 (sym (ap (λ (l : List ℕ). get_or l 0 0) c.set.ensures.same.names)) in
     let space_is = c.space-1.given.1 (sym (ap (λ (l : List ℕ). get_or l 1 0) c.set.ensures.same.names)) in
-    rw (tree_is, space_is) c.set.ensures.edits.ran.below.0
+    rw (tree_is, space_is) c.set.ensures.below.0
 
 pub returns-clause-takes : goal.returns-clause-takes
 returns-clause-takes g c names =
@@ -52,7 +52,7 @@ returns-clause-takes g c names =
 pub returns-clause-below : goal.returns-clause-below
 returns-clause-below g c =
     let space_is = c.space-1.given.1 (sym (ap (λ (l : List ℕ). get_or l 1 0) c.set.ensures.same.names)) in
-    rw space_is c.set.ensures.edits.ran.below.1
+    rw space_is c.set.ensures.below.1
 
 pub invariant_of-on-clause-inside : goal.invariant_of-on-clause-inside
 invariant_of-on-clause-inside g c = c.requires.inside
