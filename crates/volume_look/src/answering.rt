@@ -1,6 +1,7 @@
 //! Commands are answered by a volume in service, which is only read.
 ghost use Rattle.std.specs.Prelude.{◌≡◌, IsTrue, IsFalse, IfOk, OnOk};
 ghost use Rattle.btree_edit.specs.Causes.{HasTroubleCause};
+ghost use Rattle.volume_base.specs.Frame.{Looked, Serves};
 ghost use Rattle.volume_base.specs.Room.{capacity_of};
 ghost use Rattle.volume_base.specs.Standing.{IsSettled, StandsOver};
 ghost use Rattle.volume_runs.specs.Run.{reply_to};
@@ -44,20 +45,13 @@ fn answer_next<P: SectorSpace, A: Asker>(
     space: &mut P,
     asker: &mut A,
 ) -> Result<bool, Trouble>
-    requires stands { StandsOver volume.old (P.SectorView.space space.old) }
-    requires settled { IsTrue (P.SectorView.space space.old).tells → IsSettled volume.old (P.SectorView.space space.old).content }
+    requires serves { Serves volume.old (P.SectorView.space space.old) }
     ensures right { IsTrue (P.SectorView.space space.old).tells → IsTrue (A.state asker.old).tells → HearsRight (capacity_of volume.old) (P.SectorView.space space.old).content (A.state asker.old) (A.state asker.new) }
     ensures each { IsTrue (A.state asker.old).tells → OnOk result (HearsEach (A.state asker.old) (A.state asker.new)) }
     ensures ended { IsTrue (A.state asker.old).tells → IfOk result (λ asked. IsFalse asked → IsTrue (A.state asker.new).ended) }
     ensures told { (A.state asker.new).tells ≡ (A.state asker.old).tells }
-    ensures content { IsTrue (P.SectorView.space space.old).tells → (P.SectorView.space space.new).content ≡ (P.SectorView.space space.old).content }
-    ensures tells { (P.SectorView.space space.new).tells ≡ (P.SectorView.space space.old).tells }
-    ensures stands { StandsOver volume.new (P.SectorView.space space.new) }
-    ensures settled { IsTrue (P.SectorView.space space.old).tells → IsSettled volume.new (P.SectorView.space space.new).content }
-    ensures capacity { capacity_of volume.new ≡ capacity_of volume.old }
-    ensures names { (P.SectorView.space space.new).names ≡ (P.SectorView.space space.old).names }
-    ensures below { P.SectorView.follows space.old space.new }
-    ensures cause { HasTroubleCause (P.SectorView.space space.old).faults (P.SectorView.space space.new).faults result }
+    ensures looked { Looked P.SectorView.space P.SectorView.follows volume.old volume.new space.old space.new result }
+    ensures serves { Serves volume.new (P.SectorView.space space.new) }
 {
     match asker.ask() {
         Ok(Some(command)) => {
@@ -79,17 +73,10 @@ fn answer<P: SectorSpace>(
     space: &mut P,
     command: &Command,
 ) -> Result<Reply, Trouble>
-    requires stands { StandsOver volume.old (P.SectorView.space space.old) }
-    requires settled { IsTrue (P.SectorView.space space.old).tells → IsSettled volume.old (P.SectorView.space space.old).content }
+    requires serves { Serves volume.old (P.SectorView.space space.old) }
     ensures reply { IsTrue (P.SectorView.space space.old).tells → IfOk result (λ reply. reply ≡ reply_to (capacity_of volume.old) (P.SectorView.space space.old).content (taken command.now)) }
-    ensures content { IsTrue (P.SectorView.space space.old).tells → (P.SectorView.space space.new).content ≡ (P.SectorView.space space.old).content }
-    ensures tells { (P.SectorView.space space.new).tells ≡ (P.SectorView.space space.old).tells }
-    ensures stands { StandsOver volume.new (P.SectorView.space space.new) }
-    ensures settled { IsTrue (P.SectorView.space space.old).tells → IsSettled volume.new (P.SectorView.space space.new).content }
-    ensures capacity { capacity_of volume.new ≡ capacity_of volume.old }
-    ensures names { (P.SectorView.space space.new).names ≡ (P.SectorView.space space.old).names }
-    ensures below { P.SectorView.follows space.old space.new }
-    ensures cause { HasTroubleCause (P.SectorView.space space.old).faults (P.SectorView.space space.new).faults result }
+    ensures looked { Looked P.SectorView.space P.SectorView.follows volume.old volume.new space.old space.new result }
+    ensures serves { Serves volume.new (P.SectorView.space space.new) }
 {
     if allows(command) {
         return answer_allowed(alloc, volume, space, command);
@@ -104,18 +91,11 @@ fn answer_allowed<P: SectorSpace>(
     space: &mut P,
     command: &Command,
 ) -> Result<Reply, Trouble>
-    requires stands { StandsOver volume.old (P.SectorView.space space.old) }
-    requires settled { IsTrue (P.SectorView.space space.old).tells → IsSettled volume.old (P.SectorView.space space.old).content }
+    requires serves { Serves volume.old (P.SectorView.space space.old) }
     requires allowed { IsTrue (allows command.now) }
     ensures reply { IsTrue (P.SectorView.space space.old).tells → IfOk result (λ reply. reply ≡ reply_to (capacity_of volume.old) (P.SectorView.space space.old).content (taken command.now)) }
-    ensures content { IsTrue (P.SectorView.space space.old).tells → (P.SectorView.space space.new).content ≡ (P.SectorView.space space.old).content }
-    ensures tells { (P.SectorView.space space.new).tells ≡ (P.SectorView.space space.old).tells }
-    ensures stands { StandsOver volume.new (P.SectorView.space space.new) }
-    ensures settled { IsTrue (P.SectorView.space space.old).tells → IsSettled volume.new (P.SectorView.space space.new).content }
-    ensures capacity { capacity_of volume.new ≡ capacity_of volume.old }
-    ensures names { (P.SectorView.space space.new).names ≡ (P.SectorView.space space.old).names }
-    ensures below { P.SectorView.follows space.old space.new }
-    ensures cause { HasTroubleCause (P.SectorView.space space.old).faults (P.SectorView.space space.new).faults result }
+    ensures looked { Looked P.SectorView.space P.SectorView.follows volume.old volume.new space.old space.new result }
+    ensures serves { Serves volume.new (P.SectorView.space space.new) }
 {
     look_at_command(command);
     match volume.tell(alloc, space, command)? {

@@ -1,4 +1,4 @@
-use Rattle.std.proofs.Common.{◌∙◌, arith, sym}
+use Rattle.std.proofs.Common.{◌∙◌, arith}
 use Rattle.std.proofs.lemmas.Result.{err_from_is_err_and}
 use Rattle.volume_base.proofs.Seeing.{cause_on}
 use Rattle.volume_look.proofs.Going.{goes_both, goes_none, right_then}
@@ -11,23 +11,20 @@ loop-init g c = record {
   below = g.met.P.SectorView.follows_refl c.args.space.now;
 }
 
-pub answer_next-requires-clause-stands : goal.answer_next-requires-clause-stands
-answer_next-requires-clause-stands g c = c.loop.invariant.goes.stands
-
-pub answer_next-requires-clause-settled : goal.answer_next-requires-clause-settled
-answer_next-requires-clause-settled g c = c.loop.invariant.goes.settled
+pub answer_next-requires-clause-serves : goal.answer_next-requires-clause-serves
+answer_next-requires-clause-serves g c = record { stands = c.loop.invariant.goes.stands; settled = c.loop.invariant.goes.settled }
 
 pub returns-in_err-answer_next-clause-right : goal.returns-in_err-answer_next-clause-right
 returns-in_err-answer_next-clause-right g c =
     right_then c.args.volume.now (g.P.SectorView.space c.args.space.now) (g.A.Asker.state c.args.asker.now) c.loop.volume (g.P.SectorView.space c.loop.space) (g.A.Asker.state c.loop.asker) c.loop.invariant.goes (g.A.Asker.state c.answer_next.new.asker) c.answer_next.ensures.right
 
 pub returns-in_err-answer_next-clause-below : goal.returns-in_err-answer_next-clause-below
-returns-in_err-answer_next-clause-below g c = g.met.P.SectorView.follows_trans c.args.space.now c.loop.space c.answer_next.new.space c.loop.invariant.below c.answer_next.ensures.below
+returns-in_err-answer_next-clause-below g c = g.met.P.SectorView.follows_trans c.args.space.now c.loop.space c.answer_next.new.space c.loop.invariant.below c.answer_next.ensures.looked.edits.ran.below
 
 pub returns-in_err-answer_next-clause-cause : goal.returns-in_err-answer_next-clause-cause
 returns-in_err-answer_next-clause-cause g c =
     let p = err_from_is_err_and c.from_residual.result c.from_residual.ensures.1 in
-    cause_on c.in_err-answer_next.field-0.0 p.0 (g.P.SectorView.space c.args.space.now).faults (g.P.SectorView.space c.loop.space).faults (g.P.SectorView.space c.answer_next.new.space).faults c.from_residual.result p.1 p.2 c.loop.invariant.goes.faults c.in_err-answer_next.ensures.cause
+    cause_on c.in_err-answer_next.field-0.0 p.0 (g.P.SectorView.space c.args.space.now).faults (g.P.SectorView.space c.loop.space).faults (g.P.SectorView.space c.answer_next.new.space).faults c.from_residual.result p.1 p.2 c.loop.invariant.goes.faults c.in_err-answer_next.ensures.looked.edits.ran.cause
 
 pub returns-then-not-branch-clause-right : goal.returns-then-not-branch-clause-right
 returns-then-not-branch-clause-right g c =
@@ -43,10 +40,10 @@ returns-then-not-branch-clause-ends g c told =
     }
 
 pub returns-then-not-branch-clause-below : goal.returns-then-not-branch-clause-below
-returns-then-not-branch-clause-below g c = g.met.P.SectorView.follows_trans c.args.space.now c.loop.space c.answer_next.new.space c.loop.invariant.below c.answer_next.ensures.below
+returns-then-not-branch-clause-below g c = g.met.P.SectorView.follows_trans c.args.space.now c.loop.space c.answer_next.new.space c.loop.invariant.below c.answer_next.ensures.looked.edits.ran.below
 
 pub returns-then-not-branch-clause-cause : goal.returns-then-not-branch-clause-cause
-returns-then-not-branch-clause-cause g c = record { later = omega (arith, c.loop.invariant.goes.faults, c.answer_next.ensures.cause.later); failed = tt }
+returns-then-not-branch-clause-cause g c = record { later = omega (arith, c.loop.invariant.goes.faults, c.answer_next.ensures.looked.edits.ran.cause.later); failed = tt }
 
 pub loop-preserved : goal.loop-preserved
 loop-preserved g c =
@@ -55,18 +52,18 @@ loop-preserved g c =
       goes = goes_both c.args.volume.now (g.P.SectorView.space c.args.space.now) (g.A.Asker.state c.args.asker.now) c.loop.volume (g.P.SectorView.space c.loop.space) (g.A.Asker.state c.loop.asker) c.loop.invariant.goes
           c.answer_next.new.volume (g.P.SectorView.space c.answer_next.new.space) (g.A.Asker.state c.answer_next.new.asker)
           (record {
-            stands = e.stands;
-            settled = λ tells. e.settled (sym e.tells ∙ tells);
-            tells = e.tells;
-            content = e.content;
-            capacity = e.capacity;
-            names = e.names;
-            faults = e.cause.later;
+            stands = e.looked.stands;
+            settled = e.serves.settled;
+            tells = e.looked.reads.looks.same.tells;
+            content = e.looked.reads.looks.content;
+            capacity = e.looked.reads.keeps.capacity;
+            names = e.looked.reads.looks.same.names;
+            faults = e.looked.edits.ran.cause.later;
             told = e.told;
             right = e.right;
             each = c.in_ok-answer_next.ensures.each;
           });
-      below = g.met.P.SectorView.follows_trans c.args.space.now c.loop.space c.answer_next.new.space c.loop.invariant.below e.below;
+      below = g.met.P.SectorView.follows_trans c.args.space.now c.loop.space c.answer_next.new.space c.loop.invariant.below e.looked.edits.ran.below;
     }
 
 pub returns-clause-right : goal.returns-clause-right
@@ -79,10 +76,10 @@ pub returns-clause-cause : goal.returns-clause-cause
 returns-clause-cause g c = record { later = c.loop.invariant.goes.faults; failed = tt }
 
 pub returns-in_err-answer_next-clause-names : goal.returns-in_err-answer_next-clause-names
-returns-in_err-answer_next-clause-names g c = c.answer_next.ensures.names ∙ c.loop.invariant.goes.names
+returns-in_err-answer_next-clause-names g c = c.answer_next.ensures.looked.reads.looks.same.names ∙ c.loop.invariant.goes.names
 
 pub returns-then-not-branch-clause-names : goal.returns-then-not-branch-clause-names
-returns-then-not-branch-clause-names g c = c.answer_next.ensures.names ∙ c.loop.invariant.goes.names
+returns-then-not-branch-clause-names g c = c.answer_next.ensures.looked.reads.looks.same.names ∙ c.loop.invariant.goes.names
 
 pub returns-clause-names : goal.returns-clause-names
 returns-clause-names g c = c.loop.invariant.goes.names

@@ -6,6 +6,7 @@ use Rattle.hfs_language.specs.declared.reply.Reply.{Reply}
 use Rattle.volume_runs.specs.Run.{reply_to}
 use Rattle.volume_base.specs.Room.{capacity_of}
 use Rattle.volume_look.proofs.Talks.{taken_is}
+use Rattle.volume_base.proofs.Looked.{looked_again, looked_fault}
 use Rattle.volume_look.proofs.answering.answer_allowed.Goals as goal
 
 pub returns-in-Some-clause-reply : goal.returns-in-Some-clause-reply
@@ -15,3 +16,12 @@ returns-in-Some-clause-reply g c tells =
     let asked = c.args.command.now in
     let said : c.in-Some.reply ≡ reply_to most content (Ok asked) = subst (λ (o : Option Reply). IfSome o (λ (reply : Reply). reply ≡ reply_to most content (Ok asked))) c.in-Some.is (c.in_ok-reply.ensures.reply tells) in
     said ∙ ap (λ (r : Result Command Refusal). reply_to most content r) (sym (taken_is asked c.requires.allowed))
+
+pub returns-in-Some-clause-looked : goal.returns-in-Some-clause-looked
+returns-in-Some-clause-looked g c = looked_again c.in_ok-reply.ensures.looked
+
+pub returns-in-None-clause-looked : goal.returns-in-None-clause-looked
+returns-in-None-clause-looked g c = looked_again c.in_ok-reply.ensures.looked
+
+pub returns-in_err-reply-clause-looked : goal.returns-in_err-reply-clause-looked
+returns-in_err-reply-clause-looked g c = looked_fault c.from_residual.ensures.1 c.in_err-reply.ensures.looked
