@@ -33,7 +33,7 @@ use hx_bytes::{OutOfMemory, Trouble, Units};
 use sector_disk::SectorSpace;
 use std::alloc::Global;
 use tree_weights::{edits_have_room, edits_take_their_load};
-use volume_base::{Edits, Entry, FreeBlocks, Volume, copy_name};
+use volume_base::{Entry, FreeBlocks, Volume, copy_name};
 
 /// The first of these names, if there is one.
 fn first_name(alloc: Global, names: &[Units]) -> Result<Option<Units>, OutOfMemory>
@@ -94,7 +94,7 @@ fn cost_of_bare<P: SectorSpace>(volume: &Volume, space: &P) -> Cost
     requires has { IsTrue (has_attributes volume.now.header) }
     ensures { IsTrue (P.SectorView.space space.now).tells → result ≡ cost_of (needs_asked bare_edits) (room_with (capacity_of volume.now) (free_in blocks.All volume.now.map) (volume_of (P.SectorView.space space.now).content)) }
 {
-    let edits = Edits {
+    let edits = volume_base::Edits {
         ids: 0,
         catalog: 0,
         attributes: 1,

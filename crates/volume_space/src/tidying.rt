@@ -27,7 +27,7 @@ use hfs_volume::{Cost, reclaim_drops_entries_of_bare_orphans};
 use hx_bytes::Trouble;
 use sector_disk::SectorSpace;
 use std::alloc::Global;
-use volume_base::{Edits, Entry, FreeBlocks, Volume};
+use volume_base::{Entry, FreeBlocks, Volume};
 
 /// What a step of housekeeping came to.
 #[derive(Clone, Copy)]
@@ -127,7 +127,7 @@ fn cost_of_drop<P: SectorSpace>(volume: &Volume, space: &P) -> Cost
     requires serves { Serves volume.now (P.SectorView.space space.now) }
     ensures { IsTrue (P.SectorView.space space.now).tells → result ≡ cost_of (needs_asked drop_edits) (room_with (capacity_of volume.now) (free_in blocks.All volume.now.map) (volume_of (P.SectorView.space space.now).content)) }
 {
-    let edits = Edits {
+    let edits = volume_base::Edits {
         ids: 0,
         catalog: 2,
         attributes: 0,

@@ -8,8 +8,8 @@ use Rattle.volume_space.proofs.stripping.next_owned.Goals as goal
 pub entry-requires-clause-spelled : goal.entry-requires-clause-spelled
 entry-requires-clause-spelled g c tells = settled_spelled c.args.volume.now (g.P.SectorView.space c.args.space.now).content (c.requires.serves.settled tells)
 
-pub first_owned-requires-clause-serves : goal.first_owned-requires-clause-serves
-first_owned-requires-clause-serves g c = serves_still c.entry.ensures.looked c.requires.serves
+pub first_owned-requires : goal.first_owned-requires
+first_owned-requires g c = record { serves = serves_still c.entry.ensures.looked c.requires.serves }
 
 pub returns-in-Some-clause-found : goal.returns-in-Some-clause-found
 returns-in-Some-clause-found g c tells shrunk unshrunk =

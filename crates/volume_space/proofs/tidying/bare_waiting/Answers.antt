@@ -10,8 +10,8 @@ use Rattle.volume_space.proofs.tidying.bare_waiting.Goals as goal
 pub entry-requires-clause-spelled : goal.entry-requires-clause-spelled
 entry-requires-clause-spelled g c tells = settled_spelled c.args.volume.now (g.P.SectorView.space c.args.space.now).content (c.requires.serves.settled tells)
 
-pub bare_entry-requires-clause-serves : goal.bare_entry-requires-clause-serves
-bare_entry-requires-clause-serves g c = serves_still c.entry.ensures.looked c.requires.serves
+pub bare_entry-requires : goal.bare_entry-requires
+bare_entry-requires g c = record { serves = serves_still c.entry.ensures.looked c.requires.serves }
 
 pub returns-in-Some-clause-found : goal.returns-in-Some-clause-found
 returns-in-Some-clause-found g c tells shrunk unshrunk =
