@@ -11,8 +11,8 @@ loop-init g c = record {
   below = g.met.P.SectorView.follows_refl c.args.space.now;
 }
 
-pub answer_next-requires-clause-serves : goal.answer_next-requires-clause-serves
-answer_next-requires-clause-serves g c = record { stands = c.loop.invariant.goes.stands; settled = c.loop.invariant.goes.settled }
+pub answer_next-requires : goal.answer_next-requires
+answer_next-requires g c = record { serves = record { stands = c.loop.invariant.goes.stands; settled = c.loop.invariant.goes.settled } }
 
 pub returns-in_err-answer_next-clause-right : goal.returns-in_err-answer_next-clause-right
 returns-in_err-answer_next-clause-right g c =
