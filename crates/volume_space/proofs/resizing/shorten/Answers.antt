@@ -122,3 +122,6 @@ returns-in-Ok-clause-idle g c =
 
 pub returns-in-Err-clause-settled : goal.returns-in-Err-clause-settled
 returns-in-Err-clause-settled g c tells = c.facts.ensures.serves.settled (c.facts.ensures.looked.reads.looks.same.tells ∙ tells)
+
+pub returns-in-Ok-clause-settled : goal.returns-in-Ok-clause-settled
+returns-in-Ok-clause-settled g c tells = c.shorten_told.ensures.settled (c.facts.ensures.looked.reads.looks.same.tells ∙ tells)

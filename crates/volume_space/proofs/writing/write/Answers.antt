@@ -152,3 +152,6 @@ returns-in_err-told-clause-same g c = c.facts.ensures.looked.reads.looks.same
 
 pub returns-in-Err-clause-settled : goal.returns-in-Err-clause-settled
 returns-in-Err-clause-settled g c tells = c.facts.ensures.serves.settled (c.facts.ensures.looked.reads.looks.same.tells ∙ tells)
+
+pub returns-in-Ok-clause-settled : goal.returns-in-Ok-clause-settled
+returns-in-Ok-clause-settled g c tells = c.write_told.ensures.settled (c.facts.ensures.looked.reads.looks.same.tells ∙ tells)
