@@ -14,6 +14,7 @@ use Rattle.hfs_volume.specs.Weight.{edits, edits_of}
 use Rattle.volume_step.proofs.MetNow.{fewer_are, link_fewer, met_still, replied}
 use Rattle.volume_base.proofs.Framed.{edits_err, edits_ok, edits_spent, looked_err, looked_ok}
 use Rattle.volume_base.proofs.Joined.{edits_both}
+use Rattle.volume_step.proofs.Done.{same_place}
 use Rattle.volume_step.proofs.linking.link_file.Goals as goal
 
 pub returns-clause-answered : goal.returns-clause-answered
@@ -68,3 +69,6 @@ returns-in_err-changes-clause-edits g c = looked_err _ c.from_residual.ensures.1
 
 pub returns-then-not-fits_make-clause-edits : goal.returns-then-not-fits_make-clause-edits
 returns-then-not-fits_make-clause-edits g c = looked_ok _ c.change_linked.ensures.looked
+
+pub returns-then-not-fits_make-clause-place : goal.returns-then-not-fits_make-clause-place
+returns-then-not-fits_make-clause-place g c tells = same_place (g.P.SectorView.space c.args.space.now).content (g.P.SectorView.space c.change_linked.new.space).content (c.change_linked.ensures.looked.reads.looks.content tells)

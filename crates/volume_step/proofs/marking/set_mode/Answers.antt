@@ -8,7 +8,7 @@ use Rattle.volume_base.specs.Room.{capacity_of}
 use Rattle.volume_space.proofs.Sounding.{sound_here}
 use Rattle.volume_step.specs.Steps.{Affords, KeepsJournal, StepsTo}
 use Rattle.volume_step.specs.declared.outcome.Outcome.TheVariants as outcome
-use Rattle.volume_step.proofs.Done.{chmod_place, chmod_steps}
+use Rattle.volume_step.proofs.Done.{chmod_place, chmod_steps, same_place}
 use Rattle.volume_step.proofs.MetNow.{replied}
 use Rattle.volume_step.proofs.Ready.{update_fits}
 use Rattle.volume_step.proofs.Loaded.{within, within_reads}
@@ -66,3 +66,6 @@ returns-in_err-changes-clause-edits g c = looked_err _ c.from_residual.ensures.1
 
 pub returns-then-not-fits_update-clause-edits : goal.returns-then-not-fits_update-clause-edits
 returns-then-not-fits_update-clause-edits g c = looked_ok _ c.change_at.ensures.looked
+
+pub returns-then-not-fits_update-clause-place : goal.returns-then-not-fits_update-clause-place
+returns-then-not-fits_update-clause-place g c tells = same_place (g.P.SectorView.space c.args.space.now).content (g.P.SectorView.space c.change_at.new.space).content (c.change_at.ensures.looked.reads.looks.content tells)

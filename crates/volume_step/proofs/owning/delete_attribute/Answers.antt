@@ -9,7 +9,7 @@ use Rattle.volume_base.specs.Room.{capacity_of}
 use Rattle.volume_space.proofs.Sounding.{sound_here}
 use Rattle.volume_step.specs.Steps.{Affords, KeepsJournal, StepsTo}
 use Rattle.volume_step.specs.declared.outcome.Outcome.TheVariants as outcome
-use Rattle.volume_step.proofs.Done.{delete_place, delete_steps}
+use Rattle.volume_step.proofs.Done.{delete_place, delete_steps, same_place}
 use Rattle.volume_step.proofs.MetNow.{replied, met_still}
 use Rattle.volume_step.proofs.Loaded.{within, within_reads}
 use Rattle.volume_base.proofs.Framed.{edits_err, edits_ok, edits_spent, looked_err, looked_ok}
@@ -64,3 +64,6 @@ returns-in_err-changes-clause-edits g c = looked_err _ c.from_residual.ensures.1
 
 pub returns-then-not-fits_delattr-clause-edits : goal.returns-then-not-fits_delattr-clause-edits
 returns-then-not-fits_delattr-clause-edits g c = looked_ok _ c.change_at.ensures.looked
+
+pub returns-then-not-fits_delattr-clause-place : goal.returns-then-not-fits_delattr-clause-place
+returns-then-not-fits_delattr-clause-place g c tells = same_place (g.P.SectorView.space c.args.space.now).content (g.P.SectorView.space c.change_at.new.space).content (c.change_at.ensures.looked.reads.looks.content tells)

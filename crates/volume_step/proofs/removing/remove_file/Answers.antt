@@ -7,7 +7,7 @@ use Rattle.volume_base.specs.Room.{capacity_of}
 use Rattle.volume_space.proofs.Sounding.{sound_here}
 use Rattle.volume_step.specs.Steps.{Affords, KeepsJournal, StepsTo}
 use Rattle.volume_step.specs.declared.outcome.Outcome.TheVariants as outcome
-use Rattle.volume_step.proofs.Done.{free_path, line_free, lose_place, lose_steps}
+use Rattle.volume_step.proofs.Done.{free_path, line_free, lose_place, lose_steps, same_place}
 use Rattle.std.proofs.lemmas.Bool.{true≢false}
 use Rattle.hfs_volume.specs.Weight.{Edits, edits, edits_of}
 use Rattle.volume_base.specs.Fitting.{AreMet}
@@ -79,3 +79,6 @@ returns-in_err-changes-clause-edits g c = looked_err _ c.from_residual.ensures.1
 
 pub returns-then-not-fits_lose-clause-edits : goal.returns-then-not-fits_lose-clause-edits
 returns-then-not-fits_lose-clause-edits g c = looked_ok _ c.change_at.ensures.looked
+
+pub returns-then-not-fits_lose-clause-place : goal.returns-then-not-fits_lose-clause-place
+returns-then-not-fits_lose-clause-place g c tells = same_place (g.P.SectorView.space c.args.space.now).content (g.P.SectorView.space c.change_at.new.space).content (c.change_at.ensures.looked.reads.looks.content tells)

@@ -7,7 +7,7 @@ use Rattle.volume_base.specs.Room.{capacity_of}
 use Rattle.volume_space.proofs.Sounding.{sound_here}
 use Rattle.volume_step.specs.Steps.{Affords, KeepsJournal, StepsTo}
 use Rattle.volume_step.specs.declared.outcome.Outcome.TheVariants as outcome
-use Rattle.volume_step.proofs.Done.{remove_place, remove_steps}
+use Rattle.volume_step.proofs.Done.{remove_place, remove_steps, same_place}
 use Rattle.std.proofs.lemmas.Bool.{true≢false}
 use Rattle.hfs_volume.specs.Content.{VolumeState, has_attributes}
 use Rattle.hfs_volume.specs.Weight.{edits}
@@ -81,3 +81,9 @@ returns-then-not-fits_remove-clause-edits g c = looked_ok _ c.change_at.ensures.
 
 pub returns-then-not-fits_bare-clause-edits : goal.returns-then-not-fits_bare-clause-edits
 returns-then-not-fits_bare-clause-edits g c = looked_ok _ c.change_at.ensures.looked
+
+pub returns-then-not-fits_remove-clause-place : goal.returns-then-not-fits_remove-clause-place
+returns-then-not-fits_remove-clause-place g c tells = same_place (g.P.SectorView.space c.args.space.now).content (g.P.SectorView.space c.change_at.new.space).content (c.change_at.ensures.looked.reads.looks.content tells)
+
+pub returns-then-not-fits_bare-clause-place : goal.returns-then-not-fits_bare-clause-place
+returns-then-not-fits_bare-clause-place g c tells = same_place (g.P.SectorView.space c.args.space.now).content (g.P.SectorView.space c.change_at.new.space).content (c.change_at.ensures.looked.reads.looks.content tells)
