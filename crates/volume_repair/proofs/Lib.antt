@@ -24,3 +24,4 @@ pub mod BitsMending
 pub mod NodeBytes
 pub mod Keeping
 pub mod RemountCount
+pub mod Renewing

@@ -54,6 +54,32 @@ module _ (content now : Content) (may : IsMendable content) (long : length (sect
       by true false is also = absurd (true≢false (sym ((bytes_eq-Decides c d).1 (to ((bytes_eq-Decides a b).0 is))) ∙ also))
       by false true is also = absurd (true≢false (sym ((bytes_eq-Decides a b).1 (from ((bytes_eq-Decides c d).0 also))) ∙ is))
 
+  -- a copy is never what stood there
+  pub copy_differs : needs_copy content ≡ true → sector new last ≡ sector content last → ⊥
+  unfolding volume_of
+  copy_differs copy same =
+      let stood : (volume_of content).alternate ≡ header_of_volume new = ap header_of (sym same ∙ (copied content now may long long_now sound re copy).1 ∙ sym (mended_header content) ∙ sym (sector_of_mended content 2 (omega (arith, some_sectors content may)))) in
+      let agrees_then : AgreesWith head (volume_of content).alternate = record {
+        signature = ap (λ (h : VolumeHeader). h.signature) (stood ∙ head_mended content may long);
+        version = ap (λ (h : VolumeHeader). h.version) (stood ∙ head_mended content may long);
+        block_size = ap (λ (h : VolumeHeader). h.block_size) (stood ∙ head_mended content may long);
+        total_blocks = ap (λ (h : VolumeHeader). h.total_blocks) (stood ∙ head_mended content may long);
+      } in
+      true≢false (sym copy ∙ ap not (agreement head (volume_of content).alternate agrees_then))
+
+  copy_differs_now : needs_copy content ≡ true → sector other last ≡ sector now last → ⊥
+  unfolding volume_of
+  copy_differs_now copy same =
+      let stood : (volume_of content).alternate ≡ header_of_volume other = ap header_of (sym (alternate_stays content now may long sound re) ∙ sym same ∙ (copied content now may long long_now sound re copy).0) ∙ header_there content now may long long_now sound re in
+      let spelled : (volume_of content).alternate ≡ with_version (header_of_volume new) version = stood ∙ head_other content now may long long_now sound re in
+      let agrees_then : AgreesWith head (volume_of content).alternate = record {
+        signature = ap (λ (h : VolumeHeader). h.signature) spelled ∙ ap (λ (h : VolumeHeader). h.signature) (head_mended content may long);
+        version = ap (λ (h : VolumeHeader). h.version) spelled ∙ ap (λ (h : VolumeHeader). h.version) (head_mended content may long);
+        block_size = ap (λ (h : VolumeHeader). h.block_size) spelled ∙ ap (λ (h : VolumeHeader). h.block_size) (head_mended content may long);
+        total_blocks = ap (λ (h : VolumeHeader). h.total_blocks) spelled ∙ ap (λ (h : VolumeHeader). h.total_blocks) (head_mended content may long);
+      } in
+      true≢false (sym copy ∙ ap not (agreement head (volume_of content).alternate agrees_then))
+
   module _ (bytes : HasBytes content) (bytes_now : HasBytes now) where
     header_test : bytes_eq (sector other 2) (sector now 2) ≡ bytes_eq (sector new 2) (sector content 2)
     header_test = same_test (sector other 2) (sector now 2) (sector new 2) (sector content 2)
@@ -75,32 +101,6 @@ module _ (content now : Content) (may : IsMendable content) (long : length (sect
 
         new_header : sector new 2 ≡ header_mended content
         new_header = sector_of_mended content 2 (omega (arith, some_sectors content may)) ∙ mended_header content
-
-    -- a copy is never what stood there
-    copy_differs : needs_copy content ≡ true → sector new last ≡ sector content last → ⊥
-    unfolding volume_of
-    copy_differs copy same =
-        let stood : (volume_of content).alternate ≡ header_of_volume new = ap header_of (sym same ∙ (copied content now may long long_now sound re copy).1 ∙ sym (mended_header content) ∙ sym (sector_of_mended content 2 (omega (arith, some_sectors content may)))) in
-        let agrees_then : AgreesWith head (volume_of content).alternate = record {
-          signature = ap (λ (h : VolumeHeader). h.signature) (stood ∙ head_mended content may long);
-          version = ap (λ (h : VolumeHeader). h.version) (stood ∙ head_mended content may long);
-          block_size = ap (λ (h : VolumeHeader). h.block_size) (stood ∙ head_mended content may long);
-          total_blocks = ap (λ (h : VolumeHeader). h.total_blocks) (stood ∙ head_mended content may long);
-        } in
-        true≢false (sym copy ∙ ap not (agreement head (volume_of content).alternate agrees_then))
-
-    copy_differs_now : needs_copy content ≡ true → sector other last ≡ sector now last → ⊥
-    unfolding volume_of
-    copy_differs_now copy same =
-        let stood : (volume_of content).alternate ≡ header_of_volume other = ap header_of (sym (alternate_stays content now may long sound re) ∙ sym same ∙ (copied content now may long long_now sound re copy).0) ∙ header_there content now may long long_now sound re in
-        let spelled : (volume_of content).alternate ≡ with_version (header_of_volume new) version = stood ∙ head_other content now may long long_now sound re in
-        let agrees_then : AgreesWith head (volume_of content).alternate = record {
-          signature = ap (λ (h : VolumeHeader). h.signature) spelled ∙ ap (λ (h : VolumeHeader). h.signature) (head_mended content may long);
-          version = ap (λ (h : VolumeHeader). h.version) spelled ∙ ap (λ (h : VolumeHeader). h.version) (head_mended content may long);
-          block_size = ap (λ (h : VolumeHeader). h.block_size) spelled ∙ ap (λ (h : VolumeHeader). h.block_size) (head_mended content may long);
-          total_blocks = ap (λ (h : VolumeHeader). h.total_blocks) spelled ∙ ap (λ (h : VolumeHeader). h.total_blocks) (head_mended content may long);
-        } in
-        true≢false (sym copy ∙ ap not (agreement head (volume_of content).alternate agrees_then))
 
     last_test : (b : Bool) → needs_copy content ≡ b → bytes_eq (sector other last) (sector now last) ≡ bytes_eq (sector new last) (sector content last)
     last_test true copy = same_test (sector other last) (sector now last) (sector new last) (sector content last) (λ same. absurd (copy_differs_now copy same)) (λ same. absurd (copy_differs copy same))

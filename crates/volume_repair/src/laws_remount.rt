@@ -1,5 +1,5 @@
-//! The law of a repair after a remount, as a function without a body.
-ghost use Rattle.volume_repair.specs.Remount.{RepairStaysRemounted};
+//! Laws of a repair after a remount, as functions.
+ghost use Rattle.volume_repair.specs.Remount.{RepairIsRenewed, RepairStaysRemounted};
 
 use hfs_volume::mount_keeps_the_tree;
 
@@ -9,3 +9,8 @@ pub fn repair_stays_remounted()
 {
     mount_keeps_the_tree();
 }
+
+/// The repair of a remounted content has the sectors of the content's where that one differs, but for its headers, which take the counts.
+pub fn repair_is_renewed()
+    ensures { RepairIsRenewed }
+{}
