@@ -5,3 +5,4 @@ pub mod Plain
 pub mod SpelledWrites
 pub mod OnePass
 pub mod Rooms
+pub mod Lengths

@@ -15,6 +15,7 @@ mod spelled;
 mod spellings;
 mod split;
 mod value;
+mod valued;
 mod words;
 mod written;
 
@@ -22,3 +23,4 @@ pub use fault::LineFault;
 pub use line::{MOST_BYTES, read_line};
 pub use reply::print_reply;
 pub use value::{push_value, read_value};
+pub use valued::read_valued;

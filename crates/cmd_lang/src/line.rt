@@ -34,7 +34,7 @@ pub fn read_line(alloc: Global, line: &[u8]) -> Result<Command, LineFault>
 }
 
 #[tactic(auto, unfolding(hfs_language::specs::Language::command_of))]
-fn read_bytes(alloc: Global, line: &[u8]) -> Result<Command, LineFault>
+pub(crate) fn read_bytes(alloc: Global, line: &[u8]) -> Result<Command, LineFault>
     ensures { Reads (command_of line.now) result }
 {
     if line.len() > MOST_BYTES {

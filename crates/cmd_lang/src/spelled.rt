@@ -54,7 +54,7 @@ fn plain_bytes(alloc: Global, text: &[u8]) -> Result<Option<Vec<u8>>, AllocError
 }
 
 /// Bytes are numbers of eight bits.
-fn look_at_bytes(bytes: &[u8])
+pub(crate) fn look_at_bytes(bytes: &[u8])
     ensures { AreBytes bytes.now }
 {}
 

@@ -19,9 +19,9 @@ use std::alloc::{AllocError, Global};
 /// The path, the place and the value of such a line.
 #[derive(Drop)]
 pub(crate) struct SpelledWrite<'l> {
-    path: &'l str,
-    from: &'l str,
-    value: Bytes,
+    pub(crate) path: &'l str,
+    pub(crate) from: &'l str,
+    pub(crate) value: Bytes,
 }
 
 /// Such a line in its parts, if it is one.
@@ -45,7 +45,7 @@ pub(crate) fn spelled_write<'l>(
 }
 
 /// The words of a `write` behind the first.
-fn write_words(line: &[u8]) -> Option<(&str, &str, &[u8])>
+pub(crate) fn write_words(line: &[u8]) -> Option<(&str, &str, &[u8])>
     ensures { IfSome result (λ words. IsWrite line.now words.0.now words.1.now words.2.now) }
 {
     let behind = line.strip_prefix(b"write ".as_slice())?;
