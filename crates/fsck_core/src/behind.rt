@@ -1,5 +1,5 @@
 //! The bits of the allocation file behind those of blocks (rule 3).
-ghost use Rattle.std.specs.Prelude.{◌≡◌, ◌<◌, ◌≤◌, ◌-◌, ◌*◌, ◌/◌, ◌^◌, ◌+◌, ℕ, min, max, length, IsTrue, IfOk, IsErrOf};
+ghost use Rattle.std.specs.Prelude.{◌≡◌, ◌<◌, ◌≤◌, ◌-◌, ◌*◌, ◌/◌, ◌^◌, ◌+◌, ℕ, min, max, length, replicate, IsTrue, IfOk, IsErrOf};
 ghost use Rattle.std.specs.List.{count_by, range_with_len};
 ghost use Rattle.hx_bytes.specs.declared.faults.Trouble.TheVariants.{Disk};
 ghost use Rattle.sector_disk.specs.Cause.{HasCause, Rose};
@@ -35,11 +35,24 @@ fn count_bytes(bytes: &[u8], count: usize) -> u64
     ensures value { result ≡ count_by (bit_of bytes.now) (range_with_len 0 (8 * count)) }
     ensures few { result ≤ 8 * count }
 {
-    let mut set = 0;
+    // A sum of 16 bits, so that eight are counted at once.
+    let mut set: u16 = 0;
     for k in 0..count {
-        set += bytes[k].count_ones() as u64;
+        set += bytes[k].count_ones() as u16;
     }
-    set
+    set as u64
+}
+
+/// Whether no bit of a sector is set.
+fn is_blank(sector: &Sector) -> bool
+    ensures { IsTrue result → sector.now ≡ replicate 512 0 }
+{
+    // All bytes are looked at, which takes less than looking for the first that has a bit.
+    let mut bits = 0;
+    for byte in sector {
+        bits |= *byte;
+    }
+    bits == 0
 }
 
 /// How many bits of a sector are set, from one place up to another.
@@ -48,6 +61,9 @@ fn count_bits(sector: &Sector, from: usize, to: usize) -> u64
     ensures value { result ≡ count_by (bit_of sector.now) (range_with_len from (to - from)) }
     ensures few { result ≤ 4096 }
 {
+    if is_blank(sector) {
+        return 0;
+    }
     let rest = to % 8;
     if from == 0 {
         if rest == 0 {

@@ -17,26 +17,18 @@ ghost use Rattle.hfs_volume.specs.Nodes.{HasTrees};
 
 use crate::behind::count_behind;
 use crate::bits::read_bits;
+use crate::heads::{read_attributes_head, read_catalog_head, read_extents_head};
 use crate::lists::Lists;
-use crate::overflow::{OverflowRow, fork_extents, read_overflow};
+use crate::overflow::{OverflowRow, read_overflow};
 use crate::sizes::{judge_compare, judge_files};
 use crate::trees::{scan_attributes, scan_catalog, scan_extents};
 use fsck_list::Findings;
-use fsck_scan::{Head, Pairs, read_tree_head};
+use fsck_scan::{Head, Pairs};
 use hx_bytes::{Failed, OutOfMemory, Trouble};
 use jnl_format::{Info, info_fields};
 use sector_disk::SectorView;
 use std::alloc::Global;
 use volume_header::VolumeHeader;
-
-/// The CNIDs of the special files that hold trees.
-const EXTENTS_FILE: u32 = 3;
-
-const CATALOG_FILE: u32 = 4;
-
-const ATTRIBUTES_FILE: u32 = 8;
-
-const DATA: u8 = 0;
 
 /// What the three trees of a volume hold.
 #[derive(Drop)]
@@ -124,56 +116,6 @@ fn read_trees<V: SectorView>(
         catalog,
         attributes,
     }))
-}
-
-/// Reads the header record of the extents overflow file.
-fn read_extents_head<V: SectorView>(
-    alloc: Global,
-    view: &mut V,
-    head: &VolumeHeader,
-) -> Result<Head, Trouble>
-    requires good { IsGoodHeader (V.space view.old).sectors head.now }
-    ensures value { (content : Content) → Shows (V.space view.old) content → head.now ≡ header_of_volume content → IfOk result (λ tree. head_in tree ≡ (extents_file content).head) }
-    ensures reads { ReadsSpace (V.space view.old) (V.space view.new) }
-    ensures below { V.follows view.old view.new }
-    ensures disk { IsErrOf result Disk → Rose (V.space view.old).faults (V.space view.new).faults }
-{
-    let fork = fork_extents(alloc, &[], EXTENTS_FILE, DATA, &head.extents_fork)?;
-    read_tree_head(alloc, view, &fork, head.block_size)
-}
-
-/// Reads the header record of the catalog file.
-fn read_catalog_head<V: SectorView>(
-    alloc: Global,
-    view: &mut V,
-    head: &VolumeHeader,
-    rows: &[OverflowRow],
-) -> Result<Head, Trouble>
-    requires good { IsGoodHeader (V.space view.old).sectors head.now }
-    ensures value { (content : Content) → Shows (V.space view.old) content → head.now ≡ header_of_volume content → overflows_in rows.now ≡ overflow_of_content content → IfOk result (λ tree. head_in tree ≡ (catalog_file content).head) }
-    ensures reads { ReadsSpace (V.space view.old) (V.space view.new) }
-    ensures below { V.follows view.old view.new }
-    ensures disk { IsErrOf result Disk → Rose (V.space view.old).faults (V.space view.new).faults }
-{
-    let fork = fork_extents(alloc, rows, CATALOG_FILE, DATA, &head.catalog_fork)?;
-    read_tree_head(alloc, view, &fork, head.block_size)
-}
-
-/// Reads the header record of the attributes file.
-fn read_attributes_head<V: SectorView>(
-    alloc: Global,
-    view: &mut V,
-    head: &VolumeHeader,
-    rows: &[OverflowRow],
-) -> Result<Head, Trouble>
-    requires good { IsGoodHeader (V.space view.old).sectors head.now }
-    ensures value { (content : Content) → Shows (V.space view.old) content → head.now ≡ header_of_volume content → overflows_in rows.now ≡ overflow_of_content content → IfOk result (λ tree. head_in tree ≡ (attributes_file content).head) }
-    ensures reads { ReadsSpace (V.space view.old) (V.space view.new) }
-    ensures below { V.follows view.old view.new }
-    ensures disk { IsErrOf result Disk → Rose (V.space view.old).faults (V.space view.new).faults }
-{
-    let fork = fork_extents(alloc, rows, ATTRIBUTES_FILE, DATA, &head.attributes_fork)?;
-    read_tree_head(alloc, view, &fork, head.block_size)
 }
 
 /// What the special files of a volume say: the header records of its trees, and how many bits are set behind those of blocks.

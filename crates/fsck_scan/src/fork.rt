@@ -1,10 +1,10 @@
 //! Sectors and nodes of a fork, read through a view.
-ghost use Rattle.std.specs.Prelude.{◌≡◌, ◌≤◌, ◌^◌, IsTrue, length, replicate, slice_get, OnOk};
+ghost use Rattle.std.specs.Prelude.{◌≡◌, ◌<◌, ◌≤◌, ◌+◌, ◌*◌, ◌/◌, ◌^◌, ℕ, IsTrue, length, replicate, slice_get, OnOk};
 ghost use Rattle.sector_disk.specs.Cause.{HasCause};
 ghost use Rattle.btree_file.specs.Frame.{ReadsSpace};
 ghost use Rattle.fork_map.specs.Blocks.{fork_sectors};
 ghost use Rattle.hfs_volume.specs.Content.{node_of_fork};
-ghost use Rattle.fsck_scan.specs.Read.{sector_or_zeros};
+ghost use Rattle.fsck_scan.specs.Read.{sector_or_zeros, IsWhole};
 
 use btree_node::Node;
 use fork_map::SummedFork;
@@ -34,6 +34,8 @@ pub fn read_sector<V: SectorView>(
 ) -> Result<(), Failed>
     requires { fork.now.per_block ≤ 2 ^ 23 }
     ensures value { IsTrue (V.space view.old).tells → OnOk result (into.new ≡ sector_or_zeros (V.space view.old).content fork.now.limit (slice_get (fork_sectors fork.now.extents.now fork.now.per_block) place)) }
+    // The sectors that are read have 512 bytes.
+    ensures whole { IsTrue (V.space view.old).tells → OnOk result (IsWhole (V.space view.old).content (V.space view.old).sectors fork.now.limit (slice_get (fork_sectors fork.now.extents.now fork.now.per_block) place)) }
     ensures reads { ReadsSpace (V.space view.old) (V.space view.new) }
     ensures below { V.follows view.old view.new }
     ensures cause { HasCause (V.space view.old).faults (V.space view.new).faults result }
@@ -62,6 +64,7 @@ pub fn read_node<V: SectorView>(
 ) -> Result<(), Failed>
     requires { fork.now.per_block ≤ 2 ^ 23 }
     ensures value { IsTrue (V.space view.old).tells → OnOk result (into.new ≡ node_of_fork (V.space view.old).content fork.now.limit (fork_sectors fork.now.extents.now fork.now.per_block) (length into.old) node) }
+    ensures whole { IsTrue (V.space view.old).tells → OnOk result ((k : ℕ) → k < length into.old / 512 → IsWhole (V.space view.old).content (V.space view.old).sectors fork.now.limit (slice_get (fork_sectors fork.now.extents.now fork.now.per_block) (node * (length into.old / 512) + k))) }
     ensures length { length into.new ≡ length into.old }
     ensures reads { ReadsSpace (V.space view.old) (V.space view.new) }
     ensures below { V.follows view.old view.new }

@@ -1,7 +1,7 @@
-use Rattle.std.proofs.Common.{◌≡◌, ℕ, ◌+◌, ◌-◌, ◌*◌, ◌/◌, true, false, sym, ◌∙◌, arith}
+use Rattle.std.proofs.Common.{◌≡◌, ◌<◌, ℕ, List, ◌+◌, ◌-◌, ◌*◌, ◌/◌, true, false, sym, ◌∙◌, ap, arith}
 use Rattle.std.specs.List.{count_by, range_with_len}
 use Rattle.flag_rows.specs.Bits.{bit_of}
-use Rattle.fsck_core.proofs.BehindLaws.{bit_more}
+use Rattle.fsck_core.proofs.BehindLaws.{bit_more, none_on, no_bit}
 use Rattle.fsck_core.proofs.behind.count_bits.Goals.{then-bit, else-bit}
 use Rattle.fsck_core.proofs.behind.count_bits.Goals as goal
 
@@ -23,6 +23,12 @@ loop-k-preserved c = elim c.if-bit.branch [
   where
     add_none : (n : ℕ) → n ≡ n + 0
     add_none n = omega arith
+
+pub returns-then-is_blank-clause-value : goal.returns-then-is_blank-clause-value
+returns-then-is_blank-clause-value c =
+    sym (none_on (bit_of c.args.sector.now) c.args.from (c.args.to - c.args.from) (λ i less.
+    let low : c.args.from + i < 4096 = omega (arith, less, c.requires) in
+    ap (λ (l : List ℕ). bit_of l (c.args.from + i)) (c.is_blank.ensures c.if-is_blank.true) ∙ no_bit (c.args.from + i) low))
 
 pub returns-then-rest-eq0-clause-value : goal.returns-then-rest-eq0-clause-value
 returns-then-rest-eq0-clause-value c =

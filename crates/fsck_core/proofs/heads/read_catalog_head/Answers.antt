@@ -1,10 +1,10 @@
 use Rattle.sector_disk.specs.Space.{Space}
 use Rattle.fsck_scan.specs.Form.{tree_in}
-use Rattle.hfs_volume.specs.Content.{attributes_file}
+use Rattle.hfs_volume.specs.Content.{catalog_file}
 use Rattle.fsck_core.specs.Overflows.{overflows_in}
 use Rattle.fsck_core.proofs.Limits.{block_range}
-use Rattle.fsck_core.proofs.ShownLaws.{attributes_there, head_told}
-use Rattle.fsck_core.proofs.volume.read_attributes_head.Goals as goal
+use Rattle.fsck_core.proofs.ShownLaws.{catalog_there, head_told}
+use Rattle.fsck_core.proofs.heads.read_catalog_head.Goals as goal
 
 pub read_tree_head-requires-clause-least : goal.read_tree_head-requires-clause-least
 read_tree_head-requires-clause-least g c = (block_range (g.V.SectorView.space c.args.view.now).sectors c.args.head.now c.requires.good).0
@@ -15,5 +15,5 @@ read_tree_head-requires-clause-most g c = (block_range (g.V.SectorView.space c.a
 pub returns-clause-value : goal.returns-clause-value
 returns-clause-value g c content shows head overflow =
     let old : Space = g.V.SectorView.space c.args.view.now in
-    head_told c.read_tree_head.result (tree_in old.content old.sectors c.args.head.now.block_size c.in_ok-fork.fork) (attributes_file content)
-    (attributes_there old content c.args.head.now (overflows_in c.args.rows.now) c.in_ok-fork.fork shows c.requires.good head overflow c.in_ok-fork.ensures) (c.read_tree_head.ensures.head shows.tells)
+    head_told c.read_tree_head.result (tree_in old.content old.sectors c.args.head.now.block_size c.in_ok-fork.fork) (catalog_file content)
+    (catalog_there old content c.args.head.now (overflows_in c.args.rows.now) c.in_ok-fork.fork shows c.requires.good head overflow c.in_ok-fork.ensures) (c.read_tree_head.ensures.head shows.tells)

@@ -3,7 +3,7 @@ use Rattle.fsck_scan.specs.Form.{tree_in}
 use Rattle.hfs_volume.specs.Content.{extents_file}
 use Rattle.fsck_core.proofs.Limits.{block_range}
 use Rattle.fsck_core.proofs.ShownLaws.{extents_there, head_told}
-use Rattle.fsck_core.proofs.volume.read_extents_head.Goals as goal
+use Rattle.fsck_core.proofs.heads.read_extents_head.Goals as goal
 
 pub read_tree_head-requires-clause-least : goal.read_tree_head-requires-clause-least
 read_tree_head-requires-clause-least g c = (block_range (g.V.SectorView.space c.args.view.now).sectors c.args.head.now c.requires.good).0
