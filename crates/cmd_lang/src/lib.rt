@@ -21,6 +21,8 @@ mod written;
 
 pub use fault::LineFault;
 pub use line::{MOST_BYTES, read_line};
+pub use path::read_path;
 pub use reply::print_reply;
 pub use value::{push_value, read_value};
 pub use valued::read_valued;
+pub use words::read_number;

@@ -11,9 +11,9 @@ use crate::words::{BAD_COMMAND, read_name};
 use hfs_language::{Path, Refusal};
 use std::alloc::Global;
 
-/// A path, which is `/` or a slash before each component.
+/// The path that a word spells: `/`, or a slash before each component.
 #[tactic(auto, unfolding(hfs_language::specs::Language::path_of))]
-pub(crate) fn read_path(alloc: Global, word: &str) -> Result<Path, LineFault>
+pub fn read_path(alloc: Global, word: &str) -> Result<Path, LineFault>
     ensures { Reads (spec.path_of word.now) result }
 {
     match word.strip_prefix('/') {

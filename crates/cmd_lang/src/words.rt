@@ -19,8 +19,8 @@ use std::alloc::{AllocError, Global};
 
 pub(crate) const BAD_COMMAND: LineFault = LineFault::No(Refusal::BadCommand);
 
-/// A number in decimal digits.
-pub(crate) fn read_number(word: &str) -> Result<u64, LineFault>
+/// The number below 2 to the 64th that a word spells by its decimal digits.
+pub fn read_number(word: &str) -> Result<u64, LineFault>
     ensures { Reads (spec.number_of word.now) result }
 {
     match word.parse::<u64>() {
