@@ -20,7 +20,7 @@ use Rattle.volume_space.proofs.Sounding.{sound_here}
 use Rattle.volume_base.proofs.Still.{own_still, settled_still, volume_both}
 use Rattle.volume_step.specs.Steps.{Affords, KeepsJournal, StepsTo}
 use Rattle.volume_step.specs.declared.outcome.Outcome.TheVariants as outcome
-use Rattle.volume_step.proofs.Done.{holds_kept}
+use Rattle.volume_step.proofs.Done.{holds_kept, same_place}
 use Rattle.volume_step.proofs.Shortened.{trunc_place, trunc_steps}
 use Rattle.volume_step.proofs.Putting.{grown_shrinks_none}
 use Rattle.volume_step.proofs.Widening.{keeps_shrunk, laid_still}
@@ -186,3 +186,6 @@ pub returns-in-None-clause-loads : goal.returns-in-None-clause-loads
 returns-in-None-clause-loads g c tells =
     let reads = volume_both c.args.volume.now c.change_at.new.self c.shorten.new.volume (g.P.SectorView.space c.args.space.now) (g.P.SectorView.space c.change_at.new.space) (g.P.SectorView.space c.shorten.new.space) c.change_at.ensures.looked.reads (subst (λ (o : Option Reply). IfNone o (ReadsVolume c.change_at.new.self c.shorten.new.volume (g.P.SectorView.space c.change_at.new.space) (g.P.SectorView.space c.shorten.new.space))) c.in-None.is c.in_ok-reply.ensures.idle) in
     within_behind (command.Trunc c.args.path.now c.args.size) c.args.volume.now c.shorten.new.volume (g.P.SectorView.space c.args.space.now) (g.P.SectorView.space c.shorten.new.space) (g.P.SectorView.space c.lengthen.new.space) reads tells (c.lengthen.ensures.loads (reads.looks.same.tells ∙ tells))
+
+pub returns-then-not-fits_update-clause-place : goal.returns-then-not-fits_update-clause-place
+returns-then-not-fits_update-clause-place g c tells = same_place (g.P.SectorView.space c.args.space.now).content (g.P.SectorView.space c.change_at.new.space).content (c.change_at.ensures.looked.reads.looks.content tells)
