@@ -31,7 +31,7 @@ fn tell_each<W: Watcher>(watchers: &mut Vec<W>, change: &Change)
 }
 
 /// Tells one watcher, and says whether it leaves.
-fn has_left<W: Watcher>(watcher: &mut W, change: &Change) -> bool
+pub(crate) fn has_left<W: Watcher>(watcher: &mut W, change: &Change) -> bool
     ensures stays { result ≡ false → W.told watcher.new ≡ W.told watcher.old ++ change.now ∷ [] }
     ensures unsure { (W.told watcher.new ≡ W.told watcher.old ++ change.now ∷ []) ⊎ (W.told watcher.new ≡ W.told watcher.old) }
     ensures leaves { result ≡ W.leaves watcher.new }
