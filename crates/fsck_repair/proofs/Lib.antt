@@ -16,6 +16,7 @@ pub mod OrderLaws
 pub mod Overlaying
 pub mod PlaceLaws
 pub mod PutLaws
+pub mod RenewLaws
 pub mod SizeTelling
 pub mod SkipLaws
 pub mod Steps

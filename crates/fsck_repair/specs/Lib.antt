@@ -5,3 +5,4 @@ pub mod Following
 pub mod Leaf
 pub mod Once
 pub mod Overlay
+pub mod Renewing

@@ -20,7 +20,7 @@ use sector_disk::SectorView;
 use volume_header::VolumeHeader;
 
 /// Puts numbers into the sector of a volume header (TN1150, "Volume Header").
-fn write_numbers(sector: &mut Sector, numbers: Numbers)
+pub(crate) fn write_numbers(sector: &mut Sector, numbers: Numbers)
     ensures { sector.new ≡ with_word 32 numbers.files (with_word 36 numbers.folders (with_word 48 numbers.free sector.old)) }
 {
     write_be32(sector.as_mut_slice(), 48, numbers.free);

@@ -14,6 +14,7 @@ mod numbers;
 mod once;
 mod overlay;
 mod putting;
+mod renewing;
 mod sizes;
 mod skipped;
 mod trees;
