@@ -40,7 +40,7 @@ passed true why rest is = (refl, is)
 passed false why rest is = absurd (cc)
 
 -- a volume has at most so many blocks
-total_few : (sectors : ℕ) (head : VolumeHeader) → IsGoodHeader sectors head → head.total_blocks ≤ 268435456
+pub total_few : (sectors : ℕ) (head : VolumeHeader) → IsGoodHeader sectors head → head.total_blocks ≤ 268435456
 total_few sectors head good =
     let p1 = passed (is_volume_size sectors) (LimitSectors sectors) _ good.accepted in
     let p2 = passed (is_hfsx head) (NotHfsx head.signature head.version) _ p1.1 in

@@ -17,6 +17,7 @@ pub mod Overlaying
 pub mod PlaceLaws
 pub mod PutLaws
 pub mod RenewLaws
+pub mod RightLaws
 pub mod SizeTelling
 pub mod SkipLaws
 pub mod Steps

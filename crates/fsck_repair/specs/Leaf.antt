@@ -6,7 +6,8 @@ use Rattle.btree_node.specs.Node.{offset, record_count, next_of}
 use Rattle.btree_node.specs.Levels.{Nodes, key_of, value_of}
 use Rattle.hfs_volume.specs.Records.{Placed}
 use Rattle.hfs_volume.specs.Broken.{leaves_in}
-use Rattle.hfs_volume.specs.Content.{catalog_file}
+use Rattle.hfs_volume.specs.Content.{catalog_file, node_of_fork}
+use Rattle.fsck_scan.specs.Read.{IsWhole}
 use Rattle.volume_repair.specs.Repair.{catalog_sectors, sector_mended, leaf_mended}
 use Rattle.fsck_repair.specs.Counted.{IsPlain}
 
@@ -35,6 +36,15 @@ IsOfNode content sectors per_node node at = (k : ℕ) × (k < per_node) × IsPla
 -- the repair has these bytes in the sectors of a node
 abbrev pub MendsNode : Content → List ℕ → ℕ → ℕ → List ℕ → Type 0
 MendsNode content sectors per_node node bytes = (k at : ℕ) → k < per_node → IsPlainAt content sectors (node * per_node + k) at → sector_mended content at ≡ take 512 (drop (512 * k) bytes)
+
+-- all sectors of a node lie below a limit
+abbrev pub LiesInside : List ℕ → ℕ → ℕ → ℕ → Type 0
+LiesInside sectors per_node limit node = (k at : ℕ) → k < per_node → slice_get sectors (node * per_node + k) ≡ Some at → at < limit
+
+-- These bytes were read of a node: the sectors that they were read of have 512.
+pub record WasRead (content : Content) (limit : ℕ) (sectors : List ℕ) (node : ℕ) (bytes : List ℕ) : Type 0 where
+  pub bytes_are : bytes ≡ node_of_fork content limit sectors (length bytes) node
+  pub whole : (k : ℕ) → k < length bytes / 512 → IsWhole content (length content) limit (slice_get sectors (node * (length bytes / 512) + k))
 
 -- These nodes are the leaves of a catalog with these records: each names the next one, and the repair has their records counted anew.
 pub record AreLeaves (content : Content) (sectors : List ℕ) (nodes : Nodes) (per_node : ℕ) (records : List Placed) (leaves : List ℕ) : Type 0 where

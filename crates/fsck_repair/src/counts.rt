@@ -1,5 +1,5 @@
 //! What a repair counts in a volume.
-ghost use Rattle.std.specs.Prelude.{◌≡◌, ◌↔◌, MatchOption, IfOk, IfSome, IsErrOf, IsTrue, All, length, true};
+ghost use Rattle.std.specs.Prelude.{◌≡◌, ◌↔◌, ◌≤◌, ◌^◌, MatchOption, IfOk, IfSome, OnOk, IsErrOf, IsTrue, All, length, replicate, true, false};
 ghost use Rattle.hx_bytes.specs.declared.faults.Trouble.TheVariants.{Disk};
 ghost use Rattle.fork_map.specs.Blocks.{blocks_of};
 ghost use Rattle.sector_disk.specs.Cause.{Rose};
@@ -7,6 +7,7 @@ ghost use Rattle.jnl_format.specs.Recovery.{Content};
 ghost use Rattle.volume_header.specs.Refusal.{is_volume_size};
 ghost use Rattle.btree_file.specs.Frame.{ReadsSpace};
 ghost use Rattle.btree_node.specs.Keys.{IsCatalogKey};
+ghost use Rattle.alloc_bitmap.specs.Apart.{AreApart};
 ghost use Rattle.hfs_volume.specs.Blocks.{IsGoodHeader, used_in};
 ghost use Rattle.hfs_volume.specs.Changes.{AreSorted};
 ghost use Rattle.hfs_volume.specs.Entries.{AreSpelled};
@@ -82,17 +83,17 @@ fn are_kinds(alloc: Global, catalog: &Pairs) -> Result<bool, OutOfMemory>
     judge_kinds(catalog, &mut out)
 }
 
-/// Which blocks of a volume are used, of whose extents these are all.
-fn mark_used(alloc: Global, total: u32, extents: &ExtentList) -> Result<Marks, OutOfMemory>
-    ensures { (volume : VolumeState) → total ≡ volume.head.total_blocks → blocks_of extents.now ≡ used_in volume → IfOk result (AreUsed volume) }
+/// Marks which blocks of a volume are used, of whose extents these are all, and tells whether each of them is used once. None is marked yet.
+fn mark_used(alloc: Global, extents: &ExtentList, used: &mut Marks) -> Result<bool, OutOfMemory>
+    requires { length used.old ≤ 2 ^ 32 }
+    ensures marks { (volume : VolumeState) → blocks_of extents.now ≡ used_in volume → used.old ≡ replicate volume.head.total_blocks false → OnOk result (AreUsed volume used.new) }
+    ensures apart { (volume : VolumeState) → blocks_of extents.now ≡ used_in volume → used.old ≡ replicate volume.head.total_blocks false → IfOk result (λ apart. IsTrue apart ↔ AreApart (used_in volume)) }
 {
-    let mut used = Marks::new(alloc, total)?;
     let mut out = Findings::new(alloc);
-    judge_uses(alloc, extents.as_slice(), &mut used, &mut out)?;
-    Ok(used)
+    judge_uses(alloc, extents.as_slice(), used, &mut out)
 }
 
-/// Which blocks are used, if those that a repair may write are used once.
+/// Which blocks are used, if those that a repair may write are used once. They are looked for only where some block is used twice.
 fn mark_once(
     alloc: Global,
     sectors: u64,
@@ -107,12 +108,16 @@ fn mark_once(
 {
     let forks = read_forks(alloc, head, catalog)?;
     let extents = read_used(alloc, sectors, head, rows, &forks)?;
+    let mut used = Marks::new(alloc, head.total_blocks)?;
+    let apart = mark_used(alloc, &extents, &mut used)?;
+    if apart {
+        return Ok(Some(used));
+    }
     let written = written_extents(alloc, sectors, head, rows)?;
     let once = are_used_once(alloc, &extents, &written)?;
     if !once {
         return Ok(None);
     }
-    let used = mark_used(alloc, head.total_blocks, &extents)?;
     Ok(Some(used))
 }
 

@@ -20,13 +20,13 @@ use hx_bytes::{OutOfMemory, read_be16, read_be32, write_be32};
 use std::alloc::Global;
 
 /// The types of records (TN1150, "Catalog Data Record Types"), and their lengths.
-const FOLDER: u16 = 1;
+pub(crate) const FOLDER: u16 = 1;
 
-const FILE: u16 = 2;
+pub(crate) const FILE: u16 = 2;
 
-const FOLDER_LENGTH: usize = 88;
+pub(crate) const FOLDER_LENGTH: usize = 88;
 
-const FILE_LENGTH: usize = 248;
+pub(crate) const FILE_LENGTH: usize = 248;
 
 /// Sets the valence of a folder's record: the number of its entries (TN1150, "Catalog Folder Records").
 fn mend_folder(value: &mut [u8], entries: &Entries)
@@ -39,7 +39,7 @@ fn mend_folder(value: &mut [u8], entries: &Entries)
 }
 
 /// The number that the links of a file with several names tell, where a record is one.
-fn reference_of(
+pub(crate) fn reference_of(
     alloc: Global,
     key: &[u8],
     value: &[u8],
@@ -81,7 +81,7 @@ fn mend_file(
 }
 
 /// Whether bytes are a record of this type, which has this length.
-fn is_record(value: &[u8], kind: u16, size: usize) -> bool
+pub(crate) fn is_record(value: &[u8], kind: u16, size: usize) -> bool
     requires { 2 ≤ size }
     ensures { IsTrue result ↔ ((length value.now ≡ size) × (big_at 2 value.now 0 ≡ kind)) }
 {
@@ -92,7 +92,7 @@ fn is_record(value: &[u8], kind: u16, size: usize) -> bool
 }
 
 /// Sets what a record counts.
-fn mend_value(
+pub(crate) fn mend_value(
     alloc: Global,
     key: &[u8],
     value: &mut [u8],

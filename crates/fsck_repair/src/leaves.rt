@@ -4,7 +4,7 @@ ghost use Rattle.hx_bytes.specs.declared.faults.Trouble.TheVariants.{Disk};
 ghost use Rattle.fork_map.specs.Blocks.{fork_sectors};
 ghost use Rattle.sector_disk.specs.Cause.{Rose, HasCause};
 ghost use Rattle.jnl_format.specs.Recovery.{Content};
-ghost use Rattle.btree_node.specs.Node.{next_of};
+ghost use Rattle.btree_node.specs.Node.{IsNode, next_of};
 ghost use Rattle.btree_file.specs.Frame.{ReadsSpace};
 ghost use Rattle.hfs_volume.specs.Content.{node_of_fork};
 ghost use Rattle.hfs_volume.specs.Records.{Placed};
@@ -12,16 +12,17 @@ ghost use Rattle.fsck_core.specs.Shown.{Shows};
 ghost use Rattle.volume_repair.specs.Repair.{sector_mended, leaf_mended};
 ghost use Rattle.fsck_repair.specs.Changing.{Notes};
 ghost use Rattle.fsck_repair.specs.Counted.{AreEntriesOf, IsSkipped};
-ghost use Rattle.fsck_repair.specs.Leaf.{IsGoodLeaf, IsPlainAt, IsOfNode, MendsNode, AreLeaves, IsOfLeaves};
+ghost use Rattle.fsck_repair.specs.Leaf.{IsGoodLeaf, IsPlainAt, IsOfNode, MendsNode, LiesInside, WasRead, AreLeaves, IsOfLeaves};
 
 use crate::counts::Entries;
 use crate::leaf::mended_leaf;
 use crate::mend::Change;
 use crate::noting::note;
+use crate::right::is_right_leaf;
 use crate::skipped::Skipped;
 use btree_node::Node;
 use fsck_scan::{Fork, read_node};
-use hx_bytes::{Sector, Trouble};
+use hx_bytes::{OutOfMemory, Sector, Trouble};
 use sector_disk::SectorView;
 use std::alloc::Global;
 
@@ -94,6 +95,80 @@ fn note_node<V: SectorView>(
     Ok(())
 }
 
+/// Whether the sector at a place of a file is one of a block of the volume, if the file has one there.
+fn is_inside(fork: &Fork, place: u64) -> bool
+    requires { fork.now.per_block ≤ 2 ^ 23 }
+    ensures { IsTrue result → (at : ℕ) → slice_get (fork_sectors fork.now.extents.now fork.now.per_block) place ≡ Some at → at < fork.now.limit }
+{
+    let Some(at) = fork.extents.sector_at(fork.per_block, place) else {
+        return true;
+    };
+    at < fork.limit
+}
+
+/// Whether all sectors of a node are sectors of blocks of the volume.
+fn lies_inside(fork: &Fork, n: u32, per_node: usize) -> bool
+    requires blocks { fork.now.per_block ≤ 2 ^ 23 }
+    requires few { per_node ≤ 2 ^ 16 }
+    ensures { IsTrue result → LiesInside (fork_sectors fork.now.extents.now fork.now.per_block) per_node fork.now.limit n }
+{
+    for k in 0..per_node {
+        if !is_inside(fork, n as u64 * per_node as u64 + k as u64) {
+            return false;
+        }
+    }
+    true
+}
+
+/// Whether a leaf is known to stay as it is: its records say already what they count, and it has no sector behind the volume's blocks.
+fn stays_as_it_is(
+    alloc: Global,
+    fork: &Fork,
+    n: u32,
+    node: &Node,
+    entries: &Entries,
+) -> Result<bool, OutOfMemory>
+    requires blocks { fork.now.per_block ≤ 2 ^ 23 }
+    requires well_formed { IsNode node.now }
+    ensures inside { IfOk result (λ stays. IsTrue stays → LiesInside (fork_sectors fork.now.extents.now fork.now.per_block) (length node.now / 512) fork.now.limit n) }
+    ensures right { (records : List Placed) → AreEntriesOf records entries.now → IsGoodLeaf node.now → IfOk result (λ stays. IsTrue stays → leaf_mended records node.now ≡ node.now) }
+{
+    if !lies_inside(fork, n, node.bytes().len() / 512) {
+        return Ok(false);
+    }
+    let right = is_right_leaf(alloc, node, entries)?;
+    Ok(right)
+}
+
+/// Notes what changes in a leaf that was read.
+fn mend_read<V: SectorView>(
+    alloc: Global,
+    view: &mut V,
+    fork: &Fork,
+    n: u32,
+    node: &Node,
+    entries: &Entries,
+    skipped: Skipped,
+    changes: &mut Vec<Change>,
+) -> Result<(), Trouble>
+    requires blocks { fork.now.per_block ≤ 2 ^ 23 }
+    requires well_formed { IsNode node.now }
+    ensures notes { (content : Content) (records : List Placed) → Shows (V.space view.old) content → IsSkipped content skipped → AreEntriesOf records entries.now
+        → WasRead content fork.now.limit (fork_sectors fork.now.extents.now fork.now.per_block) n node.now → IsGoodLeaf node.now
+        → MendsNode content (fork_sectors fork.now.extents.now fork.now.per_block) (length node.now / 512) n (leaf_mended records node.now)
+        → OnOk result (Notes content (IsOfNode content (fork_sectors fork.now.extents.now fork.now.per_block) (length node.now / 512) n) changes.old.items changes.new.items) }
+    ensures reads { ReadsSpace (V.space view.old) (V.space view.new) }
+    ensures below { V.follows view.old view.new }
+    ensures disk { IsErrOf result Disk → Rose (V.space view.old).faults (V.space view.new).faults }
+{
+    let stays = stays_as_it_is(alloc, fork, n, node, entries)?;
+    if stays {
+        return Ok(());
+    }
+    let bytes = mended_leaf(alloc, node.bytes(), entries)?;
+    note_node(view, fork, n, &bytes, skipped, changes)
+}
+
 /// Notes what changes in a leaf, and gives the next one; 0 is none. What is no leaf is told as want of memory: a catalog that keeps its rules
 /// has none.
 fn mend_node<V: SectorView>(
@@ -121,8 +196,7 @@ fn mend_node<V: SectorView>(
     if !node.check(-1, 1) {
         return Err(Trouble::Memory);
     }
-    let bytes = mended_leaf(alloc, node.bytes(), entries)?;
-    note_node(view, fork, n, &bytes, skipped, changes)?;
+    mend_read(alloc, view, fork, n, node, entries, skipped, changes)?;
     Ok(node.links().0)
 }
 

@@ -15,6 +15,7 @@ mod once;
 mod overlay;
 mod putting;
 mod renewing;
+mod right;
 mod sizes;
 mod skipped;
 mod trees;

@@ -6,16 +6,19 @@ ghost use Rattle.jnl_format.specs.Recovery.{Content, header_of_volume};
 ghost use Rattle.btree_node.specs.TreeFile.{TreeFile};
 ghost use Rattle.btree_file.specs.Frame.{ReadsSpace};
 ghost use Rattle.hfs_volume.specs.Blocks.{IsGoodHeader, HasTreeSize};
-ghost use Rattle.hfs_volume.specs.Content.{facts_of, volume_of, overflow_of_content, catalog_file};
+ghost use Rattle.hfs_volume.specs.Content.{facts_of, volume_of, overflow_of_content};
 ghost use Rattle.fsck_scan.specs.Form.{head_in};
 ghost use Rattle.fsck_core.specs.Overflows.{overflows_in};
 ghost use Rattle.fsck_core.specs.Shown.{Shows};
 ghost use Rattle.volume_repair.specs.Repair.{IsMendable};
 ghost use Rattle.fsck_repair.specs.Counted.{Decides, HasAttributesSize, IsSizedCatalog, AreSized};
 
-use fsck_core::{OverflowRow, fork_extents, judge_compare, judge_size};
+use fsck_core::{
+    OverflowRow, judge_compare, judge_size, read_attributes_head, read_catalog_head,
+    read_extents_head,
+};
 use fsck_list::Findings;
-use fsck_scan::{Head, read_tree_head};
+use fsck_scan::Head;
 use hx_bytes::{ForkRecord, OutOfMemory, Trouble};
 use sector_disk::SectorView;
 use std::alloc::Global;
@@ -27,8 +30,6 @@ const EXTENTS_FILE: u32 = 3;
 const CATALOG_FILE: u32 = 4;
 
 const ATTRIBUTES_FILE: u32 = 8;
-
-const DATA: u8 = 0;
 
 /// Whether a tree's file has whole blocks and whole nodes.
 fn is_size(
@@ -64,8 +65,7 @@ fn has_extents_size<V: SectorView>(
     ensures below { V.follows view.old view.new }
     ensures disk { IsErrOf result Disk → Rose (V.space view.old).faults (V.space view.new).faults }
 {
-    let fork = fork_extents(alloc, &[], EXTENTS_FILE, DATA, &head.extents_fork)?;
-    let tree = read_tree_head(alloc, view, &fork, head.block_size)?;
+    let tree = read_extents_head(alloc, view, head)?;
     let met = is_size(alloc, EXTENTS_FILE, head, &head.extents_fork, &tree)?;
     Ok(met)
 }
@@ -86,27 +86,9 @@ fn has_attributes_size<V: SectorView>(
     if head.attributes_fork.logical_size == 0 {
         return Ok(true);
     }
-    let fork = fork_extents(alloc, rows, ATTRIBUTES_FILE, DATA, &head.attributes_fork)?;
-    let tree = read_tree_head(alloc, view, &fork, head.block_size)?;
+    let tree = read_attributes_head(alloc, view, head, rows)?;
     let met = is_size(alloc, ATTRIBUTES_FILE, head, &head.attributes_fork, &tree)?;
     Ok(met)
-}
-
-/// Reads the header record of the catalog file.
-fn read_catalog_head<V: SectorView>(
-    alloc: Global,
-    view: &mut V,
-    head: &VolumeHeader,
-    rows: &[OverflowRow],
-) -> Result<Head, Trouble>
-    requires good { IsGoodHeader (V.space view.old).sectors head.now }
-    ensures value { (content : Content) → Shows (V.space view.old) content → head.now ≡ header_of_volume content → overflows_in rows.now ≡ overflow_of_content content → IfOk result (λ tree. head_in tree ≡ (catalog_file content).head) }
-    ensures reads { ReadsSpace (V.space view.old) (V.space view.new) }
-    ensures below { V.follows view.old view.new }
-    ensures disk { IsErrOf result Disk → Rose (V.space view.old).faults (V.space view.new).faults }
-{
-    let fork = fork_extents(alloc, rows, CATALOG_FILE, DATA, &head.catalog_fork)?;
-    read_tree_head(alloc, view, &fork, head.block_size)
 }
 
 /// Reads the header record of the catalog file, if the file has whole blocks and whole nodes, and keys are compared as in `HX` volumes.
