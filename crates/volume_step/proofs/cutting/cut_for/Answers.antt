@@ -1,11 +1,11 @@
-use Rattle.std.proofs.Common.{sym, subst, arith}
+use Rattle.std.proofs.Common.{refl, sym, subst, arith}
 use Rattle.std.specs.Prelude.{IfOk}
 use Rattle.hfs_language.specs.declared.command.Command.{Command}
 use Rattle.volume_space.specs.CuttingAhead.{CutsAhead}
 use Rattle.volume_base.specs.Room.{capacity_of}
 use Rattle.volume_space.specs.declared.cutting_ahead.CutAhead.{CutAhead}
 use Rattle.volume_step.specs.Steps.{data_path}
-use Rattle.volume_space.proofs.Freed.{frees_wanting}
+use Rattle.volume_base.proofs.Joined.{edits_wanting}
 use Rattle.volume_step.proofs.cutting.cut_for.Goals as goal
 
 pub returns-in-Write-clause-came : goal.returns-in-Write-clause-came
@@ -18,4 +18,7 @@ pub returns-in_default-clause-loads : goal.returns-in_default-clause-loads
 returns-in_default-clause-loads g c tells free load grow costs = omega arith
 
 pub returns-in_default-clause-frees : goal.returns-in_default-clause-frees
-returns-in_default-clause-frees g c = frees_wanting g.met.P.SectorView.follows_refl c.requires.serves.stands
+returns-in_default-clause-frees g c = record {
+  ran = (edits_wanting _ g.met.P.SectorView.follows_refl c.requires.serves.stands).ran;
+  used = record { holds = λ committed was. was; shrunk = refl; capacity = refl };
+}

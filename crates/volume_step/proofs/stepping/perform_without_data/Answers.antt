@@ -106,27 +106,3 @@ returns-in-Rmdir-clause-loads g c tells = subst (λ (k : Command). IsWithinLoad 
 
 pub returns-in-Trunc-clause-edits : goal.returns-in-Trunc-clause-edits
 returns-in-Trunc-clause-edits g c = edits_wanting _ g.met.P.SectorView.follows_refl c.requires.serves.stands
-
-pub returns-in-Trunc-2-clause-edits : goal.returns-in-Trunc-2-clause-edits
-returns-in-Trunc-2-clause-edits g c = edits_wanting _ g.met.P.SectorView.follows_refl c.requires.serves.stands
-
-pub returns-in-Trunc-3-clause-edits : goal.returns-in-Trunc-3-clause-edits
-returns-in-Trunc-3-clause-edits g c = edits_wanting _ g.met.P.SectorView.follows_refl c.requires.serves.stands
-
-pub returns-in-Trunc-4-clause-edits : goal.returns-in-Trunc-4-clause-edits
-returns-in-Trunc-4-clause-edits g c = edits_wanting _ g.met.P.SectorView.follows_refl c.requires.serves.stands
-
-pub returns-in-Trunc-5-clause-edits : goal.returns-in-Trunc-5-clause-edits
-returns-in-Trunc-5-clause-edits g c = edits_wanting _ g.met.P.SectorView.follows_refl c.requires.serves.stands
-
-pub returns-in-Trunc-6-clause-edits : goal.returns-in-Trunc-6-clause-edits
-returns-in-Trunc-6-clause-edits g c = edits_wanting _ g.met.P.SectorView.follows_refl c.requires.serves.stands
-
-pub returns-in-Trunc-7-clause-edits : goal.returns-in-Trunc-7-clause-edits
-returns-in-Trunc-7-clause-edits g c = edits_wanting _ g.met.P.SectorView.follows_refl c.requires.serves.stands
-
-pub returns-in-Trunc-8-clause-edits : goal.returns-in-Trunc-8-clause-edits
-returns-in-Trunc-8-clause-edits g c = edits_wanting _ g.met.P.SectorView.follows_refl c.requires.serves.stands
-
-pub returns-in-Trunc-9-clause-edits : goal.returns-in-Trunc-9-clause-edits
-returns-in-Trunc-9-clause-edits g c = edits_wanting _ g.met.P.SectorView.follows_refl c.requires.serves.stands
