@@ -1,7 +1,9 @@
 //! A source of bytes that is a reader. It doesn't tell the bytes that are left.
 use crate::again::read_again;
 use hx_bytes::Failed;
+use line_source::{Line, LineSource};
 use sector_disk::Source;
+use std::alloc::Global;
 use std::io::{self, ErrorKind, Read};
 
 /// The most takes that give bytes.
@@ -59,5 +61,12 @@ impl<I: Read + Drop> Source for StdinSource<I> {
                 Err(Failed)
             }
         }
+    }
+}
+
+impl<I: Read + Drop> LineSource for StdinSource<I> {
+    // A reader gives bytes alone.
+    fn take_lines(&mut self, alloc: Global) -> Result<Vec<Line>, Failed> {
+        Ok(Vec::new(alloc))
     }
 }

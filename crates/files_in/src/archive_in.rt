@@ -1,6 +1,6 @@
 //! The members of a tar archive are put into a volume, in the order in which they come.
 use crate::ground::{Found, Ground, Wishes};
-use files_talk::{Job, Notes, PIECE};
+use files_talk::{Job, LineList, Notes, PIECE};
 use std::alloc::AllocError;
 use std::collections::BTreeSet;
 use std::io::Read;
@@ -80,7 +80,7 @@ impl<'a, R: Read + Drop> ArchiveIn<'a, R> {
     }
 
     // One step: some lines, or a step further. False means that it has to be heard first what came of those before, or that all is done.
-    pub(crate) fn step(&mut self, lines: &mut Vec<u8>) -> Result<bool, AllocError> {
+    pub(crate) fn step(&mut self, lines: &mut LineList) -> Result<bool, AllocError> {
         if !self.ground.is_open() {
             return self.ground.step(lines);
         }
@@ -97,7 +97,7 @@ impl<'a, R: Read + Drop> ArchiveIn<'a, R> {
     // Goes on with a member of which it was asked whether it is there.
     pub(crate) fn go_on(
         &mut self,
-        lines: &mut Vec<u8>,
+        lines: &mut LineList,
         waiting: Waiting,
     ) -> Result<bool, AllocError> {
         let Waiting { item, found } = waiting;
@@ -109,7 +109,7 @@ impl<'a, R: Read + Drop> ArchiveIn<'a, R> {
     }
 
     // Takes the next member of the archive.
-    pub(crate) fn next_member(&mut self, lines: &mut Vec<u8>) -> Result<bool, AllocError> {
+    pub(crate) fn next_member(&mut self, lines: &mut LineList) -> Result<bool, AllocError> {
         let alloc = self.ground.alloc();
         match self.archive.next_member(alloc) {
             Ok(Some(member)) => self.look_at(lines, member),
@@ -146,10 +146,10 @@ impl<'a, R: Read + Drop> ArchiveIn<'a, R> {
 }
 
 impl<'a, R: Read + Drop> Job for ArchiveIn<'a, R> {
-    fn ask(&mut self, lines: &mut Vec<u8>) -> Result<(), AllocError> {
+    fn ask(&mut self, lines: &mut LineList) -> Result<(), AllocError> {
         self.ground.settle(lines)?;
         for _ in 0..u64::MAX {
-            if self.ground.asking.is_full(lines.as_slice()) || !self.step(lines)? {
+            if self.ground.asking.is_full(lines) || !self.step(lines)? {
                 break;
             }
         }

@@ -1,12 +1,14 @@
 //! Lines that are asked: what each reply is to, and the moment that the volume has.
-use files_talk::{Notes, push_attribute, push_mode, push_number, push_path, push_written};
+use files_talk::{
+    LineList, Notes, push_attribute, push_mode, push_number, push_path, push_written,
+};
 use std::alloc::AllocError;
 
 /// The most lines that are asked at once: as many as the server makes durable together.
 const MOST_LINES: usize = 28;
 
-/// Behind so many bytes of lines no more are asked at once.
-const MOST_TEXT: usize = 3_000_000;
+/// Behind so many bytes of lines no more are asked at once: with the lines of one step more they can still be handed over together.
+const MOST_TEXT: usize = 3_700_000;
 
 /// What a reply is to.
 #[derive(Drop)]
@@ -60,8 +62,8 @@ impl<'a> Asking<'a> {
     }
 
     /// Whether no more is to be asked at once.
-    pub(crate) fn is_full(&self, lines: &[u8]) -> bool {
-        self.asked.len() >= MOST_LINES || lines.len() > MOST_TEXT
+    pub(crate) fn is_full(&self, lines: &LineList) -> bool {
+        self.asked.len() >= MOST_LINES || lines.size() > MOST_TEXT
     }
 
     /// Whether each line was answered.
@@ -78,19 +80,19 @@ impl<'a> Asking<'a> {
     }
 
     // Ends a line.
-    fn end(&mut self, lines: &mut Vec<u8>, asked: Asked) -> Result<(), AllocError> {
-        lines.extend_from_slice(b"\n")?;
+    fn end(&mut self, lines: &mut LineList, asked: Asked) -> Result<(), AllocError> {
+        lines.end()?;
         self.asked.push(asked)?;
         Ok(())
     }
 
     /// Sets the moment with which changes are dated, if it isn't this one.
-    pub(crate) fn at(&mut self, lines: &mut Vec<u8>, date: u32) -> Result<(), AllocError> {
+    pub(crate) fn at(&mut self, lines: &mut LineList, date: u32) -> Result<(), AllocError> {
         if self.moment == Some(date) {
             return Ok(());
         }
         self.moment = Some(date);
-        lines.extend_from_slice(b"at")?;
+        lines.push(b"at")?;
         push_number(lines, u64::from(date))?;
         self.end(lines, Asked::Other)
     }
@@ -98,12 +100,12 @@ impl<'a> Asking<'a> {
     /// A line of a verb and a path.
     pub(crate) fn path(
         &mut self,
-        lines: &mut Vec<u8>,
+        lines: &mut LineList,
         verb: &str,
         word: &str,
         asked: Asked,
     ) -> Result<(), AllocError> {
-        lines.extend_from_slice(verb.as_bytes())?;
+        lines.push(verb.as_bytes())?;
         push_path(lines, word)?;
         self.end(lines, asked)
     }
@@ -111,12 +113,12 @@ impl<'a> Asking<'a> {
     /// A line of a verb and two paths.
     pub(crate) fn paths(
         &mut self,
-        lines: &mut Vec<u8>,
+        lines: &mut LineList,
         verb: &str,
         words: (&str, &str),
         asked: Asked,
     ) -> Result<(), AllocError> {
-        lines.extend_from_slice(verb.as_bytes())?;
+        lines.push(verb.as_bytes())?;
         push_path(lines, words.0)?;
         push_path(lines, words.1)?;
         self.end(lines, asked)
@@ -125,12 +127,12 @@ impl<'a> Asking<'a> {
     /// The line that sets a mode.
     pub(crate) fn mode(
         &mut self,
-        lines: &mut Vec<u8>,
+        lines: &mut LineList,
         word: &str,
         mode: u16,
         asked: Asked,
     ) -> Result<(), AllocError> {
-        lines.extend_from_slice(b"chmod")?;
+        lines.push(b"chmod")?;
         push_path(lines, word)?;
         push_mode(lines, mode)?;
         self.end(lines, asked)
@@ -139,12 +141,12 @@ impl<'a> Asking<'a> {
     /// The line that gives a file a size.
     pub(crate) fn size(
         &mut self,
-        lines: &mut Vec<u8>,
+        lines: &mut LineList,
         word: &str,
         size: u64,
         asked: Asked,
     ) -> Result<(), AllocError> {
-        lines.extend_from_slice(b"trunc")?;
+        lines.push(b"trunc")?;
         push_path(lines, word)?;
         push_number(lines, size)?;
         self.end(lines, asked)
@@ -153,7 +155,7 @@ impl<'a> Asking<'a> {
     /// The line that writes bytes from an offset on.
     pub(crate) fn write(
         &mut self,
-        lines: &mut Vec<u8>,
+        lines: &mut LineList,
         word: &str,
         from: u64,
         bytes: &[u8],
@@ -167,7 +169,7 @@ impl<'a> Asking<'a> {
     /// The line that sets an attribute.
     pub(crate) fn attribute(
         &mut self,
-        lines: &mut Vec<u8>,
+        lines: &mut LineList,
         word: &str,
         name: &str,
         value: &[u8],

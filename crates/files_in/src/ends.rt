@@ -2,12 +2,12 @@
 use crate::asking::Asked;
 use crate::ground::{Ground, Stage};
 use crate::marks::date_folder;
-use files_talk::{child_of, facts_of, reason_of};
+use files_talk::{LineList, child_of, facts_of, reason_of};
 use std::alloc::AllocError;
 
 impl<'a> Ground<'a> {
     /// A step ahead of entries or behind them. False means that it has to be heard first what came of it, or that all is done.
-    pub(crate) fn step(&mut self, lines: &mut Vec<u8>) -> Result<bool, AllocError> {
+    pub(crate) fn step(&mut self, lines: &mut LineList) -> Result<bool, AllocError> {
         match self.stage {
             Stage::Making => self.make_top(lines),
             Stage::Seeing => self.see_top(lines),
@@ -19,7 +19,7 @@ impl<'a> Ground<'a> {
     }
 
     // Sets the moment to the date of the folder.
-    pub(crate) fn date_top(&mut self, lines: &mut Vec<u8>) -> Result<(), AllocError> {
+    pub(crate) fn date_top(&mut self, lines: &mut LineList) -> Result<(), AllocError> {
         match self.top_date {
             Some(date) => self.asking.at(lines, date),
             None => Ok(()),
@@ -27,7 +27,7 @@ impl<'a> Ground<'a> {
     }
 
     // Makes each folder on the way that isn't there, and asks for the last one.
-    pub(crate) fn make_top(&mut self, lines: &mut Vec<u8>) -> Result<bool, AllocError> {
+    pub(crate) fn make_top(&mut self, lines: &mut LineList) -> Result<bool, AllocError> {
         let alloc = self.alloc();
         let mut path = String::new(alloc);
         let top = self.top.clone()?;
@@ -47,7 +47,7 @@ impl<'a> Ground<'a> {
     }
 
     // Sees whether the folder is one, and asks what an earlier run left.
-    pub(crate) fn see_top(&mut self, lines: &mut Vec<u8>) -> Result<bool, AllocError> {
+    pub(crate) fn see_top(&mut self, lines: &mut LineList) -> Result<bool, AllocError> {
         let why = match facts_of(self.answer.as_slice()) {
             Some(facts) if facts.folder => {
                 self.top_has = Some(facts.changed);
@@ -65,7 +65,7 @@ impl<'a> Ground<'a> {
     }
 
     // Removes what an earlier run gathered.
-    pub(crate) fn clear(&mut self, lines: &mut Vec<u8>) -> Result<bool, AllocError> {
+    pub(crate) fn clear(&mut self, lines: &mut LineList) -> Result<bool, AllocError> {
         let alloc = self.alloc();
         self.stage = Stage::Putting;
         let answer = String::from_utf8_lossy(alloc, self.answer.as_slice())?;
@@ -87,7 +87,7 @@ impl<'a> Ground<'a> {
     }
 
     // Removes the folder of gathered files when none is in it, and dates the folders that are left.
-    pub(crate) fn end(&mut self, lines: &mut Vec<u8>) -> Result<bool, AllocError> {
+    pub(crate) fn end(&mut self, lines: &mut LineList) -> Result<bool, AllocError> {
         if !self.staging.is_idle() {
             return Ok(false);
         }

@@ -4,7 +4,7 @@ use crate::gathered::{Identity, Wanted};
 use crate::ground::{Ground, Wishes};
 use crate::listing::{Kind, attributes_of};
 use crate::reading::Reading;
-use files_talk::{Job, Notes, PIECE};
+use files_talk::{Job, LineList, Notes, PIECE};
 use std::alloc::AllocError;
 use std::collections::BTreeMap;
 use std::{fs, io};
@@ -88,7 +88,7 @@ impl<'a> FolderIn<'a> {
     }
 
     // One step: some lines, or a step further. False means that it has to be heard first what came of those before, or that all is done.
-    pub(crate) fn step(&mut self, lines: &mut Vec<u8>) -> Result<bool, AllocError> {
+    pub(crate) fn step(&mut self, lines: &mut LineList) -> Result<bool, AllocError> {
         if !self.ground.is_open() {
             return self.ground.step(lines);
         }
@@ -114,10 +114,10 @@ impl<'a> FolderIn<'a> {
 }
 
 impl<'a> Job for FolderIn<'a> {
-    fn ask(&mut self, lines: &mut Vec<u8>) -> Result<(), AllocError> {
+    fn ask(&mut self, lines: &mut LineList) -> Result<(), AllocError> {
         self.ground.settle(lines)?;
         for _ in 0..u64::MAX {
-            if self.ground.asking.is_full(lines.as_slice()) || !self.step(lines)? {
+            if self.ground.asking.is_full(lines) || !self.step(lines)? {
                 break;
             }
         }

@@ -4,14 +4,14 @@ use crate::folder::FolderIn;
 use crate::gathered::{Identity, Wanted};
 use crate::listing::Attributes;
 use crate::reading::Reading;
-use files_talk::PIECE;
+use files_talk::{LineList, PIECE};
 use std::alloc::AllocError;
 
 impl<'a> FolderIn<'a> {
     // Begins to gather a file.
     pub(crate) fn gather(
         &mut self,
-        lines: &mut Vec<u8>,
+        lines: &mut LineList,
         entry: Entry,
         replaces: bool,
     ) -> Result<(), AllocError> {
@@ -54,7 +54,7 @@ impl<'a> FolderIn<'a> {
     }
 
     // Puts the next bytes of the file that is read.
-    pub(crate) fn read_on(&mut self, lines: &mut Vec<u8>) -> Result<bool, AllocError> {
+    pub(crate) fn read_on(&mut self, lines: &mut LineList) -> Result<bool, AllocError> {
         let Some(mut reading) = self.reading.take() else {
             return Ok(true);
         };
@@ -82,7 +82,7 @@ impl<'a> FolderIn<'a> {
     }
 
     // Puts so many of the bytes that were read.
-    pub(crate) fn add(&mut self, lines: &mut Vec<u8>, count: usize) -> Result<(), AllocError> {
+    pub(crate) fn add(&mut self, lines: &mut LineList, count: usize) -> Result<(), AllocError> {
         let Some(bytes) = self.piece.as_slice().get(..count) else {
             return Ok(());
         };

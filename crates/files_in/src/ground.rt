@@ -3,7 +3,7 @@ use crate::asking::{Asking, Told};
 use crate::dates::Dates;
 use crate::gathered::Wanted;
 use crate::staging::Staging;
-use files_talk::{Facts, Notes, facts_of};
+use files_talk::{Facts, LineList, Notes, facts_of};
 use std::alloc::{AllocError, Global};
 
 /// What is to be put where, and how.
@@ -148,18 +148,18 @@ impl<'a> Ground<'a> {
     }
 
     /// Moves the files that are whole to their places. Each line before was answered.
-    pub(crate) fn settle(&mut self, lines: &mut Vec<u8>) -> Result<(), AllocError> {
+    pub(crate) fn settle(&mut self, lines: &mut LineList) -> Result<(), AllocError> {
         self.asking.notes.progress();
         self.staging.settle(&mut self.asking, lines)
     }
 
     /// Begins to gather a file.
-    pub(crate) fn begin(&mut self, lines: &mut Vec<u8>, wanted: Wanted) -> Result<(), AllocError> {
+    pub(crate) fn begin(&mut self, lines: &mut LineList, wanted: Wanted) -> Result<(), AllocError> {
         self.staging.begin(&mut self.asking, lines, wanted)
     }
 
     /// Adds bytes to the file that was begun last.
-    pub(crate) fn add(&mut self, lines: &mut Vec<u8>, bytes: &[u8]) -> Result<(), AllocError> {
+    pub(crate) fn add(&mut self, lines: &mut LineList, bytes: &[u8]) -> Result<(), AllocError> {
         self.staging.add(&mut self.asking, lines, bytes)
     }
 

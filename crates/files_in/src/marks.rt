@@ -1,13 +1,13 @@
 //! The date of a folder, and the attributes of an entry.
 use crate::asking::{Asked, Asking};
 use crate::staging::MARK;
-use files_talk::{child_of, word_of};
+use files_talk::{LineList, child_of, word_of};
 use std::alloc::{AllocError, Global};
 
 /// Dates a folder by a file that is made in it and removed.
 pub(crate) fn date_folder(
     asking: &mut Asking<'_>,
-    lines: &mut Vec<u8>,
+    lines: &mut LineList,
     alloc: Global,
     folder: &str,
     date: u32,
@@ -21,7 +21,7 @@ pub(crate) fn date_folder(
 /// Sets an attribute of an entry, whose name is that of one of the system's: `user.` and a name. False means that a volume can't have it.
 pub(crate) fn push_attribute(
     asking: &mut Asking<'_>,
-    lines: &mut Vec<u8>,
+    lines: &mut LineList,
     word: &str,
     name: &[u8],
     value: &[u8],

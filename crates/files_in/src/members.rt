@@ -4,7 +4,7 @@ use crate::asking::Asked;
 use crate::folder::CLAMPED;
 use crate::ground::Found;
 use crate::staging::{MARK, STAGING};
-use files_talk::{child_of, word_of};
+use files_talk::{LineList, child_of, word_of};
 use std::alloc::AllocError;
 use std::io::Read;
 use tar_text::{Kind, Member};
@@ -13,7 +13,7 @@ impl<'a, R: Read + Drop> ArchiveIn<'a, R> {
     // Looks at a member, makes the folders above it, and asks whether it is there where it may be.
     pub(crate) fn look_at(
         &mut self,
-        lines: &mut Vec<u8>,
+        lines: &mut LineList,
         member: Member,
     ) -> Result<bool, AllocError> {
         if member.owner > 0 || member.group > 0 {
@@ -124,7 +124,7 @@ impl<'a, R: Read + Drop> ArchiveIn<'a, R> {
     // Makes the folders on the way to one, and this one, where they aren't known to be there.
     pub(crate) fn make_folders(
         &mut self,
-        lines: &mut Vec<u8>,
+        lines: &mut LineList,
         folder: &str,
         date: u32,
     ) -> Result<(), AllocError> {

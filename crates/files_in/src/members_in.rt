@@ -5,7 +5,7 @@ use crate::folder::USUAL_MODE;
 use crate::gathered::Wanted;
 use crate::ground::Found;
 use crate::marks::push_attribute;
-use files_talk::{Facts, PIECE};
+use files_talk::{Facts, LineList, PIECE};
 use std::alloc::AllocError;
 use std::io::Read;
 use tar_text::Kind;
@@ -14,7 +14,7 @@ impl<'a, R: Read + Drop> ArchiveIn<'a, R> {
     // Puts a member.
     pub(crate) fn put(
         &mut self,
-        lines: &mut Vec<u8>,
+        lines: &mut LineList,
         item: Item,
         found: Found,
     ) -> Result<bool, AllocError> {
@@ -51,7 +51,7 @@ impl<'a, R: Read + Drop> ArchiveIn<'a, R> {
     // Makes a folder where it isn't there. It is dated at the end.
     pub(crate) fn put_folder(
         &mut self,
-        lines: &mut Vec<u8>,
+        lines: &mut LineList,
         item: Item,
         found: Found,
     ) -> Result<(), AllocError> {
@@ -100,7 +100,7 @@ impl<'a, R: Read + Drop> ArchiveIn<'a, R> {
     // Puts a further name of a file.
     pub(crate) fn put_link(
         &mut self,
-        lines: &mut Vec<u8>,
+        lines: &mut LineList,
         item: Item,
         found: Found,
     ) -> Result<bool, AllocError> {
@@ -135,7 +135,7 @@ impl<'a, R: Read + Drop> ArchiveIn<'a, R> {
     // Puts a file, unless it is there already.
     pub(crate) fn put_file(
         &mut self,
-        lines: &mut Vec<u8>,
+        lines: &mut LineList,
         item: Item,
         found: Found,
     ) -> Result<(), AllocError> {
@@ -171,7 +171,7 @@ impl<'a, R: Read + Drop> ArchiveIn<'a, R> {
     // The file is there already: it may want its mode.
     pub(crate) fn keep(
         &mut self,
-        lines: &mut Vec<u8>,
+        lines: &mut LineList,
         item: Item,
         facts: &Facts,
     ) -> Result<(), AllocError> {
@@ -192,7 +192,7 @@ impl<'a, R: Read + Drop> ArchiveIn<'a, R> {
     // Gives an entry the attributes of a member.
     pub(crate) fn set_attributes(
         &mut self,
-        lines: &mut Vec<u8>,
+        lines: &mut LineList,
         word: &str,
         item: &Item,
     ) -> Result<(), AllocError> {
@@ -220,7 +220,7 @@ impl<'a, R: Read + Drop> ArchiveIn<'a, R> {
     }
 
     // Puts the next bytes of the file that is read.
-    pub(crate) fn read_on(&mut self, lines: &mut Vec<u8>) -> Result<(), AllocError> {
+    pub(crate) fn read_on(&mut self, lines: &mut LineList) -> Result<(), AllocError> {
         let count = match self.archive.read(self.piece.as_mut_slice()) {
             Ok(count) => count,
             Err(fault) => {

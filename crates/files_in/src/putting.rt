@@ -4,14 +4,14 @@ use crate::entry::{Entry, Open, Waiting};
 use crate::folder::{CLAMPED, First, FolderIn, USUAL_MODE};
 use crate::ground::Found;
 use crate::listing::Kind;
-use files_talk::Facts;
+use files_talk::{Facts, LineList};
 use std::alloc::AllocError;
 
 impl<'a> FolderIn<'a> {
     // Puts an entry.
     pub(crate) fn put(
         &mut self,
-        lines: &mut Vec<u8>,
+        lines: &mut LineList,
         entry: Entry,
         found: Found,
     ) -> Result<bool, AllocError> {
@@ -70,7 +70,7 @@ impl<'a> FolderIn<'a> {
     // Makes a folder where it isn't there, and keeps it for later.
     pub(crate) fn put_folder(
         &mut self,
-        lines: &mut Vec<u8>,
+        lines: &mut LineList,
         entry: Entry,
         found: Found,
     ) -> Result<(), AllocError> {
@@ -122,7 +122,7 @@ impl<'a> FolderIn<'a> {
     // Puts a file, or a further name of one that was put.
     pub(crate) fn put_file(
         &mut self,
-        lines: &mut Vec<u8>,
+        lines: &mut LineList,
         entry: Entry,
         found: Found,
     ) -> Result<bool, AllocError> {
@@ -146,7 +146,7 @@ impl<'a> FolderIn<'a> {
     // Puts a further name of a file.
     pub(crate) fn put_link(
         &mut self,
-        lines: &mut Vec<u8>,
+        lines: &mut LineList,
         entry: Entry,
         found: Found,
     ) -> Result<(), AllocError> {
@@ -181,7 +181,7 @@ impl<'a> FolderIn<'a> {
     // Puts a file, unless it is there already.
     pub(crate) fn put_first(
         &mut self,
-        lines: &mut Vec<u8>,
+        lines: &mut LineList,
         entry: Entry,
         found: Found,
     ) -> Result<(), AllocError> {
@@ -203,7 +203,7 @@ impl<'a> FolderIn<'a> {
     // The file is there already: it may want its mode.
     pub(crate) fn keep(
         &mut self,
-        lines: &mut Vec<u8>,
+        lines: &mut LineList,
         entry: Entry,
         facts: &Facts,
     ) -> Result<(), AllocError> {

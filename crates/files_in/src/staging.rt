@@ -2,7 +2,7 @@
 //! stands under its name.
 use crate::asking::{Asked, Asking};
 use crate::gathered::{Gathered, Identity, Wanted};
-use files_talk::{child_of, is_ok, reason_of};
+use files_talk::{LineList, child_of, is_ok, reason_of};
 use itoa::Buffer;
 use std::alloc::{AllocError, Global};
 use std::mem;
@@ -59,7 +59,7 @@ impl Staging {
     pub(crate) fn remove(
         &mut self,
         asking: &mut Asking<'_>,
-        lines: &mut Vec<u8>,
+        lines: &mut LineList,
     ) -> Result<(), AllocError> {
         self.is_made = false;
         asking.path(lines, "rmdir", self.folder.as_str(), Asked::Other)
@@ -79,7 +79,7 @@ impl Staging {
     pub(crate) fn begin(
         &mut self,
         asking: &mut Asking<'_>,
-        lines: &mut Vec<u8>,
+        lines: &mut LineList,
         wanted: Wanted,
     ) -> Result<(), AllocError> {
         asking.at(lines, wanted.date)?;
@@ -123,7 +123,7 @@ impl Staging {
     pub(crate) fn add(
         &mut self,
         asking: &mut Asking<'_>,
-        lines: &mut Vec<u8>,
+        lines: &mut LineList,
         bytes: &[u8],
     ) -> Result<(), AllocError> {
         let Some(file) = self.gathered.last_mut() else {
@@ -165,7 +165,7 @@ impl Staging {
     pub(crate) fn settle(
         &mut self,
         asking: &mut Asking<'_>,
-        lines: &mut Vec<u8>,
+        lines: &mut LineList,
     ) -> Result<(), AllocError> {
         let all = mem::replace(&mut self.gathered, Vec::new(self.alloc));
         for file in all {
@@ -181,7 +181,7 @@ impl Staging {
     fn settle_one(
         &mut self,
         asking: &mut Asking<'_>,
-        lines: &mut Vec<u8>,
+        lines: &mut LineList,
         file: Gathered,
     ) -> Result<(), AllocError> {
         if let Some(why) = &file.lack {

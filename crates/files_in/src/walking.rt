@@ -6,13 +6,13 @@ use crate::ground::Found;
 use crate::listing::{Attributes, Kind, attributes_of, list};
 use crate::marks::date_folder;
 use crate::staging::{MARK, STAGING};
-use files_talk::{child_of, word_of};
+use files_talk::{LineList, child_of, word_of};
 use std::alloc::AllocError;
 use std::fs;
 
 impl<'a> FolderIn<'a> {
     // Ends the folder whose entries were put, and begins the next one.
-    pub(crate) fn next_folder(&mut self, lines: &mut Vec<u8>) -> Result<bool, AllocError> {
+    pub(crate) fn next_folder(&mut self, lines: &mut LineList) -> Result<bool, AllocError> {
         if let Some(here) = self.here.take() {
             self.end_folder(lines, here)?;
         }
@@ -25,7 +25,11 @@ impl<'a> FolderIn<'a> {
     }
 
     // Dates a folder that has its entries, unless the last change in it did.
-    pub(crate) fn end_folder(&mut self, lines: &mut Vec<u8>, here: Here) -> Result<(), AllocError> {
+    pub(crate) fn end_folder(
+        &mut self,
+        lines: &mut LineList,
+        here: Here,
+    ) -> Result<(), AllocError> {
         let Here {
             open,
             folders,
@@ -55,7 +59,7 @@ impl<'a> FolderIn<'a> {
     // Begins with the entries of a folder.
     pub(crate) fn begin_folder(
         &mut self,
-        lines: &mut Vec<u8>,
+        lines: &mut LineList,
         open: Open,
     ) -> Result<(), AllocError> {
         let alloc = self.ground.alloc();
@@ -77,7 +81,7 @@ impl<'a> FolderIn<'a> {
     }
 
     // Looks at an entry of the system, and asks whether it is there where it may be.
-    pub(crate) fn look_at(&mut self, lines: &mut Vec<u8>, name: &str) -> Result<bool, AllocError> {
+    pub(crate) fn look_at(&mut self, lines: &mut LineList, name: &str) -> Result<bool, AllocError> {
         let Some(entry) = self.entry(name)? else {
             return Ok(true);
         };
@@ -144,7 +148,7 @@ impl<'a> FolderIn<'a> {
     // Goes on with an entry of which it was asked whether it is there.
     pub(crate) fn go_on(
         &mut self,
-        lines: &mut Vec<u8>,
+        lines: &mut LineList,
         waiting: Waiting,
     ) -> Result<bool, AllocError> {
         let Waiting { entry, found } = waiting;

@@ -1,2 +1,4 @@
 pub mod Names
 pub mod Words
+pub mod Untold
+pub mod Handing

@@ -3,6 +3,7 @@
 #![tactic(auto)]
 
 mod dates;
+mod list;
 mod names;
 mod notes;
 mod reasons;
@@ -10,6 +11,7 @@ mod talk;
 mod words;
 
 pub use dates::{Date, FIRST_SECOND, LAST_SECOND, date_of, seconds_of};
+pub use list::LineList;
 pub use names::{NameLack, child_of, component_word, name_of, word_of};
 pub use notes::{Counts, Notes};
 pub use reasons::reason_of;

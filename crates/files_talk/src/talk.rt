@@ -1,18 +1,26 @@
-//! The two ends of a run: a reader whose bytes are the lines that a job asks, and a writer that gives the job their replies.
+//! The two ends of a run: a source of the lines that a job asks, and a writer that gives the job their replies.
 //!
 //! Both lend one job to each other by a cell, on one thread: the server tells the replies of all lines that it took before it
-//! takes more, so the reader makes the next lines when the job has heard of those before.
+//! takes more, so the source asks for the next lines when the job has heard of those before.
 ghost use Rattle.std.specs.Prelude.{◌≤◌, length, IfOk};
+ghost use Rattle.line_source.specs.Handed.{AreLines, bytes_of};
 
+use crate::list::LineList;
+use hx_bytes::Failed;
+use line_source::{Line, LineSource};
 use memchr::memchr;
-use std::alloc::AllocError;
+use sector_disk::Source;
+use std::alloc::{AllocError, Global};
 use std::cell::RefCell;
-use std::io::{self, ErrorKind, Read, Write};
+use std::io::{self, ErrorKind, Write};
+
+/// The most times that lines are handed over.
+const MOST_TAKES: u64 = 9_223_372_036_854_775_807;
 
 /// Something that asks lines and hears replies.
 pub trait Job {
-    /// Adds the next lines, each with its newline. None is the end.
-    fn ask(&mut self, lines: &mut Vec<u8>) -> Result<(), AllocError>;
+    /// Adds the next lines. None is the end.
+    fn ask(&mut self, lines: &mut LineList) -> Result<(), AllocError>;
 
     /// Hears the reply to the first line that has none yet, without its newline.
     fn hear(&mut self, reply: &[u8]) -> Result<(), AllocError>;
@@ -22,20 +30,14 @@ pub trait Job {
 #[derive(Drop)]
 pub struct Talk<J: Job + Drop> {
     job: J,
-    lines: Vec<u8>,
-    taken: usize,
+    lines: LineList,
     reply: Vec<u8>,
 }
 
 impl<J: Job + Drop> Talk<J> {
     /// Nothing was asked yet. The lists are those in which lines and replies are kept.
-    pub fn new(job: J, lines: Vec<u8>, reply: Vec<u8>) -> RefCell<Talk<J>> {
-        RefCell::new(Talk {
-            job,
-            lines,
-            taken: 0,
-            reply,
-        })
+    pub fn new(job: J, lines: LineList, reply: Vec<u8>) -> RefCell<Talk<J>> {
+        RefCell::new(Talk { job, lines, reply })
     }
 
     /// The job.
@@ -43,18 +45,17 @@ impl<J: Job + Drop> Talk<J> {
         &mut self.job
     }
 
-    // Gives the next bytes of the lines.
-    fn give(&mut self, into: &mut [u8]) -> Result<usize, AllocError>
-        ensures { IfOk result (λ count. count ≤ length into.new) }
+    // Gives the next lines, for which the job is asked once those before were given.
+    fn give(&mut self) -> Result<Vec<Line>, Failed>
+        ensures { IfOk result (λ lines. AreLines lines.items × (length (bytes_of lines.items) ≤ 4194304)) }
     {
-        if self.taken >= self.lines.len() {
-            self.lines.clear();
-            self.taken = 0;
-            self.job.ask(&mut self.lines)?;
+        if self.lines.is_empty() {
+            match self.job.ask(&mut self.lines) {
+                Ok(()) => {}
+                Err(AllocError) => return Err(Failed),
+            }
         }
-        let count = copy_front(self.lines.as_slice(), self.taken, into);
-        self.taken = self.taken.saturating_add(count);
-        Ok(count)
+        self.lines.hand_over()
     }
 
     // Takes bytes of replies.
@@ -90,21 +91,34 @@ fn first_line(bytes: &[u8]) -> Option<(&[u8], &[u8])> {
     Some((&bytes[..at], &bytes[at + 1..]))
 }
 
-// Copies as much from a place on as there is room for.
-fn copy_front(bytes: &[u8], from: usize, into: &mut [u8]) -> usize
-    ensures { result ≤ length into.new }
-{
-    let Some(left) = bytes.get(from..) else {
-        return 0;
-    };
-    let count = left.len().min(into.len());
-    into[..count].copy_from_slice(&left[..count]);
-    count
-}
-
 /// The lines of a job.
 #[derive(Drop)]
-pub struct Lines<'a, J: Job + Drop>(pub &'a RefCell<Talk<J>>);
+pub struct Lines<'a, J: Job + Drop> {
+    talk: &'a RefCell<Talk<J>>,
+    faults: u64,
+    takes: u64,
+}
+
+impl<'a, J: Job + Drop> Lines<'a, J> {
+    /// No line was handed over yet.
+    pub fn new(talk: &'a RefCell<Talk<J>>) -> Lines<'a, J> {
+        Lines {
+            talk,
+            faults: 0,
+            takes: MOST_TAKES,
+        }
+    }
+}
+
+// The next lines of a job.
+fn lines_of<J: Job + Drop>(talk: &RefCell<Talk<J>>) -> Result<Vec<Line>, Failed>
+    ensures { IfOk result (λ lines. AreLines lines.items × (length (bytes_of lines.items) ≤ 4194304)) }
+{
+    match talk.try_borrow_mut() {
+        Ok(mut talk) => talk.give(),
+        Err(_) => Err(Failed),
+    }
+}
 
 /// The ear of a job.
 #[derive(Drop)]
@@ -118,14 +132,34 @@ fn no_memory() -> io::Error {
     io::Error::from(ErrorKind::OutOfMemory)
 }
 
-impl<'a, J: Job + Drop> Read for Lines<'a, J> {
-    fn read(&mut self, buf: &mut [u8]) -> io::Result<usize> {
-        match self.0.try_borrow_mut() {
-            Ok(mut talk) => match talk.give(buf) {
-                Ok(count) => Ok(count),
-                Err(AllocError) => Err(no_memory()),
-            },
-            Err(_) => Err(in_use()),
+impl<'a, J: Job + Drop> Source for Lines<'a, J> {
+    ghost use Rattle.files_talk.specs.Untold.{untold_source};
+
+    ghost stream = { λ source. untold_source source.faults source.takes };
+
+    ghost enough = { λ source tells. absurd (Prim.cc tells) };
+
+    // All that it has are lines: where none was handed over there is no byte.
+    fn take(&mut self, _into: &mut [u8]) -> Result<usize, Failed> {
+        Ok(0)
+    }
+}
+
+impl<'a, J: Job + Drop> LineSource for Lines<'a, J> {
+    fn take_lines(&mut self, _alloc: Global) -> Result<Vec<Line>, Failed> {
+        if self.takes == 0 {
+            self.faults = self.faults.saturating_add(1);
+            return Err(Failed);
+        }
+        match lines_of(self.talk) {
+            Ok(lines) => {
+                self.takes -= 1;
+                Ok(lines)
+            }
+            Err(Failed) => {
+                self.faults = self.faults.saturating_add(1);
+                Err(Failed)
+            }
         }
     }
 }

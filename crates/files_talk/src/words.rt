@@ -4,7 +4,8 @@ ghost use Rattle.hfs_language.specs.Language.{value_of};
 ghost use Rattle.hfs_language.specs.Text as spec;
 ghost use Rattle.files_talk.specs.Words.{path_text};
 
-use cmd_lang::{push_value, read_value};
+use crate::list::LineList;
+use cmd_lang::read_value;
 use hx_bytes::{Bytes, OutOfMemory};
 use itoa::Buffer;
 use std::alloc::{AllocError, Global};
@@ -13,19 +14,19 @@ use std::alloc::{AllocError, Global};
 pub const PIECE: usize = 45_056;
 
 /// Appends a number, with a space in front.
-pub fn push_number(lines: &mut Vec<u8>, number: u64) -> Result<(), AllocError>
-    ensures { OnOk result (lines.new.items ≡ lines.old.items ++ spec.field number) }
+pub fn push_number(lines: &mut LineList, number: u64) -> Result<(), AllocError>
+    ensures { OnOk result (lines.new ≡ lines.old ++ spec.field number) }
 {
     let mut buffer = Buffer::new();
-    lines.extend_from_slice(b" ")?;
-    lines.extend_from_slice(buffer.format(number).as_bytes())
+    lines.push(b" ")?;
+    lines.push(buffer.format(number).as_bytes())
 }
 
 /// Appends the low twelve bits of a mode in four octal digits, with a space in front.
-pub fn push_mode(lines: &mut Vec<u8>, mode: u16) -> Result<(), AllocError>
-    ensures { OnOk result (lines.new.items ≡ lines.old.items ++ 32 ∷ spec.mode_text mode) }
+pub fn push_mode(lines: &mut LineList, mode: u16) -> Result<(), AllocError>
+    ensures { OnOk result (lines.new ≡ lines.old ++ 32 ∷ spec.mode_text mode) }
 {
-    lines.extend_from_slice(&[
+    lines.push(&[
         b' ',
         octal_digit(mode / 512 % 8),
         octal_digit(mode / 64 % 8),
@@ -42,11 +43,11 @@ fn octal_digit(value: u16) -> u8
 }
 
 /// Appends a path, of which the root's word may be empty, with a space in front.
-pub fn push_path(lines: &mut Vec<u8>, word: &str) -> Result<(), AllocError>
-    ensures { OnOk result (lines.new.items ≡ lines.old.items ++ 32 ∷ path_text word.now) }
+pub fn push_path(lines: &mut LineList, word: &str) -> Result<(), AllocError>
+    ensures { OnOk result (lines.new ≡ lines.old ++ 32 ∷ path_text word.now) }
 {
-    lines.extend_from_slice(b" ")?;
-    lines.extend_from_slice(spelled_path(word.as_bytes()))
+    lines.push(b" ")?;
+    lines.push(spelled_path(word.as_bytes()))
 }
 
 // A path, of which the root's word may be empty.
@@ -61,43 +62,35 @@ fn spelled_path(word: &[u8]) -> &[u8]
 
 /// Appends the line that writes bytes from an offset on into the file of a path.
 pub fn push_written(
-    lines: &mut Vec<u8>,
+    lines: &mut LineList,
     word: &str,
     from: u64,
     bytes: &[u8],
 ) -> Result<(), AllocError>
-    ensures { OnOk result (lines.new.items ≡ lines.old.items ++ codes "write" ++ 32 ∷ path_text word.now ++ spec.field from ++ codes " " ++ spec.value_text bytes.now ++ codes "\n") }
+    ensures { OnOk result (lines.new ≡ lines.old ++ codes "write" ++ 32 ∷ path_text word.now ++ spec.field from ++ codes " " ++ spec.value_text bytes.now ++ codes "\n") }
 {
-    lines.extend_from_slice(b"write")?;
+    lines.push(b"write")?;
     push_path(lines, word)?;
     push_number(lines, from)?;
-    lines.extend_from_slice(b" ")?;
-    match push_value(lines, bytes) {
-        Ok(()) => {}
-        Err(OutOfMemory) => return Err(AllocError),
-    }
-    lines.extend_from_slice(b"\n")
+    lines.push(b" ")?;
+    lines.end_with_value(bytes)
 }
 
 /// Appends the line that sets an attribute of the entry of a path.
 pub fn push_attribute(
-    lines: &mut Vec<u8>,
+    lines: &mut LineList,
     word: &str,
     name: &str,
     value: &[u8],
 ) -> Result<(), AllocError>
-    ensures { OnOk result (lines.new.items ≡ lines.old.items ++ codes "setattr" ++ 32 ∷ path_text word.now ++ codes " " ++ name.now ++ codes " " ++ spec.value_text value.now ++ codes "\n") }
+    ensures { OnOk result (lines.new ≡ lines.old ++ codes "setattr" ++ 32 ∷ path_text word.now ++ codes " " ++ name.now ++ codes " " ++ spec.value_text value.now ++ codes "\n") }
 {
-    lines.extend_from_slice(b"setattr")?;
+    lines.push(b"setattr")?;
     push_path(lines, word)?;
-    lines.extend_from_slice(b" ")?;
-    lines.extend_from_slice(name.as_bytes())?;
-    lines.extend_from_slice(b" ")?;
-    match push_value(lines, value) {
-        Ok(()) => {}
-        Err(OutOfMemory) => return Err(AllocError),
-    }
-    lines.extend_from_slice(b"\n")
+    lines.push(b" ")?;
+    lines.push(name.as_bytes())?;
+    lines.push(b" ")?;
+    lines.end_with_value(value)
 }
 
 /// Whether a reply is `ok`, with or without more.

@@ -9,7 +9,8 @@ use crate::housekeeping::{come_to_rest, tidy};
 use crate::telling::Stop;
 use crate::trying::attempt;
 use crate::volume::{Step, ToTell, Volume};
-use hx_bytes::{Bytes, Trouble};
+use hx_bytes::Trouble;
+use line_source::Line;
 
 /// The most lines of one batch.
 pub const MOST_LINES: usize = 32;
@@ -20,7 +21,7 @@ pub fn serve_line<V: Volume, G: Ground>(
     volume: &mut V,
     base: &mut G,
     number: u64,
-    line: &[u8],
+    line: &Line,
     first: bool,
     told: &mut ToTell,
 ) -> Result<bool, Stop>
@@ -103,10 +104,14 @@ fn make_room<V: Volume, G: Ground>(
 }
 
 // Whether the line asks that all be made durable, which ends its batch.
-fn is_sync(line: &[u8]) -> bool
+fn is_sync(line: &Line) -> bool
     ensures { IsTrue result ↔ (line.now ≡ sync_line) }
 {
-    line == b"sync".as_slice()
+    let (text, value) = line.parts();
+    match value {
+        None => text == b"sync".as_slice(),
+        Some(_) => false,
+    }
 }
 
 // Serves lines until one is left for the next batch, or the batch has its most. Answers how many were served.
@@ -114,7 +119,7 @@ fn serve_lines<V: Volume, G: Ground>(
     volume: &mut V,
     base: &mut G,
     number: u64,
-    lines: &[Bytes],
+    lines: &[Line],
     told: &mut ToTell,
 ) -> Result<usize, Stop>
     requires serves { (capacity : ℕ) × G.serves base.old capacity × (G.taken base.old ≤ capacity) }
@@ -137,17 +142,10 @@ fn serve_lines<V: Volume, G: Ground>(
         if at == MOST_LINES {
             return Ok(at);
         }
-        if !serve_line(
-            volume,
-            base,
-            number + at as u64,
-            lines[at].as_slice(),
-            at == 0,
-            told,
-        )? {
+        if !serve_line(volume, base, number + at as u64, &lines[at], at == 0, told)? {
             return Ok(at);
         }
-        if is_sync(lines[at].as_slice()) {
+        if is_sync(&lines[at]) {
             return Ok(at + 1);
         }
     }
@@ -161,7 +159,7 @@ pub fn serve_batch<V: Volume, G: Ground>(
     volume: &mut V,
     base: &mut G,
     number: u64,
-    lines: &[Bytes],
+    lines: &[Line],
     told: &mut ToTell,
 ) -> Result<usize, Stop>
     requires serves { (capacity : ℕ) × G.serves base.old capacity × (G.taken base.old ≤ capacity) }

@@ -27,13 +27,13 @@ use crate::telling::Stop;
 use crate::volume::Volume;
 use hfs_volume::aside_is_free;
 use jnl_store::Space;
-use line_source::Input;
-use sector_disk::{Rig, Source};
+use line_source::{Input, LineSource};
+use sector_disk::Rig;
 use std::alloc::Global;
 use watchers::Watcher;
 
 /// Serves the lines of a source to its end over a journal's store and its rig, and ends the run. Its promises hold whatever ended it.
-pub fn run<V: Volume, R: Rig, W: Watcher, S: Source>(
+pub fn run<V: Volume, R: Rig, W: Watcher, S: LineSource>(
     alloc: Global,
     volume: &mut V,
     base: &mut Space<'_, '_, R>,

@@ -34,13 +34,14 @@ use hfs_volume::aside_is_free;
 use hx_bytes::OutOfMemory;
 use jnl_replay::Plan;
 use jnl_store::{Space, Store};
-use sector_disk::{Rig, SectorDisk, Source};
+use line_source::LineSource;
+use sector_disk::{Rig, SectorDisk};
 use std::alloc::Global;
 use watchers::Watcher;
 
 /// Mounts an image and serves the lines of a source to its end, with so many slots for sectors of the content in memory. A refusal comes exactly
 /// where one stands, and then nothing is written and no line is taken.
-pub fn serve_image<V: Volume, C: Checker, R: Rig, W: Watcher, S: Source>(
+pub fn serve_image<V: Volume, C: Checker, R: Rig, W: Watcher, S: LineSource>(
     alloc: Global,
     checker: &mut C,
     cache: u32,
@@ -95,7 +96,7 @@ pub fn serve_image<V: Volume, C: Checker, R: Rig, W: Watcher, S: Source>(
 }
 
 // Serves an image that was found.
-fn serve_found<V: Volume, R: Rig, W: Watcher, S: Source>(
+fn serve_found<V: Volume, R: Rig, W: Watcher, S: LineSource>(
     alloc: Global,
     plan: Plan,
     cache: u32,
@@ -129,7 +130,7 @@ fn serve_found<V: Volume, R: Rig, W: Watcher, S: Source>(
 }
 
 // Serves an image that is ready for a store.
-fn serve_ready<V: Volume, R: Rig, W: Watcher, S: Source>(
+fn serve_ready<V: Volume, R: Rig, W: Watcher, S: LineSource>(
     alloc: Global,
     plan: &Plan,
     cache: u32,

@@ -19,9 +19,7 @@ ghost use Rattle.line_source.specs.Input.{ahead, SameSource, TakesLines};
 use crate::batch::MOST_LINES;
 use crate::telling::{Stop, Teller, serve_step};
 use crate::volume::Volume;
-use hx_bytes::Bytes;
-use line_source::{Input, drop_first};
-use sector_disk::Source;
+use line_source::{Input, Line, LineSource, drop_first};
 use std::alloc::Global;
 use watchers::Watcher;
 
@@ -33,7 +31,7 @@ const MOST_SERVED: usize = 4_294_967_295;
 
 /// Serves the lines of a source to its end. Each batch has at most 32 lines, and beyond its first only lines that were taken already. Nothing is
 /// taken of the source while a line that was taken is unanswered.
-pub fn serve_source<V: Volume, G: Teller, W: Watcher, S: Source>(
+pub fn serve_source<V: Volume, G: Teller, W: Watcher, S: LineSource>(
     alloc: Global,
     volume: &mut V,
     base: &mut G,
@@ -105,12 +103,12 @@ pub fn serve_source<V: Volume, G: Teller, W: Watcher, S: Source>(
 }
 
 // Takes the lines of a batch, of which there are no more than are left to be served. Where none is there behind it the source is at its end.
-fn take_lines<S: Source>(
+fn take_lines<S: LineSource>(
     alloc: Global,
     left: usize,
     input: &mut Input,
     source: &mut S,
-    pending: &mut Vec<Bytes>,
+    pending: &mut Vec<Line>,
 ) -> Result<(), Stop>
     requires left { length pending.old.items ≤ left }
     requires most { length pending.old.items ≤ 32 }

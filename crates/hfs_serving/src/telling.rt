@@ -16,7 +16,7 @@ use crate::batch::serve_batch;
 use crate::volume::{ToTell, Volume};
 use hfs_language::Changes;
 use hx_bytes::{Bytes, Failed, OutOfMemory, Trouble};
-use line_source::InputFault;
+use line_source::{InputFault, Line};
 use std::alloc::Global;
 use watchers::{Watcher, tell_all};
 
@@ -109,7 +109,7 @@ pub fn serve_step<V: Volume, G: Teller, W: Watcher>(
     base: &mut G,
     watchers: &mut Vec<W>,
     number: u64,
-    lines: &[Bytes],
+    lines: &[Line],
 ) -> Result<usize, Stop>
     requires serves { (capacity : ℕ) × G.serves base.old capacity × (G.taken base.old ≤ capacity) }
     requires stands { IsTrue (G.space base.old).tells → SomeStands (V.knows volume.old (G.space base.old)) (G.space base.old) (G.outside base.old) }

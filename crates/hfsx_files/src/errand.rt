@@ -1,7 +1,7 @@
 //! The one job of a run, so that the server is compiled once, and what the server tells before it takes a line.
 use file_rig::Waiting;
 use files_in::{ArchiveIn, FolderIn};
-use files_talk::Job;
+use files_talk::{Job, LineList};
 use std::alloc::{AllocError, Global};
 use std::rt::Stdin;
 
@@ -37,7 +37,7 @@ impl<'a> Errand<'a> {
 }
 
 impl<'a> Job for Errand<'a> {
-    fn ask(&mut self, lines: &mut Vec<u8>) -> Result<(), AllocError> {
+    fn ask(&mut self, lines: &mut LineList) -> Result<(), AllocError> {
         self.has_begun = true;
         match &mut self.task {
             Task::Make => Ok(()),

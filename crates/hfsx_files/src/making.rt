@@ -4,7 +4,7 @@ use crate::options::Size;
 use crate::serving::make;
 use crate::status::{NO_IMAGE, WRONG_WORDS};
 use files_in::{identity_of, sectors_for};
-use files_talk::Talk;
+use files_talk::{LineList, Talk};
 use std::alloc::AllocError;
 use std::fs::{self, OpenOptions};
 use std::io;
@@ -35,7 +35,7 @@ pub(crate) fn make_image(
     let alloc = rt.alloc();
     let talk = Talk::new(
         Errand::new(alloc, Task::Make),
-        Vec::new(alloc),
+        LineList::new(alloc),
         Vec::new(alloc),
     );
     let status = make(rt, image, sectors, is_auto, &talk)?;

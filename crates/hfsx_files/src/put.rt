@@ -7,7 +7,7 @@ use crate::serving::serve;
 use crate::status::{LEFT_OUT, NO_IMAGE, NO_INPUT, NO_OUTPUT, REFUSED};
 use file_rig::Waiting;
 use files_in::{ArchiveIn, FolderIn, Wishes, identity_of};
-use files_talk::{Notes, Talk};
+use files_talk::{LineList, Notes, Talk};
 use std::alloc::AllocError;
 
 /// Puts a folder or an archive, and gives the exit status.
@@ -48,7 +48,11 @@ pub(crate) fn put(rt: &HostRuntime, call: &Call, options: &Options) -> Result<u8
 // Has the volume served, and tells what was put.
 fn put_all(rt: &HostRuntime, image: &str, task: Task<'_>) -> Result<u8, AllocError> {
     let alloc = rt.alloc();
-    let talk = Talk::new(Errand::new(alloc, task), Vec::new(alloc), Vec::new(alloc));
+    let talk = Talk::new(
+        Errand::new(alloc, task),
+        LineList::new(alloc),
+        Vec::new(alloc),
+    );
     let status = serve(rt, image, &talk)?;
     let Ok(mut talk) = talk.try_borrow_mut() else {
         return Ok(status);

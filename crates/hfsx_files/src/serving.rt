@@ -1,9 +1,9 @@
 //! A volume is served by the top call, and what fails is told.
 use crate::errand::{Errand, Task};
 use crate::status::{NO_IMAGE, NO_MEMORY};
-use file_rig::{Failure, FileRig, Image, Sparse, StdinSource, Store, tell};
+use file_rig::{Failure, FileRig, Image, Sparse, Store, tell};
 use files_out::Out;
-use files_talk::{Lines, Replies, Talk};
+use files_talk::{LineList, Lines, Replies, Talk};
 use hfsx_server::{Status, hfsx};
 use std::alloc::AllocError;
 use std::cell::RefCell;
@@ -32,7 +32,7 @@ pub(crate) fn look(rt: &HostRuntime, image: &str, job: &mut Out<'_>) -> Result<u
     let alloc = rt.alloc();
     let talk = Talk::new(
         Errand::new(alloc, Task::Make),
-        Vec::new(alloc),
+        LineList::new(alloc),
         Vec::new(alloc),
     );
     let store = Store::new(alloc, Sparse::new(place), sectors)?;
@@ -80,7 +80,7 @@ fn run(
     };
     let store = Store::new(rt.alloc(), Sparse::new(place), sectors)?;
     let mut rig = FileRig::new(store, Replies(talk));
-    let mut source = StdinSource::new(Lines(talk));
+    let mut source = Lines::new(talk);
     // Nobody watches.
     let mut watchers: Vec<Box<dyn Watcher>> = Vec::new(rt.alloc());
     let status = hfsx(rt.alloc(), words, &mut rig, &mut source, &mut watchers);

@@ -17,7 +17,8 @@ ghost use Rattle.watchers.specs.Told.{AreTold};
 
 use crate::{Status, tell_mount};
 use hfs_serving::{Stop, serve_image};
-use sector_disk::{Rig, Source};
+use line_source::LineSource;
+use sector_disk::Rig;
 use served_volume::{ServedVolume, VolumeChecker};
 use std::alloc::Global;
 use watchers::Watcher;
@@ -26,7 +27,7 @@ use watchers::Watcher;
 const SLOTS: u32 = 1_024;
 
 /// Mounts a volume, serves it to the end of a source, and unmounts it. A refused image isn't written. Watchers are told what lines changed.
-pub fn run<R: Rig, S: Source, W: Watcher>(
+pub fn run<R: Rig, S: LineSource, W: Watcher>(
     alloc: Global,
     rig: &mut R,
     source: &mut S,

@@ -24,7 +24,8 @@ use crate::formatting::refused_size;
 use crate::{Status, check, format, generate, repair, run, tell_refusal, tell_usage};
 use cli_words::{Work, named_work, read_words};
 use hx_bytes::OutOfMemory;
-use sector_disk::{Rig, Source};
+use line_source::LineSource;
+use sector_disk::Rig;
 use std::alloc::Global;
 use watchers::Watcher;
 
@@ -35,7 +36,7 @@ use watchers::Watcher;
 /// opened it. `gen SEED COUNT` plays generated lines on a volume in memory, and leaves the image alone. Other words tell how the program
 /// is called. Watchers are told what the lines of a `run` changed, once it is durable and before the replies; one that leaves is gone from
 /// the list.
-pub fn hfsx<R: Rig, S: Source, W: Watcher>(
+pub fn hfsx<R: Rig, S: LineSource, W: Watcher>(
     alloc: Global,
     words: &[String],
     rig: &mut R,

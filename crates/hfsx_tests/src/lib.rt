@@ -14,6 +14,8 @@ mod formats;
 #[cfg(test)]
 mod growths;
 #[cfg(test)]
+mod handed;
+#[cfg(test)]
 mod lines;
 #[cfg(test)]
 mod looks;

@@ -3,3 +3,5 @@ pub mod Cuts
 pub mod Fetching
 pub mod Reading
 pub mod Pieces
+pub mod Texts
+pub mod Ready

@@ -6,20 +6,20 @@ ghost use Rattle.line_source.specs.Cause.{IsCause};
 ghost use Rattle.line_source.specs.Input.{ahead, SameSource};
 
 use crate::input::{Input, InputFault};
-use hx_bytes::Bytes;
-use sector_disk::Source;
+use crate::line::Line;
+use crate::source::LineSource;
 use std::alloc::Global;
 
 impl Input {
     /// Adds lines to those in memory, up to `most` in all, as long as a whole line was taken already. Where none is in memory it waits for the
     /// first. Where none is in memory behind it the source is at its end.
-    pub fn read_lines<S: Source>(
+    pub fn read_lines<S: LineSource>(
         &mut self,
         alloc: Global,
         source: &mut S,
         limit: usize,
         most: usize,
-        lines: &mut Vec<Bytes>,
+        lines: &mut Vec<Line>,
     ) -> Result<(), InputFault>
         requires { 0 < most }
         ensures lines { OnOk result (AddsLines limit lines.old.items self.old (S.stream source.old) lines.new.items self.new (S.stream source.new)) }
@@ -47,13 +47,13 @@ impl Input {
     }
 
     // Adds lines as long as a whole line was taken, up to so many in all.
-    fn read_ready<S: Source>(
+    fn read_ready<S: LineSource>(
         &mut self,
         alloc: Global,
         source: &mut S,
         limit: usize,
         most: usize,
-        lines: &mut Vec<Bytes>,
+        lines: &mut Vec<Line>,
     ) -> Result<(), InputFault>
         ensures lines { OnOk result (AddsLines limit lines.old.items self.old (S.stream source.old) lines.new.items self.new (S.stream source.new)) }
         ensures most { length lines.old.items ≤ most → OnOk result (length lines.new.items ≤ most) }
@@ -78,12 +78,12 @@ impl Input {
     }
 
     // Adds the next line, if there is one.
-    fn read_line<S: Source>(
+    fn read_line<S: LineSource>(
         &mut self,
         alloc: Global,
         source: &mut S,
         limit: usize,
-        lines: &mut Vec<Bytes>,
+        lines: &mut Vec<Line>,
     ) -> Result<bool, InputFault>
         ensures lines { OnOk result (AddsLines limit lines.old.items self.old (S.stream source.old) lines.new.items self.new (S.stream source.new)) }
         ensures one { IfOk result (λ added. IsTrue added → length lines.new.items ≡ length lines.old.items + 1) }
@@ -107,7 +107,7 @@ impl Input {
 }
 
 /// Takes the first lines away.
-pub fn drop_first(lines: &mut Vec<Bytes>, count: usize)
+pub fn drop_first(lines: &mut Vec<Line>, count: usize)
     requires { count ≤ length lines.old.items }
     ensures { lines.new.items ≡ drop count lines.old.items }
 {

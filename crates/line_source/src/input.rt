@@ -1,38 +1,36 @@
 //! Lines of a source, one by one, of which no more than a limit is held.
-ghost use Rattle.std.specs.Prelude.{◌≡◌, ◌≢◌, ◌<◌, ◌≤◌, ◌++◌, ◌∷◌, ◌+◌, ◌-◌, ◌↔◌, [], ℕ, List, IsErrOf, IsTrue, length, MatchOption, IfOk, IfSome, IfNone, OnSome, OnOk, OnErr, false, take};
+ghost use Rattle.std.specs.Prelude.{◌≡◌, ◌≢◌, ◌<◌, ◌≤◌, ◌++◌, ◌∷◌, [], ℕ, List, IsErrOf, IsTrue, length, IfOk, IfSome, IfNone, None, OnSome, OnOk, OnErr};
 ghost use Rattle.sector_disk.specs.Cause.{HasCause};
 ghost use Rattle.hfs_language.specs.Lines.{HasNoNewline};
-ghost use Rattle.line_source.specs.Cause.{IsCause};
 ghost use Rattle.line_source.specs.Batch.{has_newline};
-ghost use Rattle.line_source.specs.Cutting.{Cuts};
-ghost use Rattle.line_source.specs.Input.{ahead, weight, IsLine, SameSource, TakesLines, TakesNoMore, most_taken};
+ghost use Rattle.line_source.specs.Cause.{IsCause};
+ghost use Rattle.line_source.specs.Handed.{AreLines, Refills, bytes_of};
+ghost use Rattle.line_source.specs.Input.{ahead, weight, IsLine, SameSource, TakesLines, TakesNoMore};
+ghost use Rattle.line_source.specs.Next.{GivesNext};
 
+use crate::line::Line;
+use crate::source::LineSource;
+use crate::taken::Taken;
 use hx_bytes::{Bytes, Failed, OutOfMemory};
-use memchr::memchr;
-use sector_disk::Source;
 use std::alloc::{AllocFailed, Global};
 use std::marker::Model;
 
-/// How many bytes are taken of a source at a time, at most.
-const BUFFER: usize = 4_194_304;
-
-/// Bytes that were taken from a source and belong to no line yet.
+/// Lines that a source handed over, and bytes that were taken from it, of which none was given yet.
 #[derive(Drop)]
 pub struct Input {
-    buffer: Vec<u8>,
-    start: usize,
-    end: usize,
+    ready: Vec<Line>,
+    taken: Taken,
 }
 
 impl Model for Input {
-    ghost use Rattle.std.specs.Prelude.{ℕ, List, ◌≡◌, ◌≤◌, ◌-◌, length, take, drop};
-    ghost use Rattle.line_source.specs.Input.{most_taken};
+    ghost use Rattle.std.specs.Prelude.{ℕ, List, ◌++◌};
+    ghost use Rattle.line_source.specs.Handed.{AreLines, bytes_of};
 
     ghost Value = { List ℕ };
 
-    ghost view = { λ input. take (input.end - input.start) (drop input.start input.buffer.items) };
+    ghost view = { λ input. bytes_of input.ready.items ++ input.taken };
 
-    ghost invariant = { λ input. (input.start ≤ input.end) × (input.end ≤ most_taken) × (length input.buffer.items ≡ most_taken) };
+    ghost invariant = { λ input. AreLines input.ready.items };
 }
 
 /// Why no line was read.
@@ -66,13 +64,13 @@ impl From<OutOfMemory> for InputFault {
     }
 }
 
-impl From<AllocFailed<Bytes>> for InputFault {
+impl From<AllocFailed<Line>> for InputFault {
     ghost use Rattle.std.specs.Prelude.{◌≡◌};
     ghost use Rattle.line_source.specs.declared.input.InputFault.TheVariants.{Memory};
 
     ghost from_gives = { λ _ e. e ≡ Memory };
 
-    fn from(_: AllocFailed<Bytes>) -> Self {
+    fn from(_: AllocFailed<Line>) -> Self {
         InputFault::Memory
     }
 }
@@ -83,20 +81,19 @@ impl Input {
         ensures { IfOk result (λ input. input ≡ []) }
     {
         Ok(Input {
-            buffer: vec![in alloc; 0; BUFFER]?,
-            start: 0,
-            end: 0,
+            ready: Vec::new(alloc),
+            taken: Taken::new(alloc)?,
         })
     }
 
     /// The next line of the source, without its newline, or none at its end. Of a line of more than `limit` bytes only the first `limit + 1`
     /// are held.
-    pub fn next_line<S: Source>(
+    pub fn next_line<S: LineSource>(
         &mut self,
         alloc: Global,
         source: &mut S,
         limit: usize,
-    ) -> Result<Option<Bytes>, InputFault>
+    ) -> Result<Option<Line>, InputFault>
         ensures line { IfOk result (λ next. IfSome next (λ line. (text : List ℕ) × IsLine limit text line
             × (IsTrue (S.stream source.old).tells → TakesLines self.old (S.stream source.old) (text ∷ []) self.new (S.stream source.new)))) }
         ensures end { IsTrue (S.stream source.old).tells → IfOk result (λ next. IfNone next ((ahead self.old (S.stream source.old) ≡ []) × (ahead self.new (S.stream source.new) ≡ []))) }
@@ -112,122 +109,96 @@ impl Input {
         ensures same { SameSource (S.stream source.old) (S.stream source.new) }
         ensures cause { IsCause InputFault.Source (S.stream source.old).faults (S.stream source.new).faults result }
     {
-        let mut line = Vec::new(alloc);
-        loop {
-            let some = self.has_more(source)?;
-            if !some {
-                let last = Bytes::from_vec(line);
-                if last.is_empty() {
-                    return Ok(None);
-                }
-                return Ok(Some(last));
-            }
-            let ended = self.cut(&mut line, limit)?;
-            if ended {
-                return Ok(Some(Bytes::from_vec(line)));
-            }
-        }
+        next_of(alloc, &mut self.ready, &mut self.taken, source, limit)
     }
 
     /// Whether a whole line, with its newline, was taken already.
     pub fn has_line(&self) -> bool
         ensures { result ≡ has_newline self.now }
     {
-        has_newline(&self.buffer[self.start..self.end])
-    }
-
-    // Takes bytes of the source where none is left of those taken before, and answers whether there are some.
-    fn has_more<S: Source>(&mut self, source: &mut S) -> Result<bool, Failed>
-        ensures bytes { IsTrue (S.stream source.old).tells → OnOk result (ahead self.new (S.stream source.new) ≡ ahead self.old (S.stream source.old)) }
-        ensures some { IfOk result (λ some. IsTrue some ↔ (self.new ≢ [])) }
-        ensures end { IsTrue (S.stream source.old).tells → IfOk result (λ some. some ≡ false → (ahead self.old (S.stream source.old) ≡ []) × (ahead self.new (S.stream source.new) ≡ [])) }
-        ensures kept { OnErr result (((S.stream source.new).left ≡ (S.stream source.old).left) × (self.old ≡ [])) }
-        ensures still { self.old ≢ [] → (S.stream source.new ≡ S.stream source.old) × (self.new ≡ self.old) }
-        ensures few { length self.new ≤ most_taken }
-        ensures no_more { weight self.new (S.stream source.new) ≤ weight self.old (S.stream source.old) }
-        ensures same { SameSource (S.stream source.old) (S.stream source.new) }
-        ensures cause { HasCause (S.stream source.old).faults (S.stream source.new).faults result }
-    {
-        if self.is_empty() {
-            self.fill(source)?;
-            return Ok(!self.is_empty());
+        if self.ready.is_empty() {
+            return self.taken.has_line();
         }
-        Ok(true)
-    }
-
-    fn is_empty(&self) -> bool
-        ensures none { IsTrue result ↔ (self.now ≡ []) }
-        ensures few { length self.now ≤ most_taken }
-    {
-        self.start == self.end
-    }
-
-    // Takes bytes of the source, where none are left of those taken before.
-    fn fill<S: Source>(&mut self, source: &mut S) -> Result<(), Failed>
-        requires { self.old ≡ [] }
-        ensures filled { IsTrue (S.stream source.old).tells → OnOk result ((S.stream source.old).left ≡ self.new ++ (S.stream source.new).left) }
-        ensures end { IsTrue (S.stream source.old).tells → OnOk result (self.new ≡ [] → (S.stream source.old).left ≡ []) }
-        ensures few { length self.new ≤ most_taken }
-        ensures kept { OnErr result ((S.stream source.new).left ≡ (S.stream source.old).left) }
-        ensures no_more { weight self.new (S.stream source.new) ≤ weight self.old (S.stream source.old) }
-        ensures same { SameSource (S.stream source.old) (S.stream source.new) }
-        ensures cause { HasCause (S.stream source.old).faults (S.stream source.new).faults result }
-    {
-        let count = source.take(&mut self.buffer)?;
-        self.start = 0;
-        self.end = count;
-        Ok(())
-    }
-
-    // Takes the bytes up to a newline, and it, or all where none is among them, and adds them to a line. Answers whether a newline was there.
-    fn cut(&mut self, line: &mut Vec<u8>, limit: usize) -> Result<bool, OutOfMemory>
-        ensures cuts { IfOk result (λ ended. Cuts limit self.old line.old.items ended self.new line.new.items) }
-        ensures kept { OnErr result (self.new ≡ self.old) }
-    {
-        let bytes = &self.buffer[self.start..self.end];
-        match memchr(10, bytes) {
-            Some(at) => {
-                lengthen(line, &bytes[..at], limit)?;
-                self.start += at + 1;
-                Ok(true)
-            }
-            None => {
-                lengthen(line, bytes, limit)?;
-                self.start = self.end;
-                Ok(false)
-            }
-        }
+        true
     }
 }
 
-// Whether a newline is among the bytes.
-fn has_newline(bytes: &[u8]) -> bool
-    ensures { result ≡ has_newline bytes.now }
+// The first of the lines that are ready, or that the source hands over, or else the next that is cut out of its bytes.
+fn next_of<S: LineSource>(
+    alloc: Global,
+    ready: &mut Vec<Line>,
+    taken: &mut Taken,
+    source: &mut S,
+    limit: usize,
+) -> Result<Option<Line>, InputFault>
+    requires { AreLines ready.old.items }
+    ensures lines { AreLines ready.new.items }
+    ensures next { GivesNext limit (bytes_of ready.old.items ++ taken.old) (S.stream source.old) result (bytes_of ready.new.items ++ taken.new) (S.stream source.new) }
 {
-    match memchr(10, bytes) {
-        Some(at) => true,
-        None => false,
+    match refill(alloc, ready, taken, source) {
+        Ok(()) => {}
+        Err(Failed) => return Err(InputFault::Source),
+    }
+    match first_of(ready) {
+        Some(line) => held_line(alloc, line, limit),
+        None => as_line(taken.next_line(alloc, source, limit)),
     }
 }
 
-// Bytes more of a line, which isn't held behind the first that is too many.
-fn lengthen(line: &mut Vec<u8>, piece: &[u8], limit: usize) -> Result<(), OutOfMemory>
-    ensures { OnOk result ((text : List ℕ) → IsLine limit text line.old.items → IsLine limit (text ++ piece.now) line.new.items) }
+// What is held of a line.
+fn held_line(alloc: Global, line: Line, limit: usize) -> Result<Option<Line>, InputFault>
+    ensures held { IfOk result (λ next. IfSome next (IsLine limit line)) }
+    ensures some { IfOk result (λ next. next ≢ None) }
+    ensures memory { IsErrOf result InputFault.Source → ⊥ }
 {
-    line.extend_from_slice(front(piece, line.len(), limit))?;
+    match line.held(alloc, limit) {
+        Ok(held) => Ok(Some(held)),
+        Err(OutOfMemory) => Err(InputFault::Memory),
+    }
+}
+
+// A text is a line.
+fn as_line(next: Result<Option<Bytes>, InputFault>) -> Result<Option<Line>, InputFault>
+    ensures { result ≡ next }
+{
+    match next {
+        Ok(Some(text)) => Ok(Some(Line::from_text(text))),
+        Ok(None) => Ok(None),
+        Err(fault) => Err(fault),
+    }
+}
+
+// Has lines handed over, where none is left and no byte that was taken.
+fn refill<S: LineSource>(
+    alloc: Global,
+    ready: &mut Vec<Line>,
+    taken: &Taken,
+    source: &mut S,
+) -> Result<(), Failed>
+    requires { AreLines ready.old.items }
+    ensures lines { AreLines ready.new.items }
+    ensures refills { OnOk result (Refills (bytes_of ready.old.items ++ taken.now) (S.stream source.old) (bytes_of ready.new.items ++ taken.now) (S.stream source.new)) }
+    ensures kept { OnErr result (((S.stream source.new).left ≡ (S.stream source.old).left) × (bytes_of ready.old.items ++ taken.now ≡ [])) }
+    ensures same { SameSource (S.stream source.old) (S.stream source.new) }
+    ensures cause { HasCause (S.stream source.old).faults (S.stream source.new).faults result }
+{
+    if !ready.is_empty() {
+        return Ok(());
+    }
+    if !taken.is_empty() {
+        return Ok(());
+    }
+    *ready = source.take_lines(alloc)?;
     Ok(())
 }
 
-// The bytes that are held behind so many of a line.
-fn front(piece: &[u8], held: usize, limit: usize) -> &[u8]
-    ensures { result.now ≡ take (limit + 1 - held) piece.now }
+// Takes the first of some lines.
+fn first_of(ready: &mut Vec<Line>) -> Option<Line>
+    ensures some { IfSome result (λ line. ready.old.items ≡ line ∷ ready.new.items) }
+    ensures none { IfNone result ((ready.old.items ≡ []) × (ready.new.items ≡ [])) }
 {
-    if limit < held {
-        return &[];
+    if ready.is_empty() {
+        return None;
     }
-    let room = limit - held;
-    if room < piece.len() {
-        return &piece[..room + 1];
-    }
-    piece
+    Some(ready.remove(0))
 }

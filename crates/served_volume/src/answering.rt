@@ -21,10 +21,11 @@ ghost use Rattle.volume_step.specs.declared.outcome.Outcome.TheVariants as outco
 ghost use Rattle.served_volume.specs.Answering.{AnswersAs, IsDecidedAs, IsDecidedOrWaits, IsRefusedAs, ShrinksBy, refusal_of, refused, unless_short};
 
 use crate::fitting::look_at_command;
-use cmd_lang::{LineFault, read_line};
+use cmd_lang::{LineFault, read_line, read_valued};
 use hfs_language::{Changes, Command, Refusal, Reply};
 use hfs_serving::Ground;
 use hx_bytes::Trouble;
+use line_source::Line;
 use std::alloc::Global;
 use volume_base::Volume;
 use volume_step::{Outcome, step};
@@ -67,18 +68,30 @@ fn unless_short(alloc: Global, fresh: bool, outcome: Outcome) -> Outcome
 }
 
 /// The command that a line spells, or why it is refused.
-fn read_command(alloc: Global, line: &[u8]) -> Result<Command, Refusal>
+fn read_command(alloc: Global, line: &Line) -> Result<Command, Refusal>
     ensures command { IfOk result (λ command. command_of line.now ≡ Ok command) }
     ensures fits { IfOk result FitsCommand }
     // It is refused for what is wrong with it, or because memory is missing.
     ensures refused { IfErr result (IsRefusedAs line.now) }
 {
-    match read_line(alloc, line) {
+    match command_in(alloc, line) {
         Ok(command) => {
             look_at_command(&command);
             Ok(command)
         }
         Err(fault) => Err(refusal_of(fault)),
+    }
+}
+
+/// The command that a line spells. Where it ends in a value that is there as it is, that isn't spelled to be read.
+fn command_in(alloc: Global, line: &Line) -> Result<Command, LineFault>
+    ensures command { IfOk result (λ command. command_of line.now ≡ Ok command) }
+    ensures refused { (why : Refusal) → result ≡ Err (No why) → command_of line.now ≡ Err why }
+{
+    let (text, value) = line.parts();
+    match value {
+        None => read_line(alloc, text),
+        Some(value) => read_valued(alloc, text, value),
     }
 }
 
@@ -95,7 +108,7 @@ pub(crate) fn answer_line<P: Ground>(
     volume: &mut Volume,
     space: &mut P,
     number: u64,
-    line: &[u8],
+    line: &Line,
 ) -> Result<Outcome, Trouble>
     requires stands { StandsOver volume.old (P.SectorView.space space.old) }
     requires settled { IsTrue (P.SectorView.space space.old).tells → IsSettled volume.old (P.SectorView.space space.old).content }
@@ -128,7 +141,7 @@ fn do_command<P: Ground>(
     volume: &mut Volume,
     space: &mut P,
     number: u64,
-    line: &[u8],
+    line: &Line,
     command: &Command,
 ) -> Result<Outcome, Trouble>
     requires stands { StandsOver volume.old (P.SectorView.space space.old) }

@@ -9,6 +9,7 @@ use crate::told::{say_short, tell};
 use hfs_serving::{Ground, Next, Recalled, Step, ToTell, Volume};
 use hfs_volume::aside_is_free;
 use hx_bytes::Trouble;
+use line_source::Line;
 use std::alloc::Global;
 use volume_step::tidy;
 
@@ -48,7 +49,7 @@ impl Volume for ServedVolume {
         &mut self,
         base: &mut G,
         number: u64,
-        line: &[u8],
+        line: &Line,
         told: &mut ToTell,
     ) -> Result<Step, Trouble> {
         if self.is_elsewhere(base) {

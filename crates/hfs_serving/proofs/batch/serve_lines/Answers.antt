@@ -59,8 +59,8 @@ returns-then-not-branch-clause-goes g c tells capacity committed now shrunk stan
     let end = g.G.Ground.outside c.serve_line.new.base in
     let knows_new = g.V.Volume.knows c.serve_line.new.volume new capacity in
     let second = c.in_ok-serve_line.ensures.goes (c.loop-at.invariant.tells ∙ tells) capacity first.goes.last first.goes.next _ there in
-    lines_on capacity shrunk committed now old c.args.number c.args.lines.now c.args.told.now c.loop-at.at knows c.loop-at.told space mid first knows_new false c.as_slice.result.now c.serve_line.new.told new end c.loop-at.at (omega (arith, c.loop-at.auto.at-end)) (append-nil (take c.loop-at.at c.args.lines.now))
-    (subst (λ (b : Bool). ServesLine b capacity knows_new first.goes.last first.goes.next (shrunk_in shrunk first.goes.more) mid (c.args.number + c.loop-at.at) c.as_slice.result.now c.loop-at.told c.serve_line.new.told new end) c.if-not-branch.true second)
+    lines_on capacity shrunk committed now old c.args.number c.args.lines.now c.args.told.now c.loop-at.at knows c.loop-at.told space mid first knows_new false c.index-lines-at.result c.serve_line.new.told new end c.loop-at.at (omega (arith, c.loop-at.auto.at-end)) (append-nil (take c.loop-at.at c.args.lines.now))
+    (subst (λ (b : Bool). ServesLine b capacity knows_new first.goes.last first.goes.next (shrunk_in shrunk first.goes.more) mid (c.args.number + c.loop-at.at) c.index-lines-at.result c.loop-at.told c.serve_line.new.told new end) c.if-not-branch.true second)
 
 pub returns-then-is_sync-clause-goes : goal.returns-then-is_sync-clause-goes
 returns-then-is_sync-clause-goes g c tells capacity committed now shrunk stands =
@@ -74,9 +74,9 @@ returns-then-is_sync-clause-goes g c tells capacity committed now shrunk stands 
     let end = g.G.Ground.outside c.serve_line.new.base in
     let knows_new = g.V.Volume.knows c.serve_line.new.volume new capacity in
     let second = c.in_ok-serve_line.ensures.goes (c.loop-at.invariant.tells ∙ tells) capacity first.goes.last first.goes.next _ there in
-    let line = c.as_slice.result.now in
+    let line = c.index-lines-at.result in
     let next : take c.loop-at.at c.args.lines.now ++ line ∷ [] ≡ take (c.loop-at.at + 1) c.args.lines.now =
-    ap (λ (l : List ℕ). take c.loop-at.at c.args.lines.now ++ l ∷ []) (c.as_slice.ensures ∙ c.index-lines-at.is) ∙ sym (take_more c.args.lines.now c.loop-at.at c.index-lines-at.result c.loop-at-test.true) in
+    ap (λ (l : List ℕ). take c.loop-at.at c.args.lines.now ++ l ∷ []) (c.index-lines-at.is) ∙ sym (take_more c.args.lines.now c.loop-at.at c.index-lines-at.result c.loop-at-test.true) in
     lines_on capacity shrunk committed now old c.args.number c.args.lines.now c.args.told.now c.loop-at.at knows c.loop-at.told space mid first knows_new true line c.serve_line.new.told new end (c.loop-at.at + 1) (omega (arith, c.loop-at.auto.at-end)) next
     (subst (λ (b : Bool). ServesLine b capacity knows_new first.goes.last first.goes.next (shrunk_in shrunk first.goes.more) mid (c.args.number + c.loop-at.at) line c.loop-at.told c.serve_line.new.told new end) c.if-not-branch.false second)
 
@@ -85,9 +85,9 @@ loop-at-preserved g c = record {
   most = omega (arith, c.if-at-eq-MOST_LINES.false, c.loop-at.invariant.most);
   no_sync =
       let all = c.args.lines.now in
-      let line = c.as_slice-in-loop-at.result.now in
+      let line = c.index-lines-at-in-loop-at.result in
       let next : take c.loop-at.at all ++ line ∷ [] ≡ take (c.loop-at.at + 1) all =
-      ap (λ (l : List ℕ). take c.loop-at.at all ++ l ∷ []) (c.as_slice-in-loop-at.ensures ∙ c.index-lines-at-in-loop-at.is) ∙ sym (take_more all c.loop-at.at c.index-lines-at-in-loop-at.result c.loop-at-test.true) in
+      ap (λ (l : List ℕ). take c.loop-at.at all ++ l ∷ []) (c.index-lines-at-in-loop-at.is) ∙ sym (take_more all c.loop-at.at c.index-lines-at-in-loop-at.result c.loop-at-test.true) in
       no_sync_more all c.loop-at.at line next c.is_sync.result c.is_sync.ensures c.if-is_sync.false c.loop-at.invariant.no_sync;
   counts = counts_both c.loop-at.invariant.counts c.serve_line.ensures.faults.counts;
   anchor = c.serve_line.ensures.anchor ∙ c.loop-at.invariant.anchor;
@@ -104,9 +104,9 @@ loop-at-preserved g c = record {
       let end = g.G.Ground.outside c.serve_line.new.base in
       let knows_new = g.V.Volume.knows c.serve_line.new.volume new capacity in
       let second = c.in_ok-serve_line.ensures.goes (c.loop-at.invariant.tells ∙ tells) capacity first.goes.last first.goes.next _ there in
-      let line = c.as_slice.result.now in
+      let line = c.index-lines-at.result in
       let next : take c.loop-at.at c.args.lines.now ++ line ∷ [] ≡ take (c.loop-at.at + 1) c.args.lines.now =
-      ap (λ (l : List ℕ). take c.loop-at.at c.args.lines.now ++ l ∷ []) (c.as_slice.ensures ∙ c.index-lines-at.is) ∙ sym (take_more c.args.lines.now c.loop-at.at c.index-lines-at.result c.loop-at-test.true) in
+      ap (λ (l : List ℕ). take c.loop-at.at c.args.lines.now ++ l ∷ []) (c.index-lines-at.is) ∙ sym (take_more c.args.lines.now c.loop-at.at c.index-lines-at.result c.loop-at-test.true) in
       lines_on capacity shrunk committed now old c.args.number c.args.lines.now c.args.told.now c.loop-at.at knows c.loop-at.told space mid first knows_new true line c.serve_line.new.told new end (c.loop-at.at + 1) (omega (arith, c.loop-at.auto.at-end)) next
       (subst (λ (b : Bool). ServesLine b capacity knows_new first.goes.last first.goes.next (shrunk_in shrunk first.goes.more) mid (c.args.number + c.loop-at.at) line c.loop-at.told c.serve_line.new.told new end) c.if-not-branch.false second);
 }

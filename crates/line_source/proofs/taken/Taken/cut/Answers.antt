@@ -1,6 +1,6 @@
 use Rattle.std.proofs.Common.{sym}
 use Rattle.line_source.proofs.Pieces.{part_cut, part_whole}
-use Rattle.line_source.proofs.input.Input.cut.Goals as goal
+use Rattle.line_source.proofs.taken.Taken.cut.Goals as goal
 
 pub returns-in_ok-lengthen-in-Some-clause-cuts : goal.returns-in_ok-lengthen-in-Some-clause-cuts
 returns-in_ok-lengthen-in-Some-clause-cuts c =

@@ -1,6 +1,6 @@
 use Rattle.std.proofs.Common.{◌≡◌, ◌+◌, ◌-◌, ◌∙◌, ℕ, length, take, ap, arith}
 use Rattle.line_source.proofs.Pieces.{line_joins}
-use Rattle.line_source.proofs.input.lengthen.Goals as goal
+use Rattle.line_source.proofs.taken.lengthen.Goals as goal
 
 pub returns : goal.returns
 returns c =

@@ -1,5 +1,5 @@
 use Rattle.line_source.proofs.Pieces.{none_held, some_held, all_held}
-use Rattle.line_source.proofs.input.front.Goals as goal
+use Rattle.line_source.proofs.taken.front.Goals as goal
 
 pub returns : goal.returns
 returns c = all_held c.args.limit c.args.held c.args.piece.now c.if-room-piece.false

@@ -1,5 +1,5 @@
 use Rattle.line_source.proofs.Pieces.{none_among, no_newline_any, some_newline}
-use Rattle.line_source.proofs.input.has_newline.Goals as goal
+use Rattle.line_source.proofs.taken.has_newline.Goals as goal
 
 pub returns-in-None : goal.returns-in-None
 returns-in-None c = no_newline_any c.args.bytes.now (none_among c.args.bytes.now c.in-None.ensures)
