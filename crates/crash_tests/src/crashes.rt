@@ -5,6 +5,7 @@ use crate::runs::{AT_ONCE, PIECE, is_clean, run_in_pieces, run_lines, told_by};
 use hx_bytes::OutOfMemory;
 use mem_disk::MemImage;
 use std::alloc::Global;
+use test_kit::filling;
 
 /// A run that makes six folders, and asks after each that it is durable.
 const FOLDERS: &[u8] =
@@ -131,7 +132,7 @@ fn try_grown(
 ) -> Result<Option<Tried>, OutOfMemory> {
     let mut before = Vec::new(alloc);
     before.extend_from_slice(first)?;
-    before.extend_from_slice(&filling(alloc)?)?;
+    before.extend_from_slice(&filling(alloc, FILES)?)?;
     let mut full = Few::over(alloc, &fresh_few(alloc)?)?;
     run_lines(alloc, &mut full, &before)?;
     let start = full.rig.image(alloc, 1)?;
@@ -143,21 +144,6 @@ fn try_grown(
     }
     let tried = try_in_pieces(alloc, &start, &before, lines, PIECE, reads, choice)?;
     Ok(Some(tried))
-}
-
-// A line for each file, with a name of 254 letters, of which the last two tell it from the others.
-fn filling(alloc: Global) -> Result<Vec<u8>, OutOfMemory> {
-    let mut lines = Vec::new(alloc);
-    for file in 0..FILES {
-        lines.extend_from_slice(b"create /")?;
-        for _letter in 0..252 {
-            lines.push(b'n')?;
-        }
-        lines.push(b'a' + file / 26 % 26)?;
-        lines.push(b'a' + file % 26)?;
-        lines.push(b'\n')?;
-    }
-    Ok(lines)
 }
 
 /// All crashes of a run on a volume of which the ring was gone round before.

@@ -1,10 +1,10 @@
 //! Journals that a run refuses or replays.
 use hfsx_server::Status;
 use hx_bytes::{Order, OutOfMemory, Sector, write_be32};
-use jnl_format::{Entry, Header, ListHead, write_entry, write_header, write_list};
+use jnl_format::{Entry, Header, ListHead, write_header, write_list};
 use mem_disk::MemRig;
 use std::alloc::Global;
-use test_kit::{BASE, INFO, fresh, put, run_on, sector_of};
+use test_kit::{BASE, INFO, fresh, has_written, put, put_entry, run_on, sector_of};
 
 pub const HEADER: u64 = 2;
 
@@ -47,17 +47,9 @@ fn list_block() -> Sector {
     let mut front = [0; 32];
     write_list(&head, &none, Order::Little, 4096, &mut front);
     sector[..32].copy_from_slice(&front);
-    put_entry(&mut sector, 32, &entry(u64::MAX));
-    put_entry(&mut sector, 48, &entry(HOME));
+    put_entry(&mut sector, 32, &entry(u64::MAX), Order::Little);
+    put_entry(&mut sector, 48, &entry(HOME), Order::Little);
     sector
-}
-
-fn put_entry(sector: &mut Sector, at: usize, entry: &Entry) {
-    if at <= 496 {
-        let mut bytes = [0; 16];
-        write_entry(entry, Order::Little, &mut bytes);
-        sector[at..at + 16].copy_from_slice(&bytes);
-    }
 }
 
 /// A volume with a live journal, as `format` makes its header.
@@ -83,11 +75,6 @@ fn live(alloc: Global) -> Result<MemRig, OutOfMemory> {
 fn settled(alloc: Global, rig: &MemRig) -> Result<MemRig, OutOfMemory> {
     let image = rig.image(alloc, 1)?;
     MemRig::from_image(alloc, &image)
-}
-
-// Whether a call wrote.
-fn has_written(rig: &MemRig) -> bool {
-    (0..rig.calls()).any(|call| rig.wrote(call))
 }
 
 /// A change of a live journal, or of what leads to it.

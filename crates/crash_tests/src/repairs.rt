@@ -6,7 +6,7 @@ use hx_bytes::OutOfMemory;
 use mem_disk::{MemImage, MemRig};
 use std::alloc::Global;
 use std::test::Fail;
-use test_kit::{put, sector_of};
+use test_kit::miscount;
 
 /// How many calls of a repair that wrote are passed over between two at which it is stopped a second time.
 const STEP: u64 = 7;
@@ -27,15 +27,10 @@ struct Tried {
     wrong: Option<u64>,
 }
 
-/// A new volume whose bit of the unused block 2,000 is set, and whose header counts 7 free blocks.
+/// A new volume of which a bit and a count are wrong.
 fn miscounted(alloc: Global) -> Result<MemImage, OutOfMemory> {
     let mut rig = MemRig::from_image(alloc, &fresh_few(alloc)?)?;
-    let mut bits = sector_of(&mut rig, 8);
-    bits[250] = 0x80;
-    put(&mut rig, 8, &bits);
-    let mut header = sector_of(&mut rig, 2);
-    header[48..52].copy_from_slice(&[0, 0, 0, 7]);
-    put(&mut rig, 2, &header);
+    miscount(&mut rig);
     rig.image(alloc, 1)
 }
 

@@ -1,12 +1,11 @@
 //! Whole runs, and what a mount finds on an image.
 use crate::few::Few;
 use crate::plain::count_lines;
-use hfsx_server::{Status, hfsx};
+use hfsx_server::Status;
 use hx_bytes::OutOfMemory;
-use mem_disk::{MemImage, MemSource};
+use mem_disk::MemImage;
 use std::alloc::Global;
-use test_kit::words;
-use watchers::Watcher;
+use test_kit::run_program;
 
 /// How many bytes a take of the source gives at most: few, so that lines come in pieces, and some batches have several.
 pub const PIECE: u64 = 29;
@@ -33,23 +32,9 @@ pub fn run_in_pieces(
     input: &[u8],
     piece: u64,
 ) -> Result<Ran, OutOfMemory> {
-    let status = run_words(alloc, "run v.img", disk, input, piece)?;
+    let status = run_program(alloc, "run v.img", disk, input, piece)?;
     let lines = count_lines(disk.rig.told());
     Ok(Ran { status, lines })
-}
-
-// Runs the program with these words on a disk, with these lines.
-fn run_words(
-    alloc: Global,
-    line: &str,
-    disk: &mut Few,
-    input: &[u8],
-    piece: u64,
-) -> Result<Status, OutOfMemory> {
-    let words = words(alloc, line)?;
-    let mut source = MemSource::new(alloc, input, piece.max(1), None)?;
-    let mut watchers: Vec<Box<dyn Watcher>> = Vec::new(alloc);
-    Ok(hfsx(alloc, words.as_slice(), disk, &mut source, &mut watchers))
 }
 
 /// What a run of these lines on an image tells, if it mounts and serves them all.
@@ -69,7 +54,7 @@ pub fn told_by(
 /// Whether a check finds the volume of an image sound.
 pub fn is_clean(alloc: Global, image: &MemImage) -> Result<bool, OutOfMemory> {
     let mut disk = Few::over(alloc, image)?;
-    let status = run_words(alloc, "check v.img", &mut disk, b"", PIECE)?;
+    let status = run_program(alloc, "check v.img", &mut disk, b"", PIECE)?;
     Ok(status == Status::Done)
 }
 
@@ -82,7 +67,7 @@ pub struct Told {
 
 /// Runs a command without lines on a disk.
 pub fn told_by_words(alloc: Global, line: &str, disk: &mut Few) -> Result<Told, OutOfMemory> {
-    let status = run_words(alloc, line, disk, b"", PIECE)?;
+    let status = run_program(alloc, line, disk, b"", PIECE)?;
     let text = Vec::from_slice(alloc, disk.rig.told())?;
     Ok(Told { status, text })
 }

@@ -25,7 +25,7 @@ impl Repair {
     /// What it would do with the volume of an image.
     pub(crate) fn of<D: SectorDisk>(alloc: Global, disk: &mut D) -> Result<Repair, AllocError> {
         match find_repair(alloc, disk) {
-            Ok(Ok(found)) => Ok(Repair::Mends(found.sectors)),
+            Ok(Ok(found)) => Ok(Repair::Mends(found.sectors())),
             Ok(Err(RepairRefusal::Unsound(stay))) => Ok(Repair::Leaves(kept(alloc, &stay)?)),
             Ok(Err(RepairRefusal::TooBig { sectors, capacity })) => {
                 Ok(Repair::TooBig { sectors, capacity })

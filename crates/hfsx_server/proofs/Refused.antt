@@ -1,5 +1,5 @@
 -- An image that a repair refuses can't be repaired.
-use Rattle.std.proofs.Common.{◌≡◌, ℕ, inl, inr, sym, ◌∙◌, ap, subst, arith}
+use Rattle.std.proofs.Common.{◌≡◌, ℕ, length, inl, inr, sym, ◌∙◌, ap, subst, arith}
 use Rattle.jnl_format.specs.Recovery.{Content, Journal, replayed}
 use Rattle.jnl_replay.specs.Plan.{journal_of}
 use Rattle.jnl_store.specs.Plan.{form_of, span_of}
@@ -17,6 +17,7 @@ use Rattle.hfsx_server.specs.declared.repairing.Mendable.{Mendable}
 use Rattle.hfsx_server.specs.declared.repairing.RepairRefusal.{RepairRefusal}
 use Rattle.hfsx_server.specs.declared.repairing.RepairRefusal.TheVariants as refusal
 use Rattle.hfsx_server.proofs.Finding.{same_journal}
+use Rattle.hfsx_server.proofs.Judging.{has_sound}
 use Rattle.hfsx_server.proofs.Repaired.{holds_one, opens_one}
 
 -- a content has one repair
@@ -61,17 +62,15 @@ no_fold start sectors r = by r.repair
     by (inr stays) folds = keeps_case start (subst IsSound stays.1 r.sound) folds
 
 pub can_be : (image : Content) (found : Mendable) → IsFoundFor image found → HasRoom found → CanBeRepaired image
-can_be image found is room = (
-  is.opened.capacity,
-  replayed (journal_of found.plan) image,
-  record {
-    opens = is.opened.opens;
-    keeps_case = no_fold (replayed (journal_of found.plan) image) found.sectors is.repair;
-    repairable = record {
-      mended = is.repair.mended;
-      repair = is.repair.repair;
-      sound = is.repair.sound;
-      fits = omega (arith, is.repair.count, room.2, capacity_one (span_of found.plan) (form_of found.plan) room.0 is.opened.capacity room.1 is.opened.holds);
-    };
-  },
-)
+can_be image found is room =
+    let has = has_sound (replayed (journal_of found.plan) image) found.mend.changes.items is.repair in
+    let low = capacity_one (span_of found.plan) (form_of found.plan) room.0 is.opened.capacity room.1 is.opened.holds in
+    (
+      is.opened.capacity,
+      replayed (journal_of found.plan) image,
+      record {
+        opens = is.opened.opens;
+        keeps_case = no_fold (replayed (journal_of found.plan) image) (length found.mend.changes.items) has;
+        repairable = record { mended = has.mended; repair = has.repair; sound = has.sound; fits = omega (arith, has.count, room.2, low) };
+      },
+    )

@@ -13,6 +13,8 @@ use Rattle.hfs_volume.specs.Mount.{FoldsCase}
 use Rattle.hfs_volume.specs.Sound.{IsSound}
 use Rattle.volume_repair.specs.Differing.{differing}
 use Rattle.volume_repair.specs.Repair.{IsRepair}
+use Rattle.fsck_repair.specs.Renewing.{FitInto, IsSoundRepair}
+use Rattle.fsck_repair.specs.declared.mend.Mend.{Mend}
 use Rattle.fsck_list.specs.Kept.{IsListed}
 use Rattle.fsck_list.specs.declared.finding.Finding.{Finding}
 use Rattle.fsck_core.specs.Verdicts.{KeepsEarly}
@@ -68,7 +70,13 @@ pub record HasSoundRepair (start : Content) (sectors : ℕ) : Type 0 where
 abbrev pub IsJudged : Content → Judged → Type 0
 IsJudged start judged.CaseFolding = FoldsCase start
 IsJudged start (judged.Unsound list) = (¬ FoldsFirst start) × StaysBroken start list
-IsJudged start (judged.Sound sectors) = HasSoundRepair start sectors
+IsJudged start (judged.Sound mend) = IsSoundRepair start mend.changes.items
+
+-- the changes of a sound repair can be put where there are so many sectors
+abbrev pub CanBePut : ℕ → Judged → Type 0
+CanBePut sectors judged.CaseFolding = Unit {0}
+CanBePut sectors (judged.Unsound list) = Unit {0}
+CanBePut sectors (judged.Sound mend) = FitInto sectors mend.changes.items
 
 -- A repair finds a volume that it makes sound: a mount opens the image, keys of the catalog aren't compared with letter case folded, and what the image
 -- stands for has a sound repair, which differs in no more sectors than one transaction of the journal holds.
@@ -92,30 +100,31 @@ RefusesRepair image (refusal.TooBig sectors capacity) = (start : Content) × Ope
 abbrev pub ToldRepairRefusal : State → State → Type 0
 ToldRepairRefusal old new = (why : RepairRefusal) × RefusesRepair (content old) why × ToldUnlessFailed old new (repair_text why)
 
--- what the verdict on a repair comes to, which differs in so many sectors
-abbrev pub judged_by : Verdict → ℕ → Judged
-judged_by (verdict.Clean summary) sectors = judged.Sound sectors
-judged_by (verdict.Findings list) sectors = judged.Unsound list
+-- what the verdict on a repair comes to, which has these changes
+abbrev pub judged_by : Verdict → Mend → Judged
+judged_by (verdict.Clean summary) mend = judged.Sound mend
+judged_by (verdict.Findings list) mend = judged.Unsound list
 
 -- what a judgment comes to, where one transaction holds so many sectors
 abbrev pub found_by : Plan → ℕ → Judged → Result Mendable RepairRefusal
 found_by plan capacity judged.CaseFolding = Err refusal.CaseFolding
 found_by plan capacity (judged.Unsound list) = Err (refusal.Unsound list)
-found_by plan capacity (judged.Sound sectors) = if nat_lt capacity sectors then Err (refusal.TooBig sectors capacity) else Ok (record { plan = plan; sectors = sectors })
+found_by plan capacity (judged.Sound mend) =
+    if nat_lt capacity (length mend.changes.items) then Err (refusal.TooBig (length mend.changes.items) capacity) else Ok (record { plan = plan; mend = mend })
 
 -- one transaction of its journal holds the sectors that differ
 abbrev pub HasRoom : Mendable → Type 0
-HasRoom found = (capacity : ℕ) × IsCapacityOf found.plan capacity × (found.sectors ≤ capacity)
+HasRoom found = (capacity : ℕ) × IsCapacityOf found.plan capacity × (length found.mend.changes.items ≤ capacity)
 
 -- the status of work that was in trouble
 abbrev pub trouble_status : Trouble → Status
 trouble_status trouble.Disk = status.Disk
 trouble_status trouble.Memory = status.Memory
 
--- The image was opened with this plan of its journal, and what it stands for has a sound repair, which differs in so many sectors.
+-- The image was opened with this plan of its journal, and the changes are the repair of what it stands for, which is sound.
 pub record IsFoundFor (image : Content) (found : Mendable) : Type 0 where
   pub opened : IsOpened image found.plan
-  pub repair : HasSoundRepair (replayed (journal_of found.plan) image) found.sectors
+  pub repair : IsSoundRepair (replayed (journal_of found.plan) image) found.mend.changes.items
 
 -- ---- what it leaves
 

@@ -1,5 +1,5 @@
 // An image that is repaired.
-ghost use Rattle.std.specs.Prelude.{◌≡◌, ◌≢◌, ◌⊎◌, ◌≤◌, ◌++◌, ◌∷◌, [], ℕ, codes, IsTrue, IfOk, IfErr, IsErrOf, OnOk, true};
+ghost use Rattle.std.specs.Prelude.{◌≡◌, ◌≢◌, ◌⊎◌, ◌≤◌, ◌++◌, ◌∷◌, [], ℕ, codes, length, IsTrue, IfOk, IfErr, IsErrOf, OnOk, true};
 ghost use Rattle.hx_bytes.specs.declared.faults.Trouble.TheVariants as trouble;
 ghost use Rattle.sector_disk.specs.Cause.{Rose};
 ghost use Rattle.sector_disk.specs.Disk.{HasNothingPending, OnlyReads, SameDisk, content};
@@ -12,9 +12,10 @@ ghost use Rattle.hfs_volume.specs.Findings.{HasBytes};
 ghost use Rattle.hfs_volume.specs.Sound.{IsSound};
 ghost use Rattle.hfs_serving.specs.Refusing.{IsOpened};
 ghost use Rattle.fsck_repair.specs.Overlay.{overlaid};
+ghost use Rattle.fsck_repair.specs.Renewing.{FitInto};
 ghost use Rattle.hfsx_server.specs.Cause.{IsCause, IsCauseOf};
 ghost use Rattle.hfsx_server.specs.Checking.{Judges};
-ghost use Rattle.hfsx_server.specs.Repairing.{CanBeRepaired, HasRoom, IsFoundFor, IsJudged, IsMendableImage, KeepsImage, RefusesRepair, ToldRepairRefusal, ToldRepaired, found_by, judged_by, repair_text, repaired_text, trouble_status};
+ghost use Rattle.hfsx_server.specs.Repairing.{CanBePut, CanBeRepaired, HasRoom, IsFoundFor, IsJudged, IsMendableImage, KeepsImage, RefusesRepair, ToldRepairRefusal, ToldRepaired, found_by, judged_by, repair_text, repaired_text, trouble_status};
 ghost use Rattle.hfsx_server.specs.Telling.{Tells, refused_text};
 
 use crate::refusal::{tell_case, tell_refused};
@@ -54,23 +55,33 @@ pub enum RepairRefusal {
 enum Judged {
     CaseFolding,
     Unsound(Findings),
-    /// It is sound, and differs in so many sectors.
-    Sound(u64),
+    /// It is sound, and differs in the sectors of these changes.
+    Sound(Mend),
 }
 
-/// An image that can be repaired: the plan of its journal, and in how many sectors its repair differs.
+/// An image that can be repaired: the plan of its journal, and the sectors in which its repair differs.
 #[derive(Drop)]
 pub struct Mendable {
     pub(crate) plan: Plan,
-    pub sectors: u64,
+    pub(crate) mend: Mend,
+}
+
+impl Mendable {
+    /// In how many sectors the repair differs.
+    pub fn sectors(&self) -> u64
+        ensures { result ≡ length self.now.mend.changes.items }
+    {
+        self.mend.changes.len() as u64
+    }
 }
 
 /// Counts anew what can be counted of the volume of an image, and makes that durable in one transaction; tells in how many sectors it differed. An image
-/// that is refused isn't written.
+/// that can't be repaired isn't written, whatever the status.
 pub fn repair<R: Rig>(alloc: Global, rig: &mut R) -> Status
     ensures refused { IsTrue (R.state rig.old).tells → result ≡ Status.Refused → ToldRepairRefusal (R.state rig.old) (R.state rig.new) × ¬ CanBeRepaired (content (R.state rig.old)) }
     ensures refuses { IsTrue (R.state rig.old).tells → ¬ CanBeRepaired (content (R.state rig.old)) → (result ≡ Status.Refused) ⊎ ((result ≡ Status.Disk) ⊎ (result ≡ Status.Memory)) }
     ensures unwritten { result ≡ Status.Refused → ((R.state rig.new).candidates ≡ (R.state rig.old).candidates) × ((R.state rig.new).barriers ≡ (R.state rig.old).barriers) }
+    ensures untouched { IsTrue (R.state rig.old).tells → ¬ CanBeRepaired (content (R.state rig.old)) → ((R.state rig.new).candidates ≡ (R.state rig.old).candidates) × ((R.state rig.new).barriers ≡ (R.state rig.old).barriers) }
     ensures keeps { IsTrue (R.state rig.old).tells → HasNothingPending (R.state rig.old) → (capacity : ℕ) (start : Content) → IsMendableImage (content (R.state rig.old)) capacity start → KeepsImage capacity start (R.state rig.old) (R.state rig.new) }
     ensures done { IsTrue (R.state rig.old).tells → HasNothingPending (R.state rig.old) → (capacity : ℕ) (start : Content) → IsMendableImage (content (R.state rig.old)) capacity start → result ≡ Status.Done → ToldRepaired capacity start (R.state rig.old) (R.state rig.new) }
     ensures sound { IsTrue (R.state rig.old).tells → HasNothingPending (R.state rig.old) → (capacity : ℕ) (start : Content) → IsMendableImage (content (R.state rig.old)) capacity start → IsSound start → result ≡ Status.Done → (R.state rig.new).told ≡ (R.state rig.old).told ++ repaired_text 0 }
@@ -82,7 +93,7 @@ pub fn repair<R: Rig>(alloc: Global, rig: &mut R) -> Status
     ensures same { SameDisk (R.state rig.old) (R.state rig.new) }
 {
     match find_repair(alloc, rig) {
-        Ok(Ok(found)) => repair_found(alloc, rig, &found),
+        Ok(Ok(found)) => repair_found(alloc, rig, found),
         Ok(Err(why)) => {
             tell_repair_refusal(rig, &why);
             Status::Refused
@@ -92,11 +103,12 @@ pub fn repair<R: Rig>(alloc: Global, rig: &mut R) -> Status
 }
 
 // Repairs an image that was found, since which it was only read.
-fn repair_found<R: Rig>(alloc: Global, rig: &mut R, found: &Mendable) -> Status
-    requires fits { FitsPlan (R.state rig.old).sectors found.now.plan }
+fn repair_found<R: Rig>(alloc: Global, rig: &mut R, found: Mendable) -> Status
+    requires fits { FitsPlan (R.state rig.old).sectors found.plan }
     requires size { is_volume_size (R.state rig.old).sectors ≡ true }
-    requires holds { HasRoom found.now }
-    requires found { IsTrue (R.state rig.old).tells → IsFoundFor (content (R.state rig.old)) found.now }
+    requires holds { HasRoom found }
+    requires changes { FitInto (R.state rig.old).sectors found.mend.changes.items }
+    requires found { IsTrue (R.state rig.old).tells → IsFoundFor (content (R.state rig.old)) found }
     ensures keeps { IsTrue (R.state rig.old).tells → HasNothingPending (R.state rig.old) → (first : R) → OnlyReads (R.state first) (R.state rig.old) → (capacity : ℕ) (start : Content) → IsMendableImage (content (R.state rig.old)) capacity start
         → KeepsImage capacity start (R.state first) (R.state rig.new) }
     ensures done { IsTrue (R.state rig.old).tells → HasNothingPending (R.state rig.old) → (capacity : ℕ) (start : Content) → IsMendableImage (content (R.state rig.old)) capacity start → result ≡ Status.Done → ToldRepaired capacity start (R.state rig.old) (R.state rig.new) }
@@ -113,10 +125,11 @@ fn repair_found<R: Rig>(alloc: Global, rig: &mut R, found: &Mendable) -> Status
     sound_is_own_repair();
     aside_is_free();
     header_round_trip();
-    let Ok(line) = repaired_line(alloc, found.sectors) else {
+    let Ok(line) = repaired_line(alloc, found.sectors()) else {
         return Status::Memory;
     };
-    match mend_image(alloc, rig, &found.plan, found.sectors) {
+    let Mendable { plan, mend } = found;
+    match mend_image(alloc, rig, &plan, mend) {
         Ok(_sectors) => match tell_whole(rig, line.as_slice()) {
             Ok(()) => Status::Done,
             Err(Failed) => Status::Sink,
@@ -157,6 +170,7 @@ pub fn find_repair<D: SectorDisk>(
     ensures fits { IfOk result (λ answer. IfOk answer (λ found. FitsPlan (D.state disk.old).sectors found.plan)) }
     ensures size { IfOk result (λ answer. IfOk answer (λ _. is_volume_size (D.state disk.new).sectors ≡ true)) }
     ensures holds { IfOk result (λ answer. IfOk answer HasRoom) }
+    ensures changes { IfOk result (λ answer. IfOk answer (λ found. FitInto (D.state disk.old).sectors found.mend.changes.items)) }
     ensures reads { OnlyReads (D.state disk.old) (D.state disk.new) }
     ensures cause { IsCause trouble.Disk (D.state disk.old).faults (D.state disk.new).faults result }
 {
@@ -180,6 +194,7 @@ fn find_opened<D: SectorDisk>(
     ensures fits { IfOk result (λ answer. IfOk answer (λ found. FitsPlan (D.state disk.old).sectors found.plan)) }
     ensures size { IfOk result (λ answer. IfOk answer (λ _. is_volume_size (D.state disk.new).sectors ≡ true)) }
     ensures holds { IfOk result (λ answer. IfOk answer HasRoom) }
+    ensures changes { IfOk result (λ answer. IfOk answer (λ found. FitInto (D.state disk.old).sectors found.mend.changes.items)) }
     ensures reads { OnlyReads (D.state disk.old) (D.state disk.new) }
     ensures cause { IsCause trouble.Disk (D.state disk.old).faults (D.state disk.new).faults result }
 {
@@ -196,11 +211,12 @@ fn found_by(plan: Plan, capacity: u64, judged: Judged) -> Result<Mendable, Repai
     match judged {
         Judged::CaseFolding => Err(RepairRefusal::CaseFolding),
         Judged::Unsound(findings) => Err(RepairRefusal::Unsound(findings)),
-        Judged::Sound(sectors) => {
+        Judged::Sound(mend) => {
+            let sectors = mend.changes.len() as u64;
             if sectors > capacity {
                 return Err(RepairRefusal::TooBig { sectors, capacity });
             }
-            Ok(Mendable { plan, sectors })
+            Ok(Mendable { plan, mend })
         }
     }
 }
@@ -210,6 +226,7 @@ fn judge_peek<D: SectorDisk>(alloc: Global, disk: &mut D, peek: &Peek) -> Result
     requires size { is_volume_size (D.state disk.old).sectors ≡ true }
     requires bytes { IsTrue (D.state disk.old).tells → HasBytes (shown peek.now (D.state disk.old).sectors (content (D.state disk.old))) }
     ensures judged { IsTrue (D.state disk.old).tells → IfOk result (IsJudged (shown peek.now (D.state disk.old).sectors (content (D.state disk.old)))) }
+    ensures changes { IfOk result (CanBePut (D.state disk.old).sectors) }
     ensures reads { OnlyReads (D.state disk.old) (D.state disk.new) }
     ensures cause { IsCause trouble.Disk (D.state disk.old).faults (D.state disk.new).faults result }
 {
@@ -222,6 +239,7 @@ fn judge_view<V: SectorView>(alloc: Global, view: &mut V) -> Result<Judged, Trou
     requires size { is_volume_size (V.space view.old).sectors ≡ true }
     requires bytes { IsTrue (V.space view.old).tells → HasBytes (V.space view.old).content }
     ensures judged { IsTrue (V.space view.old).tells → IfOk result (IsJudged (V.space view.old).content) }
+    ensures changes { IfOk result (CanBePut (V.space view.old).sectors) }
     ensures names { (V.space view.new).names ≡ (V.space view.old).names }
     ensures below { V.follows view.old view.new }
     ensures disk { IsErrOf result trouble.Disk → Rose (V.space view.old).faults (V.space view.new).faults }
@@ -231,7 +249,7 @@ fn judge_view<V: SectorView>(alloc: Global, view: &mut V) -> Result<Judged, Trou
     }
     let mend = Mend::new(alloc, view)?;
     let verdict = check_through(alloc, view, &mend)?;
-    Ok(judged_by(verdict, mend.changes.len() as u64))
+    Ok(judged_by(verdict, mend))
 }
 
 // The verdict on what a view shows through changes.
@@ -251,12 +269,12 @@ fn check_through<V: SectorView>(
     check(alloc, &mut through)
 }
 
-// What the verdict on a repair comes to, which differs in so many sectors.
-fn judged_by(verdict: Verdict, sectors: u64) -> Judged
-    ensures { result ≡ judged_by verdict sectors }
+// What the verdict on a repair comes to, which has these changes.
+fn judged_by(verdict: Verdict, mend: Mend) -> Judged
+    ensures { result ≡ judged_by verdict mend }
 {
     match verdict {
-        Verdict::Clean(_) => Judged::Sound(sectors),
+        Verdict::Clean(_) => Judged::Sound(mend),
         Verdict::Findings(findings) => Judged::Unsound(findings),
     }
 }

@@ -107,6 +107,9 @@ pub fn hfsx<R: Rig, S: LineSource, W: Watcher>(
     ensures repair_refused { AreRepair (texts words.now) → IsTrue (R.state rig.old).tells → result ≡ Status.Refused → ToldRepairRefusal (R.state rig.old) (R.state rig.new) × ¬ CanBeRepaired (content (R.state rig.old)) }
     ensures repair_refuses { AreRepair (texts words.now) → IsTrue (R.state rig.old).tells → ¬ CanBeRepaired (content (R.state rig.old))
         → (result ≡ Status.Refused) ⊎ ((result ≡ Status.Disk) ⊎ (result ≡ Status.Memory)) }
+    // It isn't written, whatever the status.
+    ensures repair_unwritten { AreRepair (texts words.now) → IsTrue (R.state rig.old).tells → ¬ CanBeRepaired (content (R.state rig.old))
+        → ((R.state rig.new).candidates ≡ (R.state rig.old).candidates) × ((R.state rig.new).barriers ≡ (R.state rig.old).barriers) }
     // From an image with nothing pending that can be repaired, whatever ends it and whenever power fails: each image that a crash may leave is found to
     // be what the image stood for or its sound repair, and the repair once its line was told, but in the journal, in its info block and in the last
     // mounted version.

@@ -1,12 +1,11 @@
 // How many barriers and device calls a run makes.
 use crate::counting::Counting;
-use hfsx_server::{Status, hfsx};
+use hfsx_server::Status;
 use hx_bytes::OutOfMemory;
-use mem_disk::{MemRig, MemSource};
+use mem_disk::MemRig;
 use std::alloc::{AllocError, Global};
 use std::test::Fail;
-use test_kit::{fresh_rig, run_on, words};
-use watchers::Watcher;
+use test_kit::{filling, fresh_rig, run_on, run_program};
 
 const LINES: &[u8] =
     b"mkdir /d0\nsync\nmkdir /d1\nsync\nmkdir /d2\nsync\nmkdir /d3\nsync\nmkdir /d4\nsync\nmkdir /d5\nsync\nmkdir /d6\nsync\nmkdir /d7\nsync\nmkdir /d8\nsync\nmkdir /d9\nsync\n";
@@ -17,21 +16,17 @@ const LINES: &[u8] =
 fn a_run_calls_two_barriers_a_commit(rt: HostRuntime) -> Result<(), Fail> {
     let alloc = rt.alloc();
     let mut rig = Counting::over(fresh_rig(alloc)?);
-    let mut source = MemSource::new(alloc, LINES, 64, None)?;
-    let words = words(alloc, "run v.img")?;
-    let mut watchers: Vec<Box<dyn Watcher>> = Vec::new(alloc);
     assert_eq!(rt;
-        hfsx(
-            alloc,
-            words.as_slice(),
-            &mut rig,
-            &mut source,
-            &mut watchers
-        ),
+        run_program(alloc, "run v.img", &mut rig, LINES, 64)?,
         Status::Done
     );
     assert_eq!(rt; rig.barriers, 28);
     Ok(())
+}
+
+// Serves lines that come at once; answers how the run ended.
+fn run_at_once(alloc: Global, rig: &mut Counting, lines: &[u8]) -> Result<Status, OutOfMemory> {
+    run_program(alloc, "run v.img", rig, lines, 65_536)
 }
 
 // A line so many times.
@@ -57,19 +52,7 @@ fn lines_that_come_at_once_share_their_barriers(rt: HostRuntime) -> Result<(), F
         input.push(b'\n')?;
     }
     let mut rig = Counting::over(fresh_rig(alloc)?);
-    let mut source = MemSource::new(alloc, &input, 65_536, None)?;
-    let words = words(alloc, "run v.img")?;
-    let mut watchers: Vec<Box<dyn Watcher>> = Vec::new(alloc);
-    assert_eq!(rt;
-        hfsx(
-            alloc,
-            words.as_slice(),
-            &mut rig,
-            &mut source,
-            &mut watchers
-        ),
-        Status::Done
-    );
+    assert_eq!(rt; run_at_once(alloc, &mut rig, &input)?, Status::Done);
     assert_eq!(rt; rig.rig.told(), repeated(alloc, b"ok\n", 40)?.as_slice());
     assert!(rt; rig.barriers <= 12);
     Ok(())
@@ -94,29 +77,6 @@ fn more_lines_that_read_the_same_make_no_more_calls(rt: HostRuntime) -> Result<(
     Ok(())
 }
 
-// Serves lines that come at once; answers how the run ended.
-fn run_at_once(alloc: Global, rig: &mut Counting, lines: &[u8]) -> Result<Status, OutOfMemory> {
-    let mut source = MemSource::new(alloc, lines, 65_536, None)?;
-    let words = words(alloc, "run v.img")?;
-    let mut watchers: Vec<Box<dyn Watcher>> = Vec::new(alloc);
-    Ok(hfsx(alloc, words.as_slice(), rig, &mut source, &mut watchers))
-}
-
-// A line for each of 80 files, with a name of 254 letters, of which the last two tell it from the others.
-fn filling(alloc: Global) -> Result<Vec<u8>, AllocError> {
-    let mut lines = Vec::new(alloc);
-    for file in 0..80u8 {
-        lines.extend_from_slice(b"create /")?;
-        for _letter in 0..252 {
-            lines.push(b'n')?;
-        }
-        lines.push(b'a' + file / 26 % 26)?;
-        lines.push(b'a' + file % 26)?;
-        lines.push(b'\n')?;
-    }
-    Ok(lines)
-}
-
 const GROWING: &[u8] = b"mkdir /d\ncreate /d/x\nwrite /d/x 0 =y\nsync\ndf\n";
 
 // The catalog, which those files fill, grows ahead of the first line. That is made durable by the commit of its batch: there is no barrier more
@@ -125,7 +85,7 @@ const GROWING: &[u8] = b"mkdir /d\ncreate /d/x\nwrite /d/x 0 =y\nsync\ndf\n";
 fn a_tree_grows_in_the_commit_of_its_batch(rt: HostRuntime) -> Result<(), Fail> {
     let alloc = rt.alloc();
     let mut full = fresh_rig(alloc)?;
-    let ended = run_on(alloc, "run v.img", &mut full, &filling(alloc)?)?;
+    let ended = run_on(alloc, "run v.img", &mut full, &filling(alloc, 80)?)?;
     assert_eq!(rt; ended, Status::Done);
     let mut grown = Counting::over(MemRig::from_image(alloc, &full.image(alloc, 1)?)?);
     let mut other = Counting::over(fresh_rig(alloc)?);

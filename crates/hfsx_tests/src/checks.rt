@@ -4,7 +4,7 @@ use hx_bytes::OutOfMemory;
 use mem_disk::MemRig;
 use std::alloc::Global;
 use std::test::Fail;
-use test_kit::{fresh_rig, put, run_on, sector_of};
+use test_kit::{fresh_rig, has_written, put, run_on, sector_of, set_bytes};
 
 const CLEAN: &str = "clean files 2 folders 0 blocks 2048 free 1692\n";
 
@@ -14,24 +14,6 @@ fn finds(alloc: Global, rig: &mut MemRig, status: Status, told: &str) -> Result<
     let mut checked = MemRig::from_image(alloc, &image)?;
     let ended = run_on(alloc, "check v.img", &mut checked, b"")?;
     Ok(ended == status && checked.told() == told.as_bytes() && !has_written(&checked))
-}
-
-fn has_written(rig: &MemRig) -> bool {
-    for call in 0..rig.calls() {
-        if rig.wrote(call) {
-            return true;
-        }
-    }
-    false
-}
-
-// Changes a byte of an image.
-fn set(rig: &mut MemRig, sector: u64, byte: usize, value: u8) {
-    let mut bytes = sector_of(rig, sector);
-    if byte < 512 {
-        bytes[byte] = value;
-    }
-    put(rig, sector, &bytes);
 }
 
 #[test]
@@ -119,7 +101,7 @@ fn a_live_journal_is_looked_through(rt: HostRuntime) -> Result<(), Fail> {
 fn a_bit_that_is_set_is_found(rt: HostRuntime) -> Result<(), Fail> {
     let alloc = rt.alloc();
     let mut rig = fresh_rig(alloc)?;
-    set(&mut rig, 8, 250, 0x80);
+    set_bytes(&mut rig, 8, 250, &[0x80]);
     assert!(rt;
         finds(
             alloc,
@@ -135,8 +117,8 @@ fn a_bit_that_is_set_is_found(rt: HostRuntime) -> Result<(), Fail> {
 fn a_count_that_is_wrong_is_found(rt: HostRuntime) -> Result<(), Fail> {
     let alloc = rt.alloc();
     let mut rig = fresh_rig(alloc)?;
-    set(&mut rig, 2, 50, 0);
-    set(&mut rig, 2, 51, 5);
+    set_bytes(&mut rig, 2, 50, &[0]);
+    set_bytes(&mut rig, 2, 51, &[5]);
     assert!(rt;
         finds(
             alloc,
@@ -152,7 +134,7 @@ fn a_count_that_is_wrong_is_found(rt: HostRuntime) -> Result<(), Fail> {
 fn a_locked_volume_is_checked(rt: HostRuntime) -> Result<(), Fail> {
     let alloc = rt.alloc();
     let mut rig = fresh_rig(alloc)?;
-    set(&mut rig, 2, 6, 0xA1);
+    set_bytes(&mut rig, 2, 6, &[0xA1]);
     assert!(rt; finds(alloc, &mut rig, Status::Done, CLEAN)?);
     Ok(())
 }
@@ -173,7 +155,7 @@ fn what_stands_for_no_volume_is_refused(rt: HostRuntime) -> Result<(), Fail> {
     );
     // The journal's info block says another device.
     let mut other = fresh_rig(alloc)?;
-    set(&mut other, 16, 3, 2);
+    set_bytes(&mut other, 16, 3, &[2]);
     assert!(rt; finds(alloc, &mut other, Status::Refused, "refused OtherDevice\n")?);
     Ok(())
 }

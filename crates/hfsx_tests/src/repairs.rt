@@ -4,7 +4,7 @@ use hx_bytes::OutOfMemory;
 use mem_disk::MemRig;
 use std::alloc::Global;
 use std::test::Fail;
-use test_kit::{fresh, fresh_rig, put, run_on, sector_of};
+use test_kit::{fresh, fresh_rig, has_written, miscount, put, run_on, sector_of, set_bytes};
 
 const CLEAN: &str = "clean files 2 folders 0 blocks 2048 free 1692\n";
 
@@ -27,14 +27,10 @@ fn command(alloc: Global, line: &str, rig: &mut MemRig) -> Result<Ended, OutOfMe
     let image = rig.image(alloc, 1)?;
     *rig = MemRig::from_image(alloc, &image)?;
     let status = run_on(alloc, line, rig, b"")?;
-    let mut wrote = false;
-    for call in 0..rig.calls() {
-        wrote = wrote || rig.wrote(call);
-    }
     Ok(Ended {
         status,
         told: Vec::from_slice(alloc, rig.told())?,
-        wrote,
+        wrote: has_written(rig),
     })
 }
 
@@ -56,22 +52,10 @@ fn refuses(alloc: Global, rig: &mut MemRig, told: &str) -> Result<bool, OutOfMem
     Ok(ended.status == Status::Refused && ended.told.as_slice() == told.as_bytes() && !ended.wrote)
 }
 
-// Changes bytes of an image.
-fn set(rig: &mut MemRig, sector: u64, from: usize, bytes: &[u8]) {
-    let mut changed = sector_of(rig, sector);
-    for (k, byte) in bytes.iter().enumerate() {
-        if from < 512 && k < 512 - from {
-            changed[from + k] = *byte;
-        }
-    }
-    put(rig, sector, &changed);
-}
-
-// The bit of the unused block 2,000 is set, and the header counts 7 free blocks.
+// A new volume of which a bit and a count are wrong.
 fn miscounted(alloc: Global) -> Result<MemRig, OutOfMemory> {
     let mut rig = fresh_rig(alloc)?;
-    set(&mut rig, 8, 250, &[0x80]);
-    set(&mut rig, 2, 48, &[0, 0, 0, 7]);
+    miscount(&mut rig);
     Ok(rig)
 }
 
@@ -104,7 +88,7 @@ fn a_zeroed_alternate_header_and_a_valence_are_repaired(rt: HostRuntime) -> Resu
     let mut rig = fresh_rig(alloc)?;
     assert_eq!(rt; &sector_of(&mut rig, LEAF)[42..46], [0, 0, 0, 2].as_slice());
     put(&mut rig, ALTERNATE, &[0; 512]);
-    set(&mut rig, LEAF, 42, &[0, 0, 0, 5]);
+    set_bytes(&mut rig, LEAF, 42, &[0, 0, 0, 5]);
     assert!(rt; repairs(alloc, &mut rig, "repaired 2\n")?);
     assert!(rt; is_new(alloc, &mut rig)?);
     Ok(())
@@ -115,8 +99,8 @@ fn a_zeroed_alternate_header_and_a_valence_are_repaired(rt: HostRuntime) -> Resu
 fn the_copy_of_the_header_counts_right(rt: HostRuntime) -> Result<(), Fail> {
     let alloc = rt.alloc();
     let mut rig = miscounted(alloc)?;
-    set(&mut rig, 2, 32, &[0, 0, 0, 9, 0, 0, 0, 9]);
-    set(&mut rig, ALTERNATE, 43, &[1]);
+    set_bytes(&mut rig, 2, 32, &[0, 0, 0, 9, 0, 0, 0, 9]);
+    set_bytes(&mut rig, ALTERNATE, 43, &[1]);
     assert!(rt; repairs(alloc, &mut rig, "repaired 3\n")?);
     assert!(rt; is_new(alloc, &mut rig)?);
     Ok(())
@@ -127,7 +111,7 @@ fn the_copy_of_the_header_counts_right(rt: HostRuntime) -> Result<(), Fail> {
 fn an_alternate_header_that_agrees_stays(rt: HostRuntime) -> Result<(), Fail> {
     let alloc = rt.alloc();
     let mut rig = fresh_rig(alloc)?;
-    set(&mut rig, ALTERNATE, 32, &[0, 0, 0, 9]);
+    set_bytes(&mut rig, ALTERNATE, 32, &[0, 0, 0, 9]);
     let old = sector_of(&mut rig, ALTERNATE);
     assert!(rt; repairs(alloc, &mut rig, "repaired 0\n")?);
     assert_eq!(rt; sector_of(&mut rig, ALTERNATE), old);
@@ -148,8 +132,8 @@ fn a_sound_volume_stays(rt: HostRuntime) -> Result<(), Fail> {
 fn bits_behind_the_last_block_are_cleared(rt: HostRuntime) -> Result<(), Fail> {
     let alloc = rt.alloc();
     let mut rig = fresh_rig(alloc)?;
-    set(&mut rig, 8, 256, &[0x80]);
-    set(&mut rig, 15, 511, &[1]);
+    set_bytes(&mut rig, 8, 256, &[0x80]);
+    set_bytes(&mut rig, 15, 511, &[1]);
     assert!(rt; repairs(alloc, &mut rig, "repaired 2\n")?);
     assert!(rt; is_new(alloc, &mut rig)?);
     Ok(())
@@ -173,8 +157,8 @@ fn links_and_entries_are_counted(rt: HostRuntime) -> Result<(), Fail> {
         [0, 20, 0, 0, 0, 20, 0, 7, 0, 0x69].as_slice()
     );
     assert_eq!(rt; &sector[468..472], [0, 0, 0, 3].as_slice());
-    set(&mut rig, LEAF + 3, 468, &[0, 0, 0, 0]);
-    set(&mut rig, LEAF, 42, &[0xFF, 0xFF, 0xFF, 0xFF]);
+    set_bytes(&mut rig, LEAF + 3, 468, &[0, 0, 0, 0]);
+    set_bytes(&mut rig, LEAF, 42, &[0xFF, 0xFF, 0xFF, 0xFF]);
     let ended = command(alloc, "repair v.img", &mut rig)?;
     assert_eq!(rt; ended.status, Status::Done);
     assert_eq!(rt; ended.told.as_slice(), b"repaired 2\n".as_slice());
@@ -188,7 +172,7 @@ fn links_and_entries_are_counted(rt: HostRuntime) -> Result<(), Fail> {
 fn a_field_that_nothing_counts_is_told(rt: HostRuntime) -> Result<(), Fail> {
     let alloc = rt.alloc();
     let mut rig = fresh_rig(alloc)?;
-    set(&mut rig, 2, 64, &[0, 0, 0, 5]);
+    set_bytes(&mut rig, 2, 64, &[0, 0, 0, 5]);
     assert!(rt; refuses(alloc, &mut rig, "S1 64 5 16\nfindings 1\n")?);
     Ok(())
 }
@@ -201,7 +185,7 @@ fn a_finding_that_stays_keeps_all_as_it_is(rt: HostRuntime) -> Result<(), Fail> 
     // The thread of the root is one of a file.
     let at = thread_of_the_root(&mut rig);
     assert!(rt; at < 500);
-    set(&mut rig, LEAF, at, &[0, 4]);
+    set_bytes(&mut rig, LEAF, at, &[0, 4]);
     let ended = command(alloc, "repair v.img", &mut rig)?;
     assert_eq!(rt; ended.status, Status::Refused);
     assert!(rt; ended.told.starts_with(b"S9 2 "));
@@ -226,14 +210,14 @@ fn an_image_that_no_run_mounts_is_refused(rt: HostRuntime) -> Result<(), Fail> {
     let mut zeros = MemRig::new(alloc, 16_384)?;
     assert!(rt; refuses(alloc, &mut zeros, "refused NotHfsx 0 0\n")?);
     let mut locked = miscounted(alloc)?;
-    set(&mut locked, 2, 6, &[0xA1]);
+    set_bytes(&mut locked, 2, 6, &[0xA1]);
     assert!(rt; refuses(alloc, &mut locked, "refused SoftwareLocked\n")?);
     let mut other = miscounted(alloc)?;
-    set(&mut other, 16, 3, &[2]);
+    set_bytes(&mut other, 16, 3, &[2]);
     assert!(rt; refuses(alloc, &mut other, "refused OtherDevice\n")?);
     // The catalog's header node compares keys with case folded.
     let mut folding = miscounted(alloc)?;
-    set(&mut folding, 2_328, 51, &[0xCF]);
+    set_bytes(&mut folding, 2_328, 51, &[0xCF]);
     assert!(rt; refuses(alloc, &mut folding, "refused CaseFolding\n")?);
     Ok(())
 }
@@ -251,7 +235,7 @@ fn a_live_journal_is_replayed_first(rt: HostRuntime) -> Result<(), Fail> {
     assert_eq!(rt; run_on(alloc, "run v.img", &mut rig, lines)?, Status::Disk);
     let image = rig.image(alloc, 1)?;
     let mut left = MemRig::from_image(alloc, &image)?;
-    set(&mut left, 8, 250, &[0x80]);
+    set_bytes(&mut left, 8, 250, &[0x80]);
     let ended = command(alloc, "repair v.img", &mut left)?;
     assert_eq!(rt; ended.status, Status::Done);
     assert_eq!(rt; ended.told.as_slice(), b"repaired 1\n".as_slice());
@@ -266,7 +250,7 @@ fn a_live_journal_is_replayed_first(rt: HostRuntime) -> Result<(), Fail> {
 fn a_volume_of_another_system_is_repaired(rt: HostRuntime) -> Result<(), Fail> {
     let alloc = rt.alloc();
     let mut rig = miscounted(alloc)?;
-    set(&mut rig, 2, 8, b"10.0");
+    set_bytes(&mut rig, 2, 8, b"10.0");
     assert!(rt; repairs(alloc, &mut rig, "repaired 2\n")?);
     assert!(rt; is_new(alloc, &mut rig)?);
     Ok(())

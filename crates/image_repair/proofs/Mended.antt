@@ -1,15 +1,6 @@
 -- Contents on the way of a repair, and what a crash leaves of them.
-use Rattle.std.proofs.Common.{◌≡◌, ◌⊎◌, ◌≤◌, ℕ, None, length, inl, inr, ⊎_elim, sym, ◌∙◌, ap, subst, arith, Bool, true, false, not, List, [], ◌∷◌, zero, suc, cond, refl, Contains, ◌+◌}
-use Rattle.std.specs.List.{count_by, range_with_len}
-use Rattle.std.specs.Str.{bytes_eq}
-use Rattle.std.proofs.lemmas.Bool.{not-false}
-use Rattle.std.proofs.lemmas.List.Sums.{sum_by-cons}
-use Rattle.std.proofs.lemmas.List.{ext_get_or}
-use Rattle.std.proofs.lemmas.Slice.Eq.{bytes_eq-Decides}
-use Rattle.hfs_volume.proofs.BlockWants.{in_range}
-use Rattle.volume_repair.proofs.Remounted.{may_again}
-use Rattle.volume_repair.proofs.Repairing.{mendable, same_size}
-use Rattle.std.specs.Prelude.{◌↔◌, IsTrue}
+use Rattle.std.proofs.Common.{◌≡◌, ◌⊎◌, ℕ, None, List, length, inl, inr, ⊎_elim, refl, sym, ◌∙◌, ap, subst, arith}
+use Rattle.std.specs.Prelude.{◌↔◌, Contains, IsTrue}
 use Rattle.std.specs.Int.{bit_at}
 use Rattle.sector_disk.specs.Clock.{TimePasses}
 use Rattle.sector_disk.specs.Disk.{IsDisk, State}
@@ -26,9 +17,12 @@ use Rattle.jnl_store.specs.declared.store.Store.{Store}
 use Rattle.hfs_volume.specs.Aside.{IsJournalSector}
 use Rattle.hfs_volume.specs.Content.{journal_place, volume_of}
 use Rattle.hfs_volume.specs.Sound.{IsSound}
-use Rattle.volume_repair.specs.Differing.{Differs, differing}
+use Rattle.volume_repair.specs.Differing.{differing}
 use Rattle.volume_repair.specs.Remount.{IsRemounted, IsSameButCounts, RepairStaysRemounted, StaysRemounted}
-use Rattle.volume_repair.specs.Repair.{IsRepair, mended}
+use Rattle.volume_repair.specs.Repair.{IsRepair}
+use Rattle.fsck_repair.specs.Overlay.{overlaid, places_of}
+use Rattle.fsck_repair.specs.Renewing.{IsMountOf, IsSoundRepair}
+use Rattle.fsck_repair.specs.declared.mend.Change.{Change}
 use Rattle.hfs_serving.specs.Grounds.{IsInService, KeepsHeading}
 use Rattle.hfs_serving.specs.Outside.{Outside, outside_of}
 use Rattle.hfs_serving.specs.Readying.{StandsMounted}
@@ -38,7 +32,7 @@ use Rattle.hfs_serving.specs.Stages.{MayLeave}
 use Rattle.hfs_serving.proofs.Agreeing.{agrees_both, agrees_more}
 use Rattle.hfs_serving.proofs.Grounding.{heads_on, seen_outside}
 use Rattle.hfs_serving.proofs.Mounted.{leaves_on}
-use Rattle.image_repair.specs.Mending.{IsBroughtHome, IsCountOf, IsRepairable, ShowsMounted, StandsEither, StandsRepaired}
+use Rattle.image_repair.specs.Mending.{IsBroughtHome, IsCountOf, ShowsMounted, StandsEither, StandsRepaired}
 
 -- a sound content's header is accepted
 accepted_is : (content : Content) → IsSound content → header_refusal (header_of_volume content) (length content) ≡ None
@@ -69,53 +63,32 @@ lies_on : (now mended : Content) → IsSameButCounts (header_of_volume now) (hea
 unfolding volume_of
 lies_on now mended same info = ap (λ (h : VolumeHeader). journal_place (sector mended (info_sector_of h))) same ∙ ap journal_place info
 
--- ---- a content that differs in no sector from its repair
+-- a content is mounted as it is
+self_mounted : (start : Content) → IsRemounted start start
+unfolding volume_of
+self_mounted start = record { size = refl; header = refl; names = refl; each = λ at not_two. inl refl }
 
-counts_first : (p : ℕ → Bool) (y : ℕ) (l : List ℕ) → count_by p (y ∷ l) ≡ cond (p y) 1 0 + count_by p l
-counts_first p y l = sum_by-cons (λ x. cond (p x) 1 0) y l
+module _ (law : RepairStaysRemounted) (start : Content) (changes : List Change) (space : Space) (outside : Outside) (shows : ShowsMounted start space outside) (may : IsSoundRepair start changes) where
+  stays : (other : Content) → IsRepair space.content other → StaysRemounted start (overlaid changes start) space.content other
+  stays other is = law start (overlaid changes start) space.content other shows.start_bytes.bytes shows.read_bytes.bytes shows.start_bytes.header shows.read_bytes.header may.repair may.sound shows.mounted is
 
-zero_each : (p : ℕ → Bool) (l : List ℕ) (x : ℕ) → count_by p l ≡ 0 → Contains l x → p x ≡ false
-zero_each p [] x none (k, low, is) = absurd (omega (arith, low))
-zero_each p (y ∷ l) x none (zero, low, is) = subst (λ v. p v ≡ false) is (by (p y) refl)
-  where
-    by : (b : Bool) → p y ≡ b → p y ≡ false
-    by false same = same
-    by true same = absurd (omega (arith, none, counts_first p y l, ap {B = ℕ} (λ b. cond b 1 0) same))
-zero_each p (y ∷ l) x none (suc k, low, is) = zero_each p l x (omega (arith, none, counts_first p y l)) (k, omega (arith, low), is)
-
-none_differs : (content other : Content) → length other ≡ length content → differing content other ≡ 0 → other ≡ content
-none_differs content other size none =
-    ext_get_or [] other content size (λ at below.
-    (bytes_eq-Decides (sector other at) (sector content at)).0
-    (not-false (bytes_eq (sector other at) (sector content at)) (zero_each (λ k. not (bytes_eq (sector other k) (sector content k))) (range_with_len 0 (length content)) at none (in_range 0 (length content) at (omega arith) (omega (arith, below, size))))))
-
--- a remounted content has a repair
-has_repair : (content repaired now : Content) → length (sector content 2) ≡ 512 → IsRepair content repaired → IsSound repaired → IsRemounted content now → IsRepair now (mended now)
-has_repair content repaired now long repair sound re = by repair
-  where
-    by : IsRepair content repaired → IsRepair now (mended now)
-    by (inl (may, is)) = inl (may_again content now may long (subst IsSound is sound) re, refl)
-    by (inr (cannot, same)) = absurd (cannot (mendable content (subst IsSound same sound)))
-
-module _ (law : RepairStaysRemounted) (start : Content) (sectors : ℕ) (space : Space) (outside : Outside) (shows : ShowsMounted start space outside) (may : IsRepairable sectors start) where
-  stays : (other : Content) → IsRepair space.content other → StaysRemounted start may.mended space.content other
-  stays other is = law start may.mended space.content other shows.start_bytes.bytes shows.read_bytes.bytes shows.start_bytes.header shows.read_bytes.header may.repair may.sound shows.mounted is
+  pub mount_is : IsMountOf start space.content
+  mount_is = record {
+    start_bytes = shows.start_bytes.bytes;
+    now_bytes = shows.read_bytes.bytes;
+    start_header = shows.start_bytes.header;
+    now_header = shows.read_bytes.header;
+    mounted = shows.mounted;
+  }
 
   -- ---- what a repair asks for
 
-  pub open_is : (other : Content) (at : ℕ) → IsRepair space.content other → Differs space.content other at → space.closed at → ⊥
-  open_is other at is differs closed = differs ((stays other is).journal at (shows.closed at closed))
-
-  pub enough_is : (other : Content) → IsRepair space.content other → differing space.content other ≤ sectors
-  enough_is other is = omega (arith, (stays other is).count, may.fits)
-
-  -- where it differs in no sector, the content is its own repair
-  pub idle_is : sectors ≡ 0 → IsRepair space.content space.content
-  idle_is none =
-      let has = has_repair start may.mended space.content shows.start_bytes.header may.repair may.sound shows.mounted in
-      let size = same_size space.content (mended space.content) has in
-      let count : differing space.content (mended space.content) ≡ 0 = omega (arith, (stays (mended space.content) has).count, may.fits, none) in
-      subst (λ (x : Content). IsRepair space.content x) (none_differs space.content (mended space.content) size count) has
+  -- no sector of the journal differs
+  pub open_is : (at : ℕ) → Contains (places_of changes) at → space.closed at → ⊥
+  open_is at stands closed =
+      may.each at stands
+      ((law start (overlaid changes start) start (overlaid changes start) shows.start_bytes.bytes shows.start_bytes.bytes shows.start_bytes.header shows.start_bytes.header may.repair may.sound (self_mounted start) may.repair).journal at
+      (shows.closed at closed))
 
   -- so many differ of the content itself too
   pub count_is : (other : Content) (count : ℕ) → IsRepair space.content other → count ≡ differing space.content other → IsCountOf start count
@@ -225,13 +198,13 @@ pub three_leave : (start : Content) (first mid last end : Outside) → MayLeave 
 three_leave start first mid last end one two three = leaves_on (StandsEither start) first mid end one (leaves_on (StandsEither start) mid last end two three)
 
 -- the puts of a store's space, seen from outside
-module _ (law : RepairStaysRemounted) (start : Content) (sectors a b p q : ℕ) (store after : Store) (disk now : State) (capacity : ℕ) (is : IsDisk now) (follows : SpaceFollows store disk after now) (serves : IsInService store disk capacity) (tells : IsTrue (over a b store disk).tells)
-    (shows : ShowsMounted start (over a b store disk) (outside_of (plan_of store) disk)) (may : IsRepairable sectors start) where
+module _ (law : RepairStaysRemounted) (start : Content) (changes : List Change) (a b p q : ℕ) (store after : Store) (disk now : State) (capacity : ℕ) (is : IsDisk now) (follows : SpaceFollows store disk after now) (serves : IsInService store disk capacity) (tells : IsTrue (over a b store disk).tells)
+    (shows : ShowsMounted start (over a b store disk) (outside_of (plan_of store) disk)) (may : IsSoundRepair start changes) where
   pub stage_put : (same : (over p q after now).durable ≡ (over a b store disk).durable) (spilled : (s : ℕ) → (over p q after now).spilled s ↔ (over a b store disk).spilled s) (closed : (s : ℕ) → (over p q after now).closed s ↔ (over a b store disk).closed s)
       → TimePasses (over a b store disk).clock (over p q after now).clock (LeavesDurable (over p q after now)) → (over p q after now).told ≡ (over a b store disk).told → MayLeave (StandsEither start) (outside_of (plan_of store) disk) (outside_of (plan_of after) now)
   stage_put same spilled closed time told =
       let space = over a b store disk in
       let new = over p q after now in
       let outside = outside_of (plan_of store) disk in
-      put_leaves law start sectors space outside shows may new same spilled closed (outside_of (plan_of after) now)
-      (seen_outside start a b p q store after disk now capacity is follows serves tells (put_touches law start sectors space outside shows may new same spilled closed time told))
+      put_leaves law start changes space outside shows may new same spilled closed (outside_of (plan_of after) now)
+      (seen_outside start a b p q store after disk now capacity is follows serves tells (put_touches law start changes space outside shows may new same spilled closed time told))

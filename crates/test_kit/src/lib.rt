@@ -2,14 +2,16 @@
 //! and whole runs of the program.
 #![tactic(auto)]
 
+mod damage;
 mod finding;
 mod lists;
 mod runs;
 mod sectors;
 mod volumes;
 
+pub use damage::miscount;
 pub use finding::find_plan;
-pub use lists::{list_block, list_of, sealed_header, sealed_list, with_number};
-pub use runs::{fresh, fresh_rig, run_on, words};
-pub use sectors::{put, sector_of};
+pub use lists::{list_block, list_of, put_entry, sealed_header, sealed_list, with_number};
+pub use runs::{filling, fresh, fresh_rig, run_on, run_program, words};
+pub use sectors::{has_written, put, sector_of, set_bytes};
 pub use volumes::{BASE, INFO, header_block, info_block, volume_header};

@@ -31,8 +31,8 @@ pub fn list_of(order: Order, blocks: &[Entry], used: u32, next: u32) -> Sector {
     sector
 }
 
-/// Writes an entry at a place.
-fn put_entry(sector: &mut Sector, at: usize, entry: &Entry, order: Order) {
+/// Writes an entry at a place, if it fits there.
+pub fn put_entry(sector: &mut Sector, at: usize, entry: &Entry, order: Order) {
     if at <= 496 {
         let mut bytes = [0; 16];
         write_entry(entry, order, &mut bytes);

@@ -2,6 +2,7 @@
 use hfsx_server::{Status, hfsx};
 use hx_bytes::OutOfMemory;
 use mem_disk::{MemImage, MemRig, MemSource};
+use sector_disk::Rig;
 use std::alloc::{AllocError, Global};
 use watchers::Watcher;
 
@@ -24,8 +25,19 @@ pub fn run_on(
     rig: &mut MemRig,
     input: &[u8],
 ) -> Result<Status, OutOfMemory> {
+    run_program(alloc, line, rig, input, PIECE)
+}
+
+/// The same on any rig, with lines that come in pieces of so many bytes, at least one.
+pub fn run_program<R: Rig>(
+    alloc: Global,
+    line: &str,
+    rig: &mut R,
+    input: &[u8],
+    piece: u64,
+) -> Result<Status, OutOfMemory> {
     let words = words(alloc, line)?;
-    let mut source = MemSource::new(alloc, input, PIECE, None)?;
+    let mut source = MemSource::new(alloc, input, piece.max(1), None)?;
     let mut watchers: Vec<Box<dyn Watcher>> = Vec::new(alloc);
     Ok(hfsx(alloc, words.as_slice(), rig, &mut source, &mut watchers))
 }
@@ -41,4 +53,19 @@ pub fn fresh(alloc: Global) -> Result<MemImage, OutOfMemory> {
 pub fn fresh_rig(alloc: Global) -> Result<MemRig, OutOfMemory> {
     let image = fresh(alloc)?;
     MemRig::from_image(alloc, &image)
+}
+
+/// A line for each of so many files, with a name of 254 letters, of which the last two tell it from the others.
+pub fn filling(alloc: Global, files: u8) -> Result<Vec<u8>, AllocError> {
+    let mut lines = Vec::new(alloc);
+    for file in 0..files {
+        lines.extend_from_slice(b"create /")?;
+        for _letter in 0..252 {
+            lines.push(b'n')?;
+        }
+        lines.push(b'a' + file / 26 % 26)?;
+        lines.push(b'a' + file % 26)?;
+        lines.push(b'\n')?;
+    }
+    Ok(lines)
 }

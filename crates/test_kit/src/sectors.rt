@@ -18,3 +18,19 @@ pub fn sector_of(rig: &mut MemRig, at: u64) -> Sector {
     }
     sector
 }
+
+/// Changes the bytes of a sector from this one on, as many as fit.
+pub fn set_bytes(rig: &mut MemRig, sector: u64, from: usize, bytes: &[u8]) {
+    let mut changed = sector_of(rig, sector);
+    for (k, byte) in bytes.iter().enumerate() {
+        if from < 512 && k < 512 - from {
+            changed[from + k] = *byte;
+        }
+    }
+    put(rig, sector, &changed);
+}
+
+/// Whether a device call wrote.
+pub fn has_written(rig: &MemRig) -> bool {
+    (0..rig.calls()).any(|call| rig.wrote(call))
+}

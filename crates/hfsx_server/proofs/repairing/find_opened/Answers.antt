@@ -1,4 +1,4 @@
-use Rattle.std.proofs.Common.{sym, ◌∙◌, subst}
+use Rattle.std.proofs.Common.{ℕ, sym, ◌∙◌, subst}
 use Rattle.std.specs.Prelude.{IfErr, IfOk, Result}
 use Rattle.sector_disk.specs.Disk.{content}
 use Rattle.jnl_format.specs.Recovery.{Content, replayed}
@@ -8,10 +8,11 @@ use Rattle.hfs_volume.specs.Findings.{HasBytes}
 use Rattle.hfs_serving.proofs.Attachable.{capacity_one}
 use Rattle.hfs_serving.proofs.ContentBytes.{content_bytes, replayed_bytes}
 use Rattle.hfs_serving.proofs.Peeks.{shown_as}
-use Rattle.hfsx_server.specs.Repairing.{IsFoundFor, IsJudged, RefusesRepair}
+use Rattle.fsck_repair.specs.Renewing.{FitInto}
+use Rattle.hfsx_server.specs.Repairing.{CanBePut, IsFoundFor, IsJudged, RefusesRepair}
 use Rattle.hfsx_server.specs.declared.repairing.Mendable.{Mendable}
 use Rattle.hfsx_server.specs.declared.repairing.RepairRefusal.{RepairRefusal}
-use Rattle.hfsx_server.proofs.Judging.{found_is, refused_is}
+use Rattle.hfsx_server.proofs.Judging.{found_is, found_put, refused_is}
 use Rattle.hfsx_server.proofs.repairing.find_opened.Goals as goal
 
 pub judge_peek-requires-clause-bytes : goal.judge_peek-requires-clause-bytes
@@ -55,3 +56,9 @@ returns-clause-refused g c tells =
     let most = c.capacity-most.result in
     let same = capacity_one (span_of plan) (form_of plan) most opened.capacity c.capacity-most.ensures opened.holds in
     subst (λ (r : Result Mendable RepairRefusal). IfErr r (RefusesRepair image)) (sym c.found_by.ensures) (refused_is image plan most opened same c.in_ok-judged.judged judged)
+
+pub returns-clause-changes : goal.returns-clause-changes
+returns-clause-changes g c =
+    let n0 = (g.D.SectorDisk.state c.args.disk.now).sectors in
+    let fit = subst (λ (n : ℕ). CanBePut n c.in_ok-judged.judged) c.new.ensures.reads.same.sectors c.in_ok-judged.ensures.changes in
+    subst (λ (r : Result Mendable RepairRefusal). IfOk r (λ found. FitInto n0 found.mend.changes.items)) (sym c.found_by.ensures) (found_put c.args.plan c.capacity-most.result n0 c.in_ok-judged.judged fit)

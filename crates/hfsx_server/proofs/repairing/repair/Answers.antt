@@ -30,6 +30,16 @@ returns-in-Ok-Ok-clause-refuses g c tells none =
     let is = subst (λ answer. IfOk answer (IsFoundFor c0)) c.in-Ok-Ok.field-0-is (c.in-Ok-Ok.ensures.found tells) in
     absurd (none (can_be c0 c.in-Ok-Ok.found is (subst (λ answer. IfOk answer HasRoom) c.in-Ok-Ok.field-0-is c.in-Ok-Ok.ensures.holds)))
 
+pub returns-in-Ok-Ok-clause-untouched : goal.returns-in-Ok-Ok-clause-untouched
+returns-in-Ok-Ok-clause-untouched g c tells none =
+    let s0 = g.R.SectorDisk.state c.args.rig.now in
+    let s1 = g.R.SectorDisk.state c.find_repair.new.disk in
+    let reads = c.find_repair.ensures.reads in
+    let c0 = content s0 in
+    let same = reads_content s0 s1 reads in
+    let is = subst (λ answer. IfOk answer (IsFoundFor c0)) c.in-Ok-Ok.field-0-is (c.in-Ok-Ok.ensures.found tells) in
+    absurd (none (can_be c0 c.in-Ok-Ok.found is (subst (λ answer. IfOk answer HasRoom) c.in-Ok-Ok.field-0-is c.in-Ok-Ok.ensures.holds)))
+
 pub returns-in-Ok-Ok-clause-keeps : goal.returns-in-Ok-Ok-clause-keeps
 returns-in-Ok-Ok-clause-keeps g c tells settled capacity start mendable =
     let s0 = g.R.SectorDisk.state c.args.rig.now in

@@ -355,6 +355,9 @@ returns-then-sectors-clause-repair_refused g c repair tells is = absurd (no_form
 pub returns-then-sectors-clause-repair_refuses : goal.returns-then-sectors-clause-repair_refuses
 returns-then-sectors-clause-repair_refuses g c repair tells none = absurd (no_format_of_repair (texts c.args.words.now) c.in-Ok-Format.sectors repair (named (texts c.args.words.now) _ _ c.in-Ok-Format.field-0-is c.in-Ok-Format.ensures.work))
 
+pub returns-then-sectors-clause-repair_unwritten : goal.returns-then-sectors-clause-repair_unwritten
+returns-then-sectors-clause-repair_unwritten g c repair tells none = absurd (no_format_of_repair (texts c.args.words.now) c.in-Ok-Format.sectors repair (named (texts c.args.words.now) _ _ c.in-Ok-Format.field-0-is c.in-Ok-Format.ensures.work))
+
 pub returns-then-sectors-clause-repair_keeps : goal.returns-then-sectors-clause-repair_keeps
 returns-then-sectors-clause-repair_keeps g c repair tells settled capacity start mendable = absurd (no_format_of_repair (texts c.args.words.now) c.in-Ok-Format.sectors repair (named (texts c.args.words.now) _ _ c.in-Ok-Format.field-0-is c.in-Ok-Format.ensures.work))
 
@@ -369,6 +372,9 @@ returns-else-sectors-clause-repair_refused g c repair tells is = absurd (no_form
 
 pub returns-else-sectors-clause-repair_refuses : goal.returns-else-sectors-clause-repair_refuses
 returns-else-sectors-clause-repair_refuses g c repair tells none = absurd (no_format_of_repair (texts c.args.words.now) c.in-Ok-Format.sectors repair (named (texts c.args.words.now) _ _ c.in-Ok-Format.field-0-is c.in-Ok-Format.ensures.work))
+
+pub returns-else-sectors-clause-repair_unwritten : goal.returns-else-sectors-clause-repair_unwritten
+returns-else-sectors-clause-repair_unwritten g c repair tells none = absurd (no_format_of_repair (texts c.args.words.now) c.in-Ok-Format.sectors repair (named (texts c.args.words.now) _ _ c.in-Ok-Format.field-0-is c.in-Ok-Format.ensures.work))
 
 pub returns-else-sectors-clause-repair_keeps : goal.returns-else-sectors-clause-repair_keeps
 returns-else-sectors-clause-repair_keeps g c repair tells settled capacity start mendable = absurd (no_format_of_repair (texts c.args.words.now) c.in-Ok-Format.sectors repair (named (texts c.args.words.now) _ _ c.in-Ok-Format.field-0-is c.in-Ok-Format.ensures.work))
@@ -385,6 +391,9 @@ returns-in-Ok-Run-clause-repair_refused g c repair tells is = absurd (no_run_of_
 pub returns-in-Ok-Run-clause-repair_refuses : goal.returns-in-Ok-Run-clause-repair_refuses
 returns-in-Ok-Run-clause-repair_refuses g c repair tells none = absurd (no_run_of_repair (texts c.args.words.now) repair (named (texts c.args.words.now) _ _ c.in-Ok-Run.field-0-is c.in-Ok-Run.ensures.work))
 
+pub returns-in-Ok-Run-clause-repair_unwritten : goal.returns-in-Ok-Run-clause-repair_unwritten
+returns-in-Ok-Run-clause-repair_unwritten g c repair tells none = absurd (no_run_of_repair (texts c.args.words.now) repair (named (texts c.args.words.now) _ _ c.in-Ok-Run.field-0-is c.in-Ok-Run.ensures.work))
+
 pub returns-in-Ok-Run-clause-repair_keeps : goal.returns-in-Ok-Run-clause-repair_keeps
 returns-in-Ok-Run-clause-repair_keeps g c repair tells settled capacity start mendable = absurd (no_run_of_repair (texts c.args.words.now) repair (named (texts c.args.words.now) _ _ c.in-Ok-Run.field-0-is c.in-Ok-Run.ensures.work))
 
@@ -399,6 +408,9 @@ returns-in-Ok-Check-clause-repair_refused g c repair tells is = absurd (no_check
 
 pub returns-in-Ok-Check-clause-repair_refuses : goal.returns-in-Ok-Check-clause-repair_refuses
 returns-in-Ok-Check-clause-repair_refuses g c repair tells none = absurd (no_check_of_repair (texts c.args.words.now) repair (named (texts c.args.words.now) _ _ c.in-Ok-Check.field-0-is c.in-Ok-Check.ensures.work))
+
+pub returns-in-Ok-Check-clause-repair_unwritten : goal.returns-in-Ok-Check-clause-repair_unwritten
+returns-in-Ok-Check-clause-repair_unwritten g c repair tells none = absurd (no_check_of_repair (texts c.args.words.now) repair (named (texts c.args.words.now) _ _ c.in-Ok-Check.field-0-is c.in-Ok-Check.ensures.work))
 
 pub returns-in-Ok-Check-clause-repair_keeps : goal.returns-in-Ok-Check-clause-repair_keeps
 returns-in-Ok-Check-clause-repair_keeps g c repair tells settled capacity start mendable = absurd (no_check_of_repair (texts c.args.words.now) repair (named (texts c.args.words.now) _ _ c.in-Ok-Check.field-0-is c.in-Ok-Check.ensures.work))
@@ -415,6 +427,9 @@ returns-in-Ok-Gen-clause-repair_refused g c repair tells is = absurd (no_repair_
 pub returns-in-Ok-Gen-clause-repair_refuses : goal.returns-in-Ok-Gen-clause-repair_refuses
 returns-in-Ok-Gen-clause-repair_refuses g c repair tells none = absurd (no_repair_of_gen (texts c.args.words.now) _ _ repair (named (texts c.args.words.now) _ _ c.in-Ok-Gen.field-0-is c.in-Ok-Gen.ensures.work))
 
+pub returns-in-Ok-Gen-clause-repair_unwritten : goal.returns-in-Ok-Gen-clause-repair_unwritten
+returns-in-Ok-Gen-clause-repair_unwritten g c repair tells none = absurd (no_repair_of_gen (texts c.args.words.now) _ _ repair (named (texts c.args.words.now) _ _ c.in-Ok-Gen.field-0-is c.in-Ok-Gen.ensures.work))
+
 pub returns-in-Ok-Gen-clause-repair_keeps : goal.returns-in-Ok-Gen-clause-repair_keeps
 returns-in-Ok-Gen-clause-repair_keeps g c repair tells settled capacity start mendable = absurd (no_repair_of_gen (texts c.args.words.now) _ _ repair (named (texts c.args.words.now) _ _ c.in-Ok-Gen.field-0-is c.in-Ok-Gen.ensures.work))
 
@@ -430,6 +445,9 @@ returns-in-Ok-Wrong-clause-repair_refused g c repair tells is = absurd ((named (
 pub returns-in-Ok-Wrong-clause-repair_refuses : goal.returns-in-Ok-Wrong-clause-repair_refuses
 returns-in-Ok-Wrong-clause-repair_refuses g c repair tells none = absurd ((named (texts c.args.words.now) _ _ c.in-Ok-Wrong.field-0-is c.in-Ok-Wrong.ensures.work).2 repair)
 
+pub returns-in-Ok-Wrong-clause-repair_unwritten : goal.returns-in-Ok-Wrong-clause-repair_unwritten
+returns-in-Ok-Wrong-clause-repair_unwritten g c repair tells none = absurd ((named (texts c.args.words.now) _ _ c.in-Ok-Wrong.field-0-is c.in-Ok-Wrong.ensures.work).2 repair)
+
 pub returns-in-Ok-Wrong-clause-repair_keeps : goal.returns-in-Ok-Wrong-clause-repair_keeps
 returns-in-Ok-Wrong-clause-repair_keeps g c repair tells settled capacity start mendable = absurd ((named (texts c.args.words.now) _ _ c.in-Ok-Wrong.field-0-is c.in-Ok-Wrong.ensures.work).2 repair)
 
@@ -444,6 +462,9 @@ returns-in-Format-clause-repair_refused g c repair tells is = absurd (no_format_
 
 pub returns-in-Format-clause-repair_refuses : goal.returns-in-Format-clause-repair_refuses
 returns-in-Format-clause-repair_refuses g c repair tells none = absurd (no_format_of_repair (texts c.args.words.now) c.in-Format.sectors repair c.in-Format.ensures)
+
+pub returns-in-Format-clause-repair_unwritten : goal.returns-in-Format-clause-repair_unwritten
+returns-in-Format-clause-repair_unwritten g c repair tells none = absurd (no_format_of_repair (texts c.args.words.now) c.in-Format.sectors repair c.in-Format.ensures)
 
 pub returns-in-Format-clause-repair_keeps : goal.returns-in-Format-clause-repair_keeps
 returns-in-Format-clause-repair_keeps g c repair tells settled capacity start mendable = absurd (no_format_of_repair (texts c.args.words.now) c.in-Format.sectors repair c.in-Format.ensures)
@@ -522,6 +543,9 @@ returns-in-Ok-Repair-clause-repair_refused g c repair tells is = c.repair.ensure
 
 pub returns-in-Ok-Repair-clause-repair_refuses : goal.returns-in-Ok-Repair-clause-repair_refuses
 returns-in-Ok-Repair-clause-repair_refuses g c repair tells none = c.repair.ensures.refuses tells none
+
+pub returns-in-Ok-Repair-clause-repair_unwritten : goal.returns-in-Ok-Repair-clause-repair_unwritten
+returns-in-Ok-Repair-clause-repair_unwritten g c repair tells none = c.repair.ensures.untouched tells none
 
 pub returns-in-Ok-Repair-clause-repair_keeps : goal.returns-in-Ok-Repair-clause-repair_keeps
 returns-in-Ok-Repair-clause-repair_keeps g c repair tells settled capacity start mendable = c.repair.ensures.keeps tells settled capacity start mendable
