@@ -66,7 +66,7 @@ fn answer_next<P: SectorSpace, A: Asker>(
     }
 }
 
-// The reply to a command.
+// The reply to a command: a refusal of one that is not allowed.
 fn answer<P: SectorSpace>(
     alloc: Global,
     volume: &mut Volume,
@@ -78,25 +78,9 @@ fn answer<P: SectorSpace>(
     ensures looked { Looked P.SectorView.space P.SectorView.follows volume.old volume.new space.old space.new result }
     ensures serves { Serves volume.new (P.SectorView.space space.new) }
 {
-    if allows(command) {
-        return answer_allowed(alloc, volume, space, command);
+    if !allows(command) {
+        return Ok(Reply::No(Refusal::BadCommand));
     }
-    Ok(Reply::No(Refusal::BadCommand))
-}
-
-// The reply to a command that is allowed.
-fn answer_allowed<P: SectorSpace>(
-    alloc: Global,
-    volume: &mut Volume,
-    space: &mut P,
-    command: &Command,
-) -> Result<Reply, Trouble>
-    requires serves { Serves volume.old (P.SectorView.space space.old) }
-    requires allowed { IsTrue (allows command.now) }
-    ensures reply { IsTrue (P.SectorView.space space.old).tells → IfOk result (λ reply. reply ≡ reply_to (capacity_of volume.old) (P.SectorView.space space.old).content (taken command.now)) }
-    ensures looked { Looked P.SectorView.space P.SectorView.follows volume.old volume.new space.old space.new result }
-    ensures serves { Serves volume.new (P.SectorView.space space.new) }
-{
     look_at_command(command);
     match volume.tell(alloc, space, command)? {
         Some(reply) => Ok(reply),
