@@ -64,8 +64,7 @@ no_fold start sectors r = by r.repair
 pub can_be : (image : Content) (found : Mendable) → IsFoundFor image found → HasRoom found → CanBeRepaired image
 can_be image found is room =
     let has = has_sound (replayed (journal_of found.plan) image) found.mend.changes.items is.repair in
-    let low = capacity_one (span_of found.plan) (form_of found.plan) room.0 is.opened.capacity room.1 is.opened.holds in
-    (
+    let low = capacity_one (span_of found.plan) (form_of found.plan) room.0 is.opened.capacity room.1 is.opened.holds in (
       is.opened.capacity,
       replayed (journal_of found.plan) image,
       record {

@@ -4,7 +4,7 @@ use hx_bytes::OutOfMemory;
 use mem_disk::MemRig;
 use std::alloc::Global;
 use std::test::Fail;
-use test_kit::{fresh_rig, has_written, put, run_on, sector_of, set_bytes};
+use test_kit::{fresh_rig, has_written, run_on, set_bytes};
 
 const CLEAN: &str = "clean files 2 folders 0 blocks 2048 free 1692\n";
 
