@@ -1,9 +1,11 @@
 //! A line on a volume in service.
-ghost use Rattle.std.specs.Prelude.{◌≡◌, ◌≢◌, ◌⊎◌, ◌<◌, ◌==◌, ℕ, true, IsTrue, IfErr, IfOk, Ok, OnOk};
+ghost use Rattle.std.specs.Prelude.{◌≡◌, ◌≢◌, ◌⊎◌, ◌<◌, ◌==◌, ℕ, true, IsTrue, IfErr, IfOk, Err, Ok, OnOk};
 ghost use Rattle.jnl_format.specs.Recovery.{Content};
 ghost use Rattle.sector_disk.specs.Space.{SameSpace};
 ghost use Rattle.btree_edit.specs.Causes.{HasTroubleCause};
+ghost use Rattle.cmd_lang.specs.declared.fault.LineFault.TheVariants.{No};
 ghost use Rattle.hfs_language.specs.Language.{command_of};
+ghost use Rattle.hfs_language.specs.declared.refusal.Refusal.{Refusal};
 ghost use Rattle.hfs_language.specs.Written.{FitsCommand};
 ghost use Rattle.hfs_model.specs.Step.{only_reads};
 ghost use Rattle.hfs_volume.specs.Aside.{IsJournalSector};
