@@ -275,3 +275,9 @@ returns-in-Refused-clause-settled g c tells = c.judge.ensures.serves.settled (c.
 
 pub returns-in-CommitFirst-clause-settled : goal.returns-in-CommitFirst-clause-settled
 returns-in-CommitFirst-clause-settled g c tells = c.judge.ensures.serves.settled (c.judge.ensures.looked.reads.looks.same.tells ∙ tells)
+
+pub returns-in-CutFirst-clause-settled : goal.returns-in-CutFirst-clause-settled
+returns-in-CutFirst-clause-settled g c tells = c.cut_first.ensures.settled (c.judge.ensures.looked.reads.looks.same.tells ∙ tells)
+
+pub returns-in-Grows-clause-settled : goal.returns-in-Grows-clause-settled
+returns-in-Grows-clause-settled g c tells = c.grow_first.ensures.settled (c.judge.ensures.looked.reads.looks.same.tells ∙ tells)
