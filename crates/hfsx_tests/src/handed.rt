@@ -2,8 +2,8 @@
 use cmd_lang::{push_value, read_value};
 use files_talk::{Job, LineList, Lines, Talk};
 use hfsx_server::{Status, hfsx};
-use hx_bytes::OutOfMemory;
-use mem_disk::MemRig;
+use hx_bytes::{Bytes, OutOfMemory};
+use mem_disk::{MemImage, MemRig};
 use std::alloc::{AllocError, Global};
 use std::test::Fail;
 use test_kit::{fresh_rig, run_on, words};
@@ -13,19 +13,24 @@ use watchers::Watcher;
 #[derive(Drop)]
 struct Script<'t> {
     alloc: Global,
-    text: &'t [u8],
+    text: &'t str,
     at_once: usize,
 }
 
 impl<'t> Script<'t> {
     // Asks the next line.
     fn ask_one(&mut self, lines: &mut LineList) -> Result<(), AllocError> {
-        let (line, rest) = match self.text.iter().position(|byte| *byte == b'\n') {
-            Some(at) => (&self.text[..at], &self.text[at + 1..]),
-            None => (self.text, b"".as_slice()),
-        };
-        self.text = rest;
-        ask_line(self.alloc, line, lines)
+        match self.text.split_once('\n') {
+            Some((line, rest)) => {
+                self.text = rest;
+                ask_line(self.alloc, line, lines)
+            }
+            None => {
+                let line = self.text;
+                self.text = "";
+                ask_line(self.alloc, line, lines)
+            }
+        }
     }
 }
 
@@ -46,29 +51,36 @@ impl<'t> Job for Script<'t> {
 }
 
 // Asks a line, of which the last word may be the text of a value.
-fn ask_line(alloc: Global, line: &[u8], lines: &mut LineList) -> Result<(), AllocError> {
-    if let Some(space) = line.iter().rposition(|byte| *byte == b' ') {
-        let (head, word) = (&line[..space + 1], &line[space + 1..]);
-        if word.starts_with(b"=".as_slice()) {
-            match read_value(alloc, word) {
-                Ok(Some(value)) => {
-                    lines.push(head)?;
-                    return lines.end_with_value(value.as_slice());
-                }
-                Ok(None) => {}
-                Err(OutOfMemory) => return Err(AllocError),
+fn ask_line(alloc: Global, line: &str, lines: &mut LineList) -> Result<(), AllocError> {
+    if let Some((head, word)) = line.rsplit_once(' ') {
+        match value_of(alloc, word) {
+            Ok(Some(value)) => {
+                lines.push(head.as_bytes())?;
+                lines.push(b" ")?;
+                return lines.end_with_value(value.as_slice());
             }
+            Ok(None) => {}
+            Err(OutOfMemory) => return Err(AllocError),
         }
     }
-    lines.push(line)?;
+    lines.push(line.as_bytes())?;
     lines.end()
+}
+
+// The value that a word spells, if it spells one.
+fn value_of(alloc: Global, word: &str) -> Result<Option<Bytes>, OutOfMemory> {
+    if word.starts_with('=') {
+        read_value(alloc, word.as_bytes())
+    } else {
+        Ok(None)
+    }
 }
 
 // Runs the program on lines that are handed over.
 fn run_handed(
     alloc: Global,
     rig: &mut MemRig,
-    text: &[u8],
+    text: &str,
     at_once: usize,
 ) -> Result<Status, OutOfMemory> {
     let words = words(alloc, "run v.img")?;
@@ -83,27 +95,36 @@ fn run_handed(
     );
     let mut source = Lines::new(&talk);
     let mut watchers: Vec<Box<dyn Watcher>> = Vec::new(alloc);
-    Ok(hfsx(
-        alloc,
-        words.as_slice(),
-        rig,
-        &mut source,
-        &mut watchers,
-    ))
+    Ok(hfsx(alloc, words.as_slice(), rig, &mut source, &mut watchers))
 }
 
 // Whether these lines have the same replies and leave the same image as texts and with values that are handed over.
-fn is_as_text(alloc: Global, text: &[u8], at_once: usize) -> Result<bool, OutOfMemory> {
+fn is_as_text(alloc: Global, text: &str, at_once: usize) -> Result<bool, OutOfMemory> {
     let mut wanted = fresh_rig(alloc)?;
-    let ended = run_on(alloc, "run v.img", &mut wanted, text)?;
+    let ended = run_on(alloc, "run v.img", &mut wanted, text.as_bytes())?;
     let mut rig = fresh_rig(alloc)?;
     let handed = run_handed(alloc, &mut rig, text, at_once)?;
     let image = wanted.image(alloc, 1)?;
     let left = rig.image(alloc, 1)?;
-    Ok(ended == Status::Done
-        && handed == Status::Done
-        && rig.told() == wanted.told()
-        && left.sectors.as_slice() == image.sectors.as_slice())
+    Ok(
+        ended == Status::Done
+            && handed == Status::Done
+            && rig.told() == wanted.told()
+            && are_same(&left, &image),
+    )
+}
+
+// Whether two images have the same sectors.
+fn are_same(one: &MemImage, other: &MemImage) -> bool {
+    if one.sectors.len() != other.sectors.len() {
+        return false;
+    }
+    for at in 0..one.sectors.len() {
+        if one.sectors[at] != other.sectors[at] {
+            return false;
+        }
+    }
+    true
 }
 
 #[test]
@@ -119,7 +140,7 @@ fn handed_lines_are_answered_as_their_texts(rt: HostRuntime) -> Result<(), Fail>
         "create /f\nwrite /f 0 =%61\nwrite /f 0 =%0a\nwrite /f 0 %00\nwrite /f 0 =%\n\nread /f 0 9\n",
     ] {
         for at_once in [1, 3, 100] {
-            assert!(rt; is_as_text(alloc, text.as_bytes(), at_once)?);
+            assert!(rt; is_as_text(alloc, text, at_once)?);
         }
     }
     Ok(())
@@ -129,24 +150,32 @@ fn handed_lines_are_answered_as_their_texts(rt: HostRuntime) -> Result<(), Fail>
 #[test]
 fn handed_values_are_written_byte_for_byte(rt: HostRuntime) -> Result<(), Fail> {
     let alloc = rt.alloc();
-    let mut all = Vec::new(alloc);
-    for byte in 0..=255u8 {
-        all.push(byte)?;
-    }
     let mut text = Vec::from_slice(alloc, b"create /f\n")?;
-    push_write(&mut text, all.as_slice())?;
+    push_write(&mut text, all_bytes(alloc)?.as_slice())?;
     for (byte, count) in [
-        (b'x', 139_988),
+        (b'x', 139_988usize),
         (b'x', 139_989),
-        (0u8, 46_662),
-        (0u8, 46_663),
+        (0, 46_662),
+        (0, 46_663),
     ] {
         let value = vec![in alloc; byte; count]?;
         push_write(&mut text, value.as_slice())?;
     }
     text.extend_from_slice(b"stat /f\nread /f 0 65536\n")?;
-    assert!(rt; is_as_text(alloc, text.as_slice(), 100)?);
+    match str::from_utf8(text.as_slice()) {
+        Ok(text) => assert!(rt; is_as_text(alloc, text, 100)?),
+        Err(_) => assert!(rt; false),
+    }
     Ok(())
+}
+
+// Each byte once.
+fn all_bytes(alloc: Global) -> Result<Vec<u8>, AllocError> {
+    let mut all = Vec::new(alloc);
+    for byte in 0..256u16 {
+        all.push(byte as u8)?;
+    }
+    Ok(all)
 }
 
 // Appends the line that writes a value at the front of a file.
