@@ -14,8 +14,6 @@ mod formats;
 #[cfg(test)]
 mod growths;
 #[cfg(test)]
-mod handed;
-#[cfg(test)]
 mod lines;
 #[cfg(test)]
 mod looks;
