@@ -14,7 +14,7 @@ import re
 import struct
 import unicodedata
 
-LINE, READ, SIZE, GROWTH, LINKS, VALUE = 140000, 65536, 2**40, 1048576, 32767, 1700
+LINE, READ, SIZE, LINKS, VALUE = 140000, 65536, 2**40, 32767, 1700
 NAME, ATTRIBUTE_NAME = 255, 127
 PRIVATE = ("\0\0\0\0HFS+ Private Data".encode("utf-16-be"), ".journal".encode("utf-16-be"), ".journal_info_block".encode("utf-16-be"))
 NUMBER, MODE, VALUE_TEXT = re.compile(rb"0|[1-9][0-9]*"), re.compile(rb"[0-7]{1,4}"), re.compile(rb"=(?:[!-$&-~]++|%(?:[01][0-9A-F]|20|25|7F|[89A-F][0-9A-F]))*+")
@@ -22,6 +22,10 @@ NUMBER, MODE, VALUE_TEXT = re.compile(rb"0|[1-9][0-9]*"), re.compile(rb"[0-7]{1,
 
 class No(Exception):
     """A refusal, as the text behind `no`."""
+
+
+class Vast(Exception):
+    """A file that grows past what this tree holds in memory."""
 
 
 # ---- names
@@ -168,6 +172,8 @@ class Plain:
     def __init__(self, next_id=18, has_private=False):
         self.root = Node(2, True)
         self.next, self.has_private, self.moment = next_id, has_private, 0
+        # the most bytes of a file that are held
+        self.most = 2**30
 
     def copied(self):
         """Another tree that is the same."""
@@ -244,16 +250,17 @@ class Plain:
         if file.folder:
             raise No("IsFolder")
 
-        def change():
-            above, _ = self.place(path)
-            del above.entries[path[-1]]
-            file.names -= 1
-            file.attribute = self.moment
-            if not file.names:
-                self.keep_private()
-            self.touch(above)
+        return b"ok", lambda: self.unname(path, file)
 
-        return b"ok", change
+    def unname(self, path, file):
+        """A file loses the name that a path ends in."""
+        above, _ = self.place(path)
+        del above.entries[path[-1]]
+        file.names -= 1
+        file.attribute = self.moment
+        if not file.names:
+            self.keep_private()
+        self.touch(above)
 
     def rmdir(self, path):
         if not path:
@@ -276,12 +283,16 @@ class Plain:
             raise No("Root")
         it = self.reached(one)
         above, found = self.place(other)
-        if found:
+        if found and (it.folder or found.folder):
             raise No("Exists")
-        if other[: len(one)] == one:
+        if other[: len(one)] == one and len(other) > len(one):
             raise No("Inside")
+        if found is it:
+            return b"ok", lambda: None
 
         def change():
+            if found:
+                self.unname(other, found)
             old, _ = self.place(one)
             del old.entries[one[-1]]
             above.entries[other[-1]] = it
@@ -321,8 +332,10 @@ class Plain:
             raise No("IsFolder")
         return file
 
-    def sized(self, file, data):
+    def sized(self, file, size, data):
         def change():
+            if size > self.most:
+                raise Vast
             file.data = data()
             self.touch(file)
 
@@ -332,19 +345,15 @@ class Plain:
         file = self.file(path)
         if start + len(value) > SIZE or len(value) > READ:
             raise No("TooLarge")
-        if value and start + len(value) > len(file.data) + GROWTH:
-            raise No("GrowLimit")
         if not value:
             return b"ok", lambda: None
-        return self.sized(file, lambda: file.data[:start].ljust(start, b"\0") + value + file.data[start + len(value) :])
+        return self.sized(file, start + len(value), lambda: file.data[:start].ljust(start, b"\0") + value + file.data[start + len(value) :])
 
     def trunc(self, path, size):
         file = self.file(path)
         if size > SIZE:
             raise No("TooLarge")
-        if size > len(file.data) + GROWTH:
-            raise No("GrowLimit")
-        return self.sized(file, lambda: file.data[:size].ljust(size, b"\0"))
+        return self.sized(file, size, lambda: file.data[:size].ljust(size, b"\0"))
 
     def chmod(self, path, mode):
         node = self.reached(path)

@@ -108,6 +108,8 @@ class Volume:
         self.sectors, self.block, self.journal, self.node, self.spare, self.filled = sectors, block, journal, node, spare, filled
         self.total = sectors * 512 // block
         self.next, self.entries, self.attributes, self.overflow, self.data = 16, {}, [], [], []
+        # The extents of blocks that no record of the catalog and no special file but the startup file has, and the startup file's bytes.
+        self.kept, self.startup = [], b""
         self.front = -(-1536 // block)
         self.bitmap = (self.front, -(-self.total // (8 * block)))
         self.info = (sum(self.bitmap), 1)
@@ -252,7 +254,12 @@ class Volume:
             forks.append(fork_bytes(size, self.block, extents))
             for number, data in tree.nodes:
                 found += self.spread(extents, number * self.node, data)
-        found += [(start * self.block, data) for start, data in self.data]
+        startup = fork_bytes(0, self.block, [])
+        if self.startup:
+            extents, size = self.fork(self.startup, 1)
+            self.kept += extents
+            startup = fork_bytes(size, self.block, extents)
+        found += [(place * self.block, data) for place, data in self.data]
         last = (self.sectors * 512 - 1024) // self.block
         assert self.free <= last, "the volume is full"
         bits = bytearray(self.bitmap[1] * self.block)
@@ -262,6 +269,7 @@ class Volume:
             for extents, _ in it["forks"] or []:
                 used += extents
         used += [extent for key, value in self.overflow if key[0] == 5 for extent in value]
+        used += self.kept
         used = sorted(set(used))
         count = 0
         for start, blocks in used:
@@ -278,7 +286,7 @@ class Volume:
         header = struct.pack(">HHI4sI4I", 0x4858, 5, 0x2100 if self.mounted == b"HFSJ" else 0x2000, self.mounted, self.info[0], self.moment, self.moment, 0, 0)
         header += struct.pack(">9I", files, len(self.entries) - files - 1, self.block, self.total, self.total - count, self.free, self.block, self.block, self.next)
         header += struct.pack(">IQ", 0, 1) + bytes(32)
-        header += fork_bytes(self.bitmap[1] * self.block, self.block, [self.bitmap]) + forks[0] + forks[2] + forks[1] + fork_bytes(0, self.block, [])
+        header += fork_bytes(self.bitmap[1] * self.block, self.block, [self.bitmap]) + forks[0] + forks[2] + forks[1] + startup
         assert len(header) == 512
         found += [(1024, header), (self.sectors * 512 - 1024, header)]
         return found

@@ -38,7 +38,14 @@ def edits_of(plain, verb, words):
             return 0, 2, 0, 4
         return (0, 5, 0, 4) if file.linked else (private, 3 + 2 * private, 0, 4)
     if verb == "mv":
-        return 0, 3, 0, 3
+        file, found = plain.reached(words[0]), plain.place(words[1])[1]
+        if found is None:
+            return 0, 3, 0, 3
+        if found is file:
+            return 0, 0, 0, 0
+        if found.names > 1:
+            return 0, 5, 0, 6
+        return (0, 8, 0, 6) if found.linked else (private, 6 + 2 * private, 0, 6)
     if verb == "ln":
         return (1, 2, 0, 4) if plain.reached(words[0]).linked else (2 + private, 7 + 2 * private, 0, 4)
     return {"chmod": (0, 0, 0, 1), "setattr": (0, 0, 2, 1), "delattr": (0, 0, 1, 1), "write": (0, 0, 0, 1), "trunc": (0, 0, 0, 1)}.get(verb, (0, 0, 0, 0))
@@ -110,7 +117,7 @@ class Weight:
 
 
 def weigh(gauge, plain, verb, words, fork):
-    """The weight of a command that the plain tree doesn't refuse."""
+    """The weight of a command that the plain tree doesn't refuse, or None where too little is known of the cuts ahead of it."""
     if verb == "setattr" and not gauge.trees[2][2]:
         return Weight(b"no NoTree")
     trees, data = gauge.trees, data_of(plain, verb, words, gauge.block)
@@ -120,7 +127,7 @@ def weigh(gauge, plain, verb, words, fork):
         if load > gauge.capacity:
             return Weight(b"no TooBig %d %d" % (load, gauge.capacity))
         if not fork.behind:
-            return Weight()
+            return None
         # Its cuts go first; then it weighs what it does behind them.
         gauge, fork = copy.copy(gauge), fork.behind
         gauge.free, gauge.longest = sum(fork.runs), max(fork.runs, default=0)

@@ -212,6 +212,18 @@ impl Bitmap {
         touch_all(&mut self.changed, list.as_slice());
         Ok(list)
     }
+
+    /// The `n` blocks that a take would give. None of them is taken.
+    pub fn pick(&mut self, alloc: Global, n: u32) -> Result<ExtentList, OutOfMemory>
+        requires { n ≤ count_set (free_of self.old) }
+        ensures rule { IfOk result (λ list. list ≡ front n (longest_first (runs_of (free_of self.old)))) }
+        ensures free { IfOk result (λ list. PicksFree (free_of self.old) n list) }
+        ensures same { self.new ≡ self.old }
+    {
+        let picked = self.taken.take(alloc, n)?;
+        self.taken.set_all(picked.as_slice(), false);
+        Ok(picked)
+    }
 }
 
 /// The sectors of the bitmap in which an extent has bits.

@@ -32,7 +32,6 @@ fn name(refusal: Refusal) -> &'static str
         Refusal::Inside => "Inside",
         Refusal::TooManyLinks => "TooManyLinks",
         Refusal::TooLarge => "TooLarge",
-        Refusal::GrowLimit => "GrowLimit",
         Refusal::AttributeTooLarge => "AttributeTooLarge",
         Refusal::NoAttribute => "NoAttribute",
         Refusal::NoTree => "NoTree",

@@ -3,11 +3,13 @@ pub mod ByteLaws
 pub mod SpaceLaws
 pub mod PartLaws
 pub mod SpillLaws
+pub mod AroundLaws
 pub mod GiveLaws
 pub mod KeepLaws
 pub mod CutLaws
 pub mod PlaceLaws
 pub mod AfterLaws
+pub mod ZeroLaws
 pub mod TakenLaws
 pub mod WrittenLaws
 pub mod PutLaws

@@ -93,7 +93,7 @@ pub record WritePlaces (block size from end len a b e : ℕ) : Type 0 where
   pub few : b ≤ 2 ^ 31
   pub product : b * (block / 512) * 512 < 2 ^ 62
 
-whole_block : (block x : ℕ) → block % 512 ≡ 0 → x * (block / 512) * 512 ≡ x * block
+pub whole_block : (block x : ℕ) → block % 512 ≡ 0 → x * (block / 512) * 512 ≡ x * block
 whole_block block x whole = mul_assoc x (block / 512) 512 ∙ ap (λ m. x * m) (let e : block / 512 * 512 ≡ block = omega (arith, whole) in e)
 
 pub write_places : (block size from end len a b e : ℕ) → IsBlockSize block → size ≤ len * block → from < end → end ≤ 2 ^ 40 → a ≡ first_block block size from → b ≡ blocks_for block end → e ≡ min b (blocks_for block size) → WritePlaces block size from end len a b e

@@ -1,5 +1,5 @@
 -- The bytes of files: what a fork holds, and what a write leaves.
-use Rattle.std.specs.Prelude.{◌≡◌, ℕ, ◌+◌, ◌-◌, ◌/◌, ◌≤◌, ◌%◌, List, ◌++◌, length, take, drop, replicate, slice_index, nat_le, nat_lt, ◌&&◌, if◌then◌else◌}
+use Rattle.std.specs.Prelude.{◌≡◌, ℕ, ◌+◌, ◌-◌, ◌/◌, ◌≤◌, ◌<◌, ◌%◌, List, ◌++◌, length, take, drop, replicate, slice_index, nat_le, nat_lt, ◌&&◌, if◌then◌else◌}
 use Rattle.std.specs.List.{flat_map}
 use Rattle.hx_bytes.specs.declared.extents.Extent.{Extent}
 use Rattle.sector_disk.specs.Lists.{Content, sector}
@@ -36,6 +36,10 @@ sectors_in block fork = sectors_of (block / 512) (blocks_of fork)
 -- the bytes of a fork in a content
 abbrev pub fork_bytes : Content → ℕ → List Extent → List ℕ
 fork_bytes content block fork = bytes_in content (sectors_in block fork)
+
+-- so many of these sectors hold zeros, from a place on
+abbrev pub HoldZeros : Content → List ℕ → ℕ → ℕ → Type 0
+HoldZeros content sectors place count = (m : ℕ) (k : ℕ) → m < count → k < 512 → slice_index (sector_bytes content (slice_index sectors (place + m))) k ≡ 0
 
 -- a block has whole sectors, and 65,536 bytes at most
 pub record IsBlockSize (block : ℕ) : Type 0 where

@@ -24,6 +24,14 @@ new_blocks block size from end = blocks_for block end - first_block block size f
 abbrev pub old_end : ℕ → ℕ → ℕ → ℕ
 old_end block size end = min (blocks_for block end) (blocks_for block size)
 
+-- how many of the new blocks lie wholly past the old size and before another block of the file: they hold zeros alone
+abbrev pub zero_blocks : ℕ → ℕ → ℕ → ℕ
+zero_blocks block size stop = stop - blocks_for block size
+
+-- the place of the first of them among the new blocks
+abbrev pub zeros_at : ℕ → ℕ → ℕ → ℕ → ℕ
+zeros_at block size from end = old_end block size end - first_block block size from
+
 -- the extents of so many blocks that are taken of a bitmap: the first of its free runs, longest first
 abbrev pub fresh_of : BlockMap → ℕ → List Extent
 fresh_of map n = front n (longest_first (runs_of (free_of map)))

@@ -7,7 +7,9 @@ mod shrinking;
 mod spilling;
 mod walk;
 mod writing;
+mod zeroing;
 
 pub use reading::read;
 pub use shrinking::shrink_step;
 pub use writing::{grow_step, write};
+pub use zeroing::zero_step;

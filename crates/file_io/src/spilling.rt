@@ -50,15 +50,16 @@ fn old_bytes<P: SectorSpace>(
     Ok(())
 }
 
-/// Spills so many sectors of a file, from sector `first` on, as they are after a value was written at byte `from`, into the
-/// first sectors of a fork of fresh blocks. The file had `size` bytes in the blocks of another fork.
+/// Spills sectors of a file as they are after a value was written at byte `from`, into a fork of fresh blocks that begins with the file's
+/// sector `first`: those from place `place` of that fork up to `behind`. The file had `size` bytes in the blocks of another fork.
 pub fn spill_sectors<P: SectorSpace>(
     space: &mut P,
     fork: &ExtentList,
     fresh: &ExtentList,
     per_block: u32,
     first: u64,
-    count: u64,
+    place: u64,
+    behind: u64,
     size: u64,
     from: u64,
     value: &[u8],
@@ -67,18 +68,22 @@ pub fn spill_sectors<P: SectorSpace>(
     requires few { per_block ≤ 128 }
     requires inside { All (λ sector. sector < (P.SectorView.space space.old).sectors) (sectors_of per_block (blocks_of fork.now)) }
     requires holds { size ≤ length (sectors_of per_block (blocks_of fork.now)) * 512 }
-    requires enough { count ≤ length (sectors_of per_block (blocks_of fresh.now)) }
-    requires may_spill { (sector : ℕ) → IsOneOf (sectors_of per_block (blocks_of fresh.now)) sector → MaySpill (P.SectorView.space space.old) sector }
+    requires order { place ≤ behind }
+    requires enough { behind ≤ length (sectors_of per_block (blocks_of fresh.now)) }
+    requires may_spill { (n : ℕ) (sector : ℕ) → place ≤ n → n < behind → slice_get (sectors_of per_block (blocks_of fresh.now)) n ≡ Some sector → MaySpill (P.SectorView.space space.old) sector }
     // No sector of the fresh blocks is another one, or one of the file's.
     requires apart { (i : ℕ) (j : ℕ) (sector : ℕ) → slice_get (sectors_of per_block (blocks_of fresh.now)) i ≡ Some sector → slice_get (sectors_of per_block (blocks_of fresh.now)) j ≡ Some sector → i ≡ j }
-    requires elsewhere { (sector : ℕ) → IsOneOf (sectors_of per_block (blocks_of fresh.now)) sector → IsOneOf (sectors_of per_block (blocks_of fork.now)) sector → ⊥ }
-    requires small { (first + count) * 512 < 2 ^ 62 }
+    requires elsewhere { 0 < size → (sector : ℕ) → IsOneOf (sectors_of per_block (blocks_of fresh.now)) sector → IsOneOf (sectors_of per_block (blocks_of fork.now)) sector → ⊥ }
+    requires small { (first + behind) * 512 < 2 ^ 62 }
     requires from { from < 2 ^ 62 }
     requires value { length value.now < 2 ^ 62 }
-    ensures bytes { IsTrue (P.SectorView.space space.old).tells → OnOk result ((n : ℕ) (k : ℕ) → n < count → k < 512 →
+    ensures bytes { IsTrue (P.SectorView.space space.old).tells → OnOk result ((n : ℕ) (k : ℕ) → place ≤ n → n < behind → k < 512 →
         slice_index (sector_bytes (P.SectorView.space space.new).content (slice_index (sectors_of per_block (blocks_of fresh.now)) n)) k
         ≡ new_byte (P.SectorView.space space.old).content (sectors_of per_block (blocks_of fork.now)) size from value.now ((first + n) * 512 + k)) }
     ensures touches { IsTrue (P.SectorView.space space.old).tells → SpillsIn (IsOneOf (sectors_of per_block (blocks_of fresh.now))) (P.SectorView.space space.old) (P.SectorView.space space.new) }
+    // The other sectors of the fresh blocks are as they were.
+    ensures others { IsTrue (P.SectorView.space space.old).tells → OnOk result ((n : ℕ) → (n < place) ⊎ (behind ≤ n) → n < length (sectors_of per_block (blocks_of fresh.now)) →
+        sector (P.SectorView.space space.new).content (slice_index (sectors_of per_block (blocks_of fresh.now)) n) ≡ sector (P.SectorView.space space.old).content (slice_index (sectors_of per_block (blocks_of fresh.now)) n)) }
     // Each sector that is another one has its 512 bytes.
     ensures sizes { IsTrue (P.SectorView.space space.old).tells → OnOk result ((at : ℕ) → (sector (P.SectorView.space space.new).content at ≡ sector (P.SectorView.space space.old).content at) ⊎ (length (sector (P.SectorView.space space.new).content at) ≡ 512)) }
     ensures time { IsTrue (P.SectorView.space space.old).tells → TimePasses (P.SectorView.space space.old).clock (P.SectorView.space space.new).clock (LeavesDurable (P.SectorView.space space.new)) }
@@ -87,10 +92,10 @@ pub fn spill_sectors<P: SectorSpace>(
     ensures below { P.SectorView.follows space.old space.new }
     ensures cause { HasCause (P.SectorView.space space.old).faults (P.SectorView.space space.new).faults result }
 {
-    let mut old = Walk::before(fork, per_block, first);
-    let mut new = Walk::before(fresh, per_block, 0);
+    let mut old = Walk::before(fork, per_block, first + place);
+    let mut new = Walk::before(fresh, per_block, place);
     let mut sector = [0; 512];
-    for n in 0..count {
+    for n in place..behind {
         let start = (first + n) * 512;
         old_bytes(space, fork, per_block, &mut old, size, start, &mut sector)?;
         put_part(&mut sector, start, from, value);
@@ -100,4 +105,53 @@ pub fn spill_sectors<P: SectorSpace>(
         }
     }
     Ok(())
+}
+
+/// Spills the first `count` sectors of a file's new blocks, but for those from place `idle` up to `busy`, which hold what they ought to.
+pub fn spill_around<P: SectorSpace>(
+    space: &mut P,
+    fork: &ExtentList,
+    fresh: &ExtentList,
+    per_block: u32,
+    first: u64,
+    count: u64,
+    idle: u64,
+    busy: u64,
+    size: u64,
+    from: u64,
+    value: &[u8],
+) -> Result<(), Failed>
+    requires some { 0 < per_block }
+    requires few { per_block ≤ 128 }
+    requires inside { All (λ sector. sector < (P.SectorView.space space.old).sectors) (sectors_of per_block (blocks_of fork.now)) }
+    requires holds { size ≤ length (sectors_of per_block (blocks_of fork.now)) * 512 }
+    requires order { idle ≤ busy }
+    requires within { busy ≤ count }
+    requires enough { count ≤ length (sectors_of per_block (blocks_of fresh.now)) }
+    requires may_spill { (sector : ℕ) → IsOneOf (sectors_of per_block (blocks_of fresh.now)) sector → MaySpill (P.SectorView.space space.old) sector }
+    requires apart { (i : ℕ) (j : ℕ) (sector : ℕ) → slice_get (sectors_of per_block (blocks_of fresh.now)) i ≡ Some sector → slice_get (sectors_of per_block (blocks_of fresh.now)) j ≡ Some sector → i ≡ j }
+    requires elsewhere { (sector : ℕ) → IsOneOf (sectors_of per_block (blocks_of fresh.now)) sector → IsOneOf (sectors_of per_block (blocks_of fork.now)) sector → ⊥ }
+    requires small { (first + count) * 512 < 2 ^ 62 }
+    requires from { from < 2 ^ 62 }
+    requires value { length value.now < 2 ^ 62 }
+    requires ready { IsTrue (P.SectorView.space space.old).tells → (n : ℕ) (k : ℕ) → idle ≤ n → n < busy → k < 512 →
+        slice_index (sector_bytes (P.SectorView.space space.old).content (slice_index (sectors_of per_block (blocks_of fresh.now)) n)) k
+        ≡ new_byte (P.SectorView.space space.old).content (sectors_of per_block (blocks_of fork.now)) size from value.now ((first + n) * 512 + k) }
+    ensures bytes { IsTrue (P.SectorView.space space.old).tells → OnOk result ((n : ℕ) (k : ℕ) → n < count → k < 512 →
+        slice_index (sector_bytes (P.SectorView.space space.new).content (slice_index (sectors_of per_block (blocks_of fresh.now)) n)) k
+        ≡ new_byte (P.SectorView.space space.old).content (sectors_of per_block (blocks_of fork.now)) size from value.now ((first + n) * 512 + k)) }
+    ensures touches { IsTrue (P.SectorView.space space.old).tells → SpillsIn (IsOneOf (sectors_of per_block (blocks_of fresh.now))) (P.SectorView.space space.old) (P.SectorView.space space.new) }
+    ensures sizes { IsTrue (P.SectorView.space space.old).tells → OnOk result ((at : ℕ) → (sector (P.SectorView.space space.new).content at ≡ sector (P.SectorView.space space.old).content at) ⊎ (length (sector (P.SectorView.space space.new).content at) ≡ 512)) }
+    ensures time { IsTrue (P.SectorView.space space.old).tells → TimePasses (P.SectorView.space space.old).clock (P.SectorView.space space.new).clock (LeavesDurable (P.SectorView.space space.new)) }
+    ensures room { SameRoom (P.SectorView.space space.old) (P.SectorView.space space.new) }
+    ensures same { SameSpace (P.SectorView.space space.old) (P.SectorView.space space.new) }
+    ensures below { P.SectorView.follows space.old space.new }
+    ensures cause { HasCause (P.SectorView.space space.old).faults (P.SectorView.space space.new).faults result }
+{
+    spill_sectors(
+        space, fork, fresh, per_block, first, 0, idle, size, from, value,
+    )?;
+    spill_sectors(
+        space, fork, fresh, per_block, first, busy, count, size, from, value,
+    )
 }

@@ -11,12 +11,12 @@ ghost use Rattle.fork_map.specs.Blocks.{blocks_of, AreNumbers};
 ghost use Rattle.flag_rows.specs.Bits.{count_set, sectors_for};
 ghost use Rattle.alloc_bitmap.specs.Apart.{AreApart};
 ghost use Rattle.alloc_bitmap.specs.Map.{free_of, PicksFree};
-ghost use Rattle.file_io.specs.Bytes.{IsBlockSize, sectors_in, fork_bytes, byte_in, new_byte, padded, written};
-ghost use Rattle.file_io.specs.Places.{blocks_for, first_block, new_blocks, old_end, fresh_of, middle, taken, given, AreUsed, KeepsMap};
+ghost use Rattle.file_io.specs.Bytes.{IsBlockSize, HoldZeros, sectors_in, fork_bytes, byte_in, new_byte, padded, written};
+ghost use Rattle.file_io.specs.Places.{blocks_for, first_block, new_blocks, old_end, zero_blocks, zeros_at, fresh_of, middle, taken, given, AreUsed, KeepsMap};
 ghost use Rattle.file_io.specs.Touching.{MaySpill, IsOneOf, SpillsIn};
 
 use crate::shrinking::{blocks_in, give_all};
-use crate::spilling::spill_sectors;
+use crate::spilling::spill_around;
 use alloc_bitmap::Bitmap;
 use fork_map::ExtentList;
 use hx_bytes::{OutOfMemory, Trouble};
@@ -25,7 +25,8 @@ use std::alloc::Global;
 
 /// Writes a value into a file at byte `from`: each block that it touches, and each from the end of the file on up to it, is made
 /// anew in a block that was free, and the old blocks are given back and held. Between the old end and the value there are zeros.
-/// It gives the file's new blocks. A value of no byte changes nothing.
+/// It gives the file's new blocks. A value of no byte changes nothing. Of the blocks that lie wholly between the old end and the value, the first
+/// `zeroed` hold zeros already.
 pub fn write<P: SectorSpace>(
     alloc: Global,
     space: &mut P,
@@ -35,6 +36,7 @@ pub fn write<P: SectorSpace>(
     size: u64,
     from: u64,
     value: &[u8],
+    zeroed: u32,
 ) -> Result<ExtentList, Trouble>
     requires block { IsBlockSize block }
     requires inside { All (λ sector. sector < (P.SectorView.space space.old).sectors) (sectors_in block fork.now) }
@@ -42,6 +44,9 @@ pub fn write<P: SectorSpace>(
     requires small { from + length value.now ≤ 2 ^ 40 }
     requires used { AreUsed map.old (blocks_of fork.now) }
     requires free { 0 < length value.now → new_blocks block size from (from + length value.now) ≤ count_set (free_of map.old) }
+    requires few_zeros { zeroed ≤ zero_blocks block size (from / block) }
+    requires zeros { IsTrue (P.SectorView.space space.old).tells →
+        HoldZeros (P.SectorView.space space.old).content (sectors_in block (fresh_of map.old (new_blocks block size from (from + length value.now)))) (zeros_at block size from (from + length value.now) * (block / 512)) (zeroed * (block / 512)) }
     requires may_spill { (taken_block : ℕ) (sector : ℕ) → slice_index_or (free_of map.old) taken_block false ≡ true → taken_block * (block / 512) ≤ sector → sector < taken_block * (block / 512) + block / 512 → MaySpill (P.SectorView.space space.old) sector }
     ensures blocks { 0 < length value.now → IfOk result (λ list. blocks_of list ≡ take (first_block block size from) (blocks_of fork.now) ++ blocks_of (fresh_of map.old (new_blocks block size from (from + length value.now))) ++ drop (old_end block size (from + length value.now)) (blocks_of fork.now)) }
     ensures bytes { IsTrue (P.SectorView.space space.old).tells → 0 < length value.now → IfOk result (λ list.
@@ -69,11 +74,14 @@ pub fn write<P: SectorSpace>(
         return Ok(fork.copy(alloc)?);
     }
     let end = from + value.len() as u64;
-    rewrite(alloc, space, map, fork, block, size, from, end, value)
+    rewrite(
+        alloc, space, map, fork, block, size, from, end, value, zeroed,
+    )
 }
 
 /// Makes a file `to` bytes long, with zeros behind the others: its last block, where a byte past its end lies in it, and those
-/// behind it are made anew as by a write. The same size changes nothing.
+/// behind it are made anew as by a write. The same size changes nothing. Of the blocks that lie wholly behind the old end, the first `zeroed` hold
+/// zeros already.
 pub fn grow_step<P: SectorSpace>(
     alloc: Global,
     space: &mut P,
@@ -82,6 +90,7 @@ pub fn grow_step<P: SectorSpace>(
     block: u32,
     size: u64,
     to: u64,
+    zeroed: u32,
 ) -> Result<ExtentList, Trouble>
     requires block { IsBlockSize block }
     requires inside { All (λ sector. sector < (P.SectorView.space space.old).sectors) (sectors_in block fork.now) }
@@ -90,6 +99,9 @@ pub fn grow_step<P: SectorSpace>(
     requires small { to ≤ 2 ^ 40 }
     requires used { AreUsed map.old (blocks_of fork.now) }
     requires free { size < to → new_blocks block size size to ≤ count_set (free_of map.old) }
+    requires few_zeros { zeroed ≤ zero_blocks block size (blocks_for block to) }
+    requires zeros { IsTrue (P.SectorView.space space.old).tells →
+        HoldZeros (P.SectorView.space space.old).content (sectors_in block (fresh_of map.old (new_blocks block size size to))) (zeros_at block size size to * (block / 512)) (zeroed * (block / 512)) }
     requires may_spill { (taken_block : ℕ) (sector : ℕ) → slice_index_or (free_of map.old) taken_block false ≡ true → taken_block * (block / 512) ≤ sector → sector < taken_block * (block / 512) + block / 512 → MaySpill (P.SectorView.space space.old) sector }
     ensures blocks { size < to → IfOk result (λ list. blocks_of list ≡ take (first_block block size size) (blocks_of fork.now) ++ blocks_of (fresh_of map.old (new_blocks block size size (to))) ++ drop (old_end block size (to)) (blocks_of fork.now)) }
     ensures bytes { IsTrue (P.SectorView.space space.old).tells → size < to → IfOk result (λ list.
@@ -116,11 +128,11 @@ pub fn grow_step<P: SectorSpace>(
     if to == size {
         return Ok(fork.copy(alloc)?);
     }
-    rewrite(alloc, space, map, fork, block, size, size, to, &[])
+    rewrite(alloc, space, map, fork, block, size, size, to, &[], zeroed)
 }
 
 /// Makes the blocks of the bytes from `from` up to `end` anew, and those of a gap before them: the value stands at `from`, and
-/// zeros behind it and in the gap.
+/// zeros behind it and in the gap, of whose whole blocks the first `zeroed` hold zeros already.
 fn rewrite<P: SectorSpace>(
     alloc: Global,
     space: &mut P,
@@ -131,6 +143,7 @@ fn rewrite<P: SectorSpace>(
     from: u64,
     end: u64,
     value: &[u8],
+    zeroed: u32,
 ) -> Result<ExtentList, Trouble>
     requires block { IsBlockSize block }
     requires inside { All (λ sector. sector < (P.SectorView.space space.old).sectors) (sectors_in block fork.now) }
@@ -140,6 +153,10 @@ fn rewrite<P: SectorSpace>(
     requires small { end ≤ 2 ^ 40 }
     requires used { AreUsed map.old (blocks_of fork.now) }
     requires free { new_blocks block size from end ≤ count_set (free_of map.old) }
+    requires few_zeros { zeroed ≤ zero_blocks block size (blocks_for block end) }
+    requires gap { 0 < zeroed → 0 < length value.now → (blocks_for block size + zeroed) * block ≤ from }
+    requires zeros { IsTrue (P.SectorView.space space.old).tells →
+        HoldZeros (P.SectorView.space space.old).content (sectors_in block (fresh_of map.old (new_blocks block size from end))) (zeros_at block size from end * (block / 512)) (zeroed * (block / 512)) }
     requires may_spill { (taken_block : ℕ) (sector : ℕ) → slice_index_or (free_of map.old) taken_block false ≡ true → taken_block * (block / 512) ≤ sector → sector < taken_block * (block / 512) + block / 512 → MaySpill (P.SectorView.space space.old) sector }
     ensures blocks { IfOk result (λ list. blocks_of list ≡ take (first_block block size from) (blocks_of fork.now) ++ blocks_of (fresh_of map.old (new_blocks block size from end)) ++ drop (old_end block size end) (blocks_of fork.now)) }
     ensures bytes { IsTrue (P.SectorView.space space.old).tells → IfOk result (λ list. (q : ℕ) → q < max size end →
@@ -169,13 +186,16 @@ fn rewrite<P: SectorSpace>(
         behind as u32,
         old_behind as u32,
     )?;
-    spill_sectors(
+    let zeros = (old_behind - first) * per_block as u64;
+    spill_around(
         space,
         fork,
         &fresh,
         per_block,
         first * per_block as u64,
         (behind - first) * per_block as u64,
+        zeros,
+        zeros + zeroed as u64 * per_block as u64,
         size,
         from,
         value,

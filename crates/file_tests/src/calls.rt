@@ -67,6 +67,7 @@ pub fn write_at(
         file.size,
         from,
         value,
+        0,
     )
 }
 
@@ -97,6 +98,7 @@ pub fn grow_to(
         file.block,
         file.size,
         to,
+        0,
     )
 }
 

@@ -14,7 +14,7 @@ use Rattle.jnl_format.specs.declared.structures.JnlRefusal.{JnlRefusal}
 use Rattle.jnl_format.specs.Info.{info_of, info_fault, holds, unless_fault}
 use Rattle.jnl_format.specs.Header.{header_read}
 use Rattle.jnl_format.specs.Header as jnl
-use Rattle.jnl_format.specs.Recovery.{Content, Journal, sector, header_of_volume, info_sector_of, info_in, journal_in, and_then, recovery_at, text_fault, replayed}
+use Rattle.jnl_format.specs.Recovery.{Content, Journal, sector, header_of_volume, info_sector_of, info_in, journal_in, and_then, recovery_at, recovery_at_as, text_fault, replayed}
 use Rattle.jnl_format.proofs.Headers.{length-header_spelled}
 use Rattle.jnl_format.proofs.Recovering.{journal_is_kept}
 use Rattle.hfs_volume.specs.Mount.{IsOpen}
@@ -114,7 +114,7 @@ module _ (sectors block journal : ℕ) (name : List ℕ) (old new : Content) (si
       journal_is_kept at new (fresh_info layout) (Ok (fresh_journal layout)) info_is refl (ap (header_read (fresh_info layout).size) journal_sector ∙ found.journal)
 
   recovers : recovery_at at (header_of_volume new).last_mounted_version new ≡ Ok new
-  unfolding recovery_at
+  unfolding recovery_at_as
   recovers =
       ap (λ (r : Result Journal JnlRefusal). and_then r (λ j. unless_fault (text_fault at (header_of_volume new).last_mounted_version j new) (replayed j new))) journal_is
 

@@ -121,7 +121,6 @@ refusal_in refusal.NotEmpty = refl
 refusal_in refusal.Inside = refl
 refusal_in refusal.TooManyLinks = refl
 refusal_in refusal.TooLarge = refl
-refusal_in refusal.GrowLimit = refl
 refusal_in refusal.AttributeTooLarge = refl
 refusal_in refusal.NoAttribute = refl
 refusal_in refusal.NoTree = refl

@@ -19,7 +19,6 @@ pub enum Refusal {
     Inside,
     TooManyLinks,
     TooLarge,
-    GrowLimit,
     AttributeTooLarge,
     NoAttribute,
     // For want of a resource of the volume, in the order in which they come.

@@ -61,7 +61,7 @@ names_come_and_go = refl
 
 -- three dates, and sizes that are too large
 dates_and_sizes : replies fresh_tree (command.At 100 ∷ command.Create (a ∷ []) ∷ command.At 200 ∷ command.Write (a ∷ []) 0 (codes "x") ∷ command.Chmod (a ∷ []) 384 ∷ command.Stat (a ∷ []) ∷ command.Read (a ∷ []) 1 5 ∷ command.Read (a ∷ []) 0 65537 ∷ command.Trunc (a ∷ []) 1048578 ∷ [])
-    ≡ reply.Ok ∷ reply.Ok ∷ reply.Ok ∷ reply.Ok ∷ reply.Ok ∷ file_facts 18 1 1 384 100 200 200 ∷ reply.Content [] ∷ reply.No refusal.TooLarge ∷ reply.No refusal.GrowLimit ∷ []
+    ≡ reply.Ok ∷ reply.Ok ∷ reply.Ok ∷ reply.Ok ∷ reply.Ok ∷ file_facts 18 1 1 384 100 200 200 ∷ reply.Content [] ∷ reply.No refusal.TooLarge ∷ reply.Ok ∷ []
 dates_and_sizes = refl
 
 -- a gap reads as zeros, and `read` ends at the end of the file

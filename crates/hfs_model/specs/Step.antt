@@ -1,5 +1,5 @@
 -- What a command is answered, and the tree after it.
-use Rattle.std.specs.Prelude.{ℕ, ◌+◌, ◌-◌, ◌^◌, ◌==◌, ◌&&◌, ◌||◌, nat_lt, nat_le, Bool, true, false, not, List, [], ◌∷◌, ◌++◌, length, map, take, drop, replicate, Option, is_some, ok_or, Result, Ok, Err, codes, if◌then◌else◌}
+use Rattle.std.specs.Prelude.{ℕ, ◌+◌, ◌-◌, ◌^◌, ◌==◌, ◌&&◌, ◌||◌, nat_lt, nat_le, Bool, true, false, not, List, [], ◌∷◌, ◌++◌, length, map, take, drop, replicate, Option, Some, None, is_some, ok_or, Result, Ok, Err, codes, if◌then◌else◌}
 use Rattle.std.specs.List.{list_any}
 use Rattle.std.specs.Option.{ok_or}
 use Rattle.std.specs.Str.{bytes_eq}
@@ -27,10 +27,6 @@ most_size = 2 ^ 40
 -- of one `write`, or asked by one `read`
 abbrev pub most_bytes : ℕ
 most_bytes = 65536
-
--- the most bytes by which one line makes a file longer
-abbrev pub most_growth : ℕ
-most_growth = 1048576
 
 -- the most names of a file
 abbrev pub most_links : ℕ
@@ -191,9 +187,14 @@ abbrev pub to_pair : PlainTree → List (List ℕ) → List (List ℕ) → Resul
 to_pair tree from to =
     then_ (unless (is_root from || is_root to) refusal.Root from) (λ named. then_ (reached tree named) (λ at. then_ (place tree to) (λ goal. Ok (at, goal))))
 
--- the entry that `mv` moves and its new place, which is free and isn't inside the entry itself
+-- an entry stands at the new place that `mv` doesn't replace: it or the one that is moved is a folder
+abbrev pub stands_in_way : PlainEntry → Option PlainEntry → Bool
+stands_in_way at None = false
+stands_in_way at (Some other) = at.folder || other.folder
+
+-- the entry that `mv` moves and its new place, which is free or that of a file that a file replaces, and isn't inside the entry itself
 abbrev pub to_mv : PlainTree → List (List ℕ) → List (List ℕ) → Result (PlainEntry × Place) Refusal
-to_mv tree from to = then_ (to_pair tree from to) (λ pair. then_ (unless (is_some pair.1.found) refusal.Exists pair) (unless (is_below to from) refusal.Inside))
+to_mv tree from to = then_ (to_pair tree from to) (λ pair. then_ (unless (stands_in_way pair.0 pair.1.found) refusal.Exists pair) (unless (is_below to from) refusal.Inside))
 
 -- the file that `ln` names again, and the new place, which is free
 abbrev pub to_ln : PlainTree → List (List ℕ) → List (List ℕ) → Result (PlainEntry × Place) Refusal
@@ -216,18 +217,13 @@ to_file tree path = then_ (to_node tree path) (λ node. unless node.folder refus
 abbrev pub to_folder : PlainTree → List (List ℕ) → Result PlainNode Refusal
 to_folder tree path = then_ (to_node tree path) (λ node. unless (not node.folder) refusal.NotFolder node)
 
--- a file may get this size
-abbrev pub to_size : ℕ → PlainNode → Result PlainNode Refusal
-to_size size file = unless (nat_lt (length file.bytes + most_growth) size) refusal.GrowLimit file
-
 -- the size of a file after a value is written; no byte makes no file longer
 abbrev pub size_written : ℕ → ℕ → ℕ → ℕ
 size_written size from long = if long == 0 then size else if nat_lt size (from + long) then from + long else size
 
 -- the file into which `write` puts a value of this length
 abbrev pub to_write : PlainTree → List (List ℕ) → ℕ → List ℕ → Result PlainNode Refusal
-to_write tree path from value =
-    then_ (to_file tree path) (λ file. then_ (unless (nat_lt most_size (from + length value) || nat_lt most_bytes (length value)) refusal.TooLarge file) (to_size (size_written (length file.bytes) from (length value))))
+to_write tree path from value = then_ (to_file tree path) (unless (nat_lt most_size (from + length value) || nat_lt most_bytes (length value)) refusal.TooLarge)
 
 -- the file of which `read` gives so many bytes
 abbrev pub to_read : PlainTree → List (List ℕ) → ℕ → Result PlainNode Refusal
@@ -235,7 +231,7 @@ to_read tree path long = then_ (to_file tree path) (λ file. unless (nat_lt most
 
 -- the file whose size `trunc` sets
 abbrev pub to_trunc : PlainTree → List (List ℕ) → ℕ → Result PlainNode Refusal
-to_trunc tree path size = then_ (to_file tree path) (λ file. then_ (unless (nat_lt most_size size) refusal.TooLarge file) (to_size size))
+to_trunc tree path size = then_ (to_file tree path) (unless (nat_lt most_size size) refusal.TooLarge)
 
 -- the folder or file whose attribute `setattr` sets
 abbrev pub to_set : PlainTree → List (List ℕ) → List ℕ → Result PlainNode Refusal
@@ -280,10 +276,25 @@ removed entry tree = touched entry.parent (unnamed entry.id (without_entry entry
 abbrev pub removed_folder : PlainEntry → PlainTree → PlainTree
 removed_folder entry tree = touched entry.parent (without_node entry.id (without_entry entry.parent entry.name tree))
 
--- the tree behind a `mv`: both folders are dated, and what was moved is marked
+-- the entry stands at its new place: both folders are dated, and what was moved is marked
 abbrev pub moved : PlainEntry → Place → PlainTree → PlainTree
 moved entry to tree =
     marked entry.id (touched to.folder (touched entry.parent (with_entry (record entry { parent = to.folder; name = to.name }) (without_entry entry.parent entry.name tree))))
+
+-- an entry that stands at the new place names the same file
+abbrev pub is_same_file : PlainEntry → Option PlainEntry → Bool
+is_same_file at None = false
+is_same_file at (Some other) = other.id == at.id
+
+-- a file that stood at the new place has lost that name, as by `rm`
+abbrev pub vacated : Option PlainEntry → PlainTree → PlainTree
+vacated None tree = tree
+vacated (Some other) tree = removed other tree
+
+-- the tree behind a `mv`: the entry stands at its new place, instead of a file that stood there; where both names are those of one file
+-- nothing changes
+abbrev pub moved_over : PlainEntry → Place → PlainTree → PlainTree
+moved_over entry to tree = if is_same_file entry to.found then tree else moved entry to (vacated to.found tree)
 
 -- the ids of the records that a second name makes: two for the first such name, and one for a later one
 abbrev pub link_ids : PlainNode → ℕ
@@ -351,7 +362,7 @@ step tree (command.Mkdir path) = on tree (to_make tree path) (λ at. (reply.Ok, 
 step tree (command.Create path) = on tree (to_make tree path) (λ at. (reply.Ok, made false at tree))
 step tree (command.Rm path) = on tree (to_rm tree path) (λ at. (reply.Ok, removed at tree))
 step tree (command.Rmdir path) = on tree (to_rmdir tree path) (λ at. (reply.Ok, removed_folder at tree))
-step tree (command.Mv from to) = on tree (to_mv tree from to) (λ pair. (reply.Ok, moved pair.0 pair.1 tree))
+step tree (command.Mv from to) = on tree (to_mv tree from to) (λ pair. (reply.Ok, moved_over pair.0 pair.1 tree))
 step tree (command.Ln from to) = on tree (to_link tree from to) (λ pair. (reply.Ok, linked pair.0 pair.1 tree))
 step tree (command.Write path from value) = on tree (to_write tree path from value) (λ file. (reply.Ok, written file from value tree))
 step tree (command.Read path from long) = on tree (to_read tree path long) (λ file. (reply.Content (take long (drop from file.bytes)), tree))

@@ -1,10 +1,10 @@
 //! What a command is answered with on a plain tree, and the tree after it.
-ghost use Rattle.std.specs.Prelude.{◌≡◌, ◌≤◌, ◌<◌, ◌+◌, ◌^◌, map, take, drop, IfOk, Some, None};
+ghost use Rattle.std.specs.Prelude.{◌≡◌, ◌≤◌, ◌<◌, ◌+◌, ◌^◌, map, take, drop, IfOk, Some, None, option_copied};
 ghost use Rattle.hfs_language.specs.declared.reply.Reply.TheVariants as reply;
 ghost use Rattle.hfs_model.specs.Plain.{entries_in, with_changed, with_attribute, without_attribute};
 ghost use Rattle.hfs_model.specs.Change.{change_of};
 ghost use Rattle.hfs_model.specs.Answers.{step_told};
-ghost use Rattle.hfs_model.specs.Step.{on, to_make, to_rm, to_rmdir, to_mv, to_link, to_node, to_file, to_folder, to_write, to_read, to_trunc, to_set, to_attribute, made, removed, removed_folder, moved, linked, written, resized, with_bytes, marked, facts_of, listed, listed_attribute};
+ghost use Rattle.hfs_model.specs.Step.{on, to_make, to_rm, to_rmdir, to_mv, to_link, to_node, to_file, to_folder, to_write, to_read, to_trunc, to_set, to_attribute, made, removed, removed_folder, moved_over, is_same_file, vacated, linked, written, resized, with_bytes, marked, facts_of, listed, listed_attribute};
 
 use crate::bytes::{part, resized, written};
 use crate::changing::NodeChange;
@@ -135,11 +135,18 @@ impl PlainTree {
         from: &[Units],
         to: &[Units],
     ) -> Result<Answer, OutOfMemory>
-        ensures { IfOk result (λ answer. step_told self.now answer ≡ on self.now (to_mv self.now from.now to.now) (λ pair. (reply.Ok, moved pair.0 pair.1 self.now))) }
+        requires room { self.now.next_id ≤ 4294967292 }
+        ensures { IfOk result (λ answer. step_told self.now answer ≡ on self.now (to_mv self.now from.now to.now) (λ pair. (reply.Ok, moved_over pair.0 pair.1 self.now))) }
     {
         let root = PlainEntry::root(alloc);
         match self.to_mv(&root, from, to) {
-            Ok((entry, site)) => Ok(changed(copy_tree(alloc, self)?.moved(alloc, entry, &site)?)),
+            Ok((entry, site)) => {
+                if is_same_file(entry, site.found) {
+                    return Ok(told(Reply::Ok));
+                }
+                let tree = copy_tree(alloc, self)?.vacated(alloc, site.found)?;
+                Ok(changed(tree.moved(alloc, entry, &site)?))
+            }
             Err(why) => Ok(refused(why)),
         }
     }
@@ -319,6 +326,16 @@ impl PlainTree {
             Ok(node) => Ok(told(Reply::Listing(attribute_names(alloc, node)?))),
             Err(why) => Ok(refused(why)),
         }
+    }
+}
+
+/// Whether an entry that stands at the new place names the same file.
+fn is_same_file(at: &PlainEntry, found: Option<&PlainEntry>) -> bool
+    ensures { result ≡ is_same_file at.now (option_copied found.entry) }
+{
+    match found {
+        Some(other) => other.id == at.id,
+        None => false,
     }
 }
 

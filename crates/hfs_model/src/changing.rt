@@ -1,7 +1,7 @@
 //! Changes of a plain tree. Each takes a tree and gives another, so that where memory is missing nothing else is lost.
-ghost use Rattle.std.specs.Prelude.{◌≡◌, ◌+◌, ◌≤◌, ◌^◌, ◌<◌, map, IfOk, false, if◌then◌else◌};
+ghost use Rattle.std.specs.Prelude.{◌≡◌, ◌+◌, ◌≤◌, ◌^◌, ◌<◌, map, IfOk, false, if◌then◌else◌, option_copied};
 ghost use Rattle.hfs_model.specs.Plain.{is_node, with_entry, without_entry, with_node, without_node, with_changed};
-ghost use Rattle.hfs_model.specs.Step.{touched, marked, drawn, with_private, made, unnamed, removed, removed_folder, moved, linked, link_ids};
+ghost use Rattle.hfs_model.specs.Step.{touched, marked, drawn, with_private, made, unnamed, removed, vacated, removed_folder, moved, linked, link_ids};
 ghost use Rattle.hfs_model.specs.Change.{change_of};
 ghost use Rattle.hfs_model.specs.Refers.{place_at};
 
@@ -231,6 +231,21 @@ impl PlainTree {
         self.without_entry(entry.parent, &entry.name)
             .unnamed(alloc, entry.id)?
             .touched(alloc, entry.parent)
+    }
+
+    /// A file that stood at the new place has lost that name.
+    pub(crate) fn vacated(
+        self,
+        alloc: Global,
+        found: Option<&PlainEntry>,
+    ) -> Result<PlainTree, OutOfMemory>
+        requires room { self.next_id + 1 < 2 ^ 32 }
+        ensures { IfOk result (λ tree. tree ≡ vacated (option_copied found.entry) self) }
+    {
+        match found {
+            Some(other) => self.removed(alloc, other),
+            None => Ok(self),
+        }
     }
 
     pub(crate) fn removed_folder(

@@ -1,6 +1,6 @@
 //! What a command is about on a plain tree, or the first reason against it.
-ghost use Rattle.std.specs.Prelude.{◌≡◌, length};
-ghost use Rattle.hfs_model.specs.Step.{root_entry, to_make, to_rm, to_rmdir, to_pair, to_mv, to_ln, to_link, to_node, to_file, to_folder, to_size, size_written, to_write, to_read, to_trunc, to_set, to_attribute};
+ghost use Rattle.std.specs.Prelude.{◌≡◌, option_copied};
+ghost use Rattle.hfs_model.specs.Step.{root_entry, to_make, to_rm, to_rmdir, to_pair, stands_in_way, to_mv, to_ln, to_link, to_node, to_file, to_folder, to_write, to_read, to_trunc, to_set, to_attribute};
 ghost use Rattle.hfs_model.specs.Refers.{pointed, site_told, pair_told, link_told, attribute_told};
 
 use crate::plain::{PlainAttribute, PlainEntry, PlainNode, PlainTree};
@@ -13,9 +13,6 @@ const MOST_SIZE: u128 = 1 << 40;
 
 /// The most bytes of one `write`, or asked by one `read`.
 const MOST_BYTES: u64 = 65_536;
-
-/// By how many bytes one command makes a file longer at most.
-const MOST_GROWTH: u128 = 1_048_576;
 
 /// The most names of a file.
 const MOST_LINKS: usize = 32_767;
@@ -109,7 +106,7 @@ impl PlainTree {
         ensures { pair_told result ≡ to_mv self.now from.now to.now }
     {
         let (at, goal) = self.to_pair(root, from, to)?;
-        if goal.found.is_some() {
+        if stands_in_way(at, goal.found) {
             return Err(Refusal::Exists);
         }
         if is_below(to, from) {
@@ -205,7 +202,7 @@ impl PlainTree {
         if from as u128 + value.len() as u128 > MOST_SIZE || value.len() > MOST_BYTES as usize {
             return Err(Refusal::TooLarge);
         }
-        file.to_size(file.size_written(from, value.len()))
+        Ok(file)
     }
 
     pub(crate) fn to_read(
@@ -237,7 +234,7 @@ impl PlainTree {
         if size as u128 > MOST_SIZE {
             return Err(Refusal::TooLarge);
         }
-        file.to_size(size as u128)
+        Ok(file)
     }
 
     pub(crate) fn to_set(
@@ -274,23 +271,12 @@ impl PlainTree {
     }
 }
 
-impl PlainNode {
-    /// The size of a file after a value is written; no byte makes no file longer.
-    fn size_written(&self, from: u64, long: usize) -> u128
-        ensures { result ≡ size_written (length self.now.bytes) from long }
-    {
-        let size = self.bytes.len() as u128;
-        let end = from as u128 + long as u128;
-        if long == 0 || end <= size { size } else { end }
-    }
-
-    /// The file, where it may get this size.
-    fn to_size(&self, size: u128) -> Result<&PlainNode, Refusal>
-        ensures { pointed result ≡ to_size size self.now }
-    {
-        if size > self.bytes.len() as u128 + MOST_GROWTH {
-            return Err(Refusal::GrowLimit);
-        }
-        Ok(self)
+/// Whether an entry stands at the new place that `mv` doesn't replace: it or the one that is moved is a folder.
+fn stands_in_way(at: &PlainEntry, found: Option<&PlainEntry>) -> bool
+    ensures { result ≡ stands_in_way at.now (option_copied found.entry) }
+{
+    match found {
+        Some(other) => at.folder || other.folder,
+        None => false,
     }
 }

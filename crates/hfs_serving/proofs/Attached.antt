@@ -55,7 +55,7 @@ module _ (now : Content) (space : Space) (before : Outside) (may : MayAttach now
           marks = begins.marks;
           place = begins.place;
           turns = turns;
-          serves = tidy_stage_serves capacity None now begins.begun before last turns (one_step now begins.begun begins.begun (inr (inr (inr begins.marks))) (no_step begins.begun)) begins.place;
+          serves = tidy_stage_serves capacity None now begins.begun before last turns (one_step now begins.begun begins.begun (inr (inr (inr (inr begins.marks)))) (no_step begins.begun)) begins.place;
           stands = begins.stands;
         }
 
@@ -78,7 +78,7 @@ module _ (capacity : ℕ) (start now : Content) (first mid : Outside) (place : K
         mark_stage_crashes capacity None start now first last (turn_still still) (inr (inl sets)) place)
         (λ marks.
         let mark = mark_from start now begin.begun sets marks in
-        version_stage_crashes capacity None start now begin.begun first mid last turns sets place (one_step start begin.begun begin.begun (inr (inr (inr mark))) (no_step begin.begun)) (place_both start now begin.begun place begin.place) begin.may)
+        version_stage_crashes capacity None start now begin.begun first mid last turns sets place (one_step start begin.begun begin.begun (inr (inr (inr (inr mark)))) (no_step begin.begun)) (place_both start now begin.begun place begin.place) begin.may)
         begin.marked
       where
         turn_still : MayTurn now now mid last → MayTurn start now first last
@@ -94,7 +94,7 @@ module _ (capacity : ℕ) (start now : Content) (first mid : Outside) (place : K
         by : Turns start start first mid → MayBegin start mid last → Crashes capacity None start first [] 0 last
         by stays begins = ⊎_elim
             (λ (still : begins.begun ≡ start). tidy_stage_crashes capacity None start start first last (may_on start start first mid last stays (subst (λ (x : Content). MayTurn start x mid last) still begins.may)) (no_step start) (place_none start))
-            (λ marks. tidy_stage_crashes capacity None start begins.begun first last (may_on start begins.begun first mid last stays begins.may) (one_step start begins.begun begins.begun (inr (inr (inr marks))) (no_step begins.begun)) begins.place)
+            (λ marks. tidy_stage_crashes capacity None start begins.begun first last (may_on start begins.begun first mid last stays begins.may) (one_step start begins.begun begins.begun (inr (inr (inr (inr marks)))) (no_step begins.begun)) begins.place)
             begins.marked
 
     pub mount_stops : IsVersioned start now → MayBegin now mid last → Crashes capacity None start first [] 0 last
@@ -107,11 +107,11 @@ module _ (capacity : ℕ) (start now : Content) (first mid : Outside) (place : K
     same_serves same =
         tidy_stage_serves capacity None start begins.begun first last
         (turns_on start begins.begun first mid last (subst (λ (x : Content). Turns start x first mid) same turns) (subst (λ (x : Content). Turns x begins.begun mid last) same begins.turns))
-        (one_step start begins.begun begins.begun (inr (inr (inr (subst (λ (x : Content). MarksHeader x begins.begun) same begins.marks)))) (no_step begins.begun)) (subst (λ (x : Content). KeepsPlace x begins.begun) same begins.place)
+        (one_step start begins.begun begins.begun (inr (inr (inr (inr (subst (λ (x : Content). MarksHeader x begins.begun) same begins.marks))))) (no_step begins.begun)) (subst (λ (x : Content). KeepsPlace x begins.begun) same begins.place)
 
     version_serves : SetsVersion start now → Serves capacity None start first [] begins.begun last
     version_serves sets =
-        version_stage_serves capacity None start now begins.begun first mid last turns sets place (one_step start begins.begun begins.begun (inr (inr (inr (mark_from start now begins.begun sets begins.marks)))) (no_step begins.begun))
+        version_stage_serves capacity None start now begins.begun first mid last turns sets place (one_step start begins.begun begins.begun (inr (inr (inr (inr (mark_from start now begins.begun sets begins.marks))))) (no_step begins.begun))
         (place_both start now begins.begun place begins.place) begins.turns
 
     pub mount_serves : IsVersioned start now → Serves capacity None start first [] begins.begun last

@@ -34,7 +34,8 @@ module _ (capacity : ℕ) (shrunk : Option ℕ) where
   step_any asked a b (inl reclaims) = inl reclaims
   step_any asked a b (inr (inl cuts)) = absurd (let no : None ≡ Some cuts.own = cuts.is_own in cc no)
   step_any asked a b (inr (inr (inl grown))) = inr (inr (inl (record { grows = grown.grows; own = own_any asked a grown.grows.grow grown.grows.wanted grown.own })))
-  step_any asked a b (inr (inr (inr marks))) = inr (inr (inr marks))
+  step_any asked a b (inr (inr (inr (inl fills)))) = absurd (let no : None ≡ Some fills.own = fills.is_own in cc no)
+  step_any asked a b (inr (inr (inr (inr marks)))) = inr (inr (inr (inr marks)))
 
   pub for_any : (asked : Option Command) (a b : Content) → TidiesFor capacity shrunk None a b → TidiesFor capacity shrunk asked a b
   for_any asked a _ (no_step _) = no_step a
@@ -45,7 +46,8 @@ module _ (capacity : ℕ) (shrunk : Option ℕ) where
   step_plain asked a b (inl reclaims) = inl reclaims
   step_plain asked a b (inr (inl cuts)) = inr (inl cuts.cuts)
   step_plain asked a b (inr (inr (inl grown))) = inr (inr (inl grown.grows))
-  step_plain asked a b (inr (inr (inr marks))) = inr (inr (inr marks))
+  step_plain asked a b (inr (inr (inr (inl fills)))) = inr (inr (inr (inl fills.fills)))
+  step_plain asked a b (inr (inr (inr (inr marks)))) = inr (inr (inr (inr marks)))
 
   pub plain_of : (asked : Option Command) (a b : Content) → TidiesFor capacity shrunk asked a b → Tidies capacity shrunk a b
   plain_of asked a _ (no_step _) = none a

@@ -39,7 +39,7 @@ module _ (capacity : â„•) (knows : Knowing) (start : Content) (shrunk : Option â
     marked_stands = record { known = marked.known; below = below_put; reads = marked.reads; heads = marked.heads; leaves = touches.leaves }
 
     tidies : TidiesFor capacity shrunk None start marked.begun
-    tidies = one_step start marked.begun marked.begun (inr (inr (inr marked.marks))) (no_step marked.begun)
+    tidies = one_step start marked.begun marked.begun (inr (inr (inr (inr marked.marks)))) (no_step marked.begun)
 
     module _ (after : Outside) (commit : MayCommit new mid after) where
       begun_turn : MayTurn start marked.begun before after

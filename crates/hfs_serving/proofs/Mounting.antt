@@ -29,7 +29,8 @@ pub step_keeps : (capacity : ℕ) (shrunk : Option ℕ) (a b : Content) → IsTi
 step_keeps capacity shrunk a b (inl reclaims) = reclaims.keeps
 step_keeps capacity shrunk a b (inr (inl cuts)) = cuts.keeps
 step_keeps capacity shrunk a b (inr (inr (inl grows))) = grows.keeps
-step_keeps capacity shrunk a b (inr (inr (inr marks))) = marks.keeps
+step_keeps capacity shrunk a b (inr (inr (inr (inl fills)))) = fills.keeps
+step_keeps capacity shrunk a b (inr (inr (inr (inr marks)))) = marks.keeps
 
 pub tidied_tree : (capacity : ℕ) (shrunk : Option ℕ) (a b : Content) → Tidies capacity shrunk a b → tree_of b ≡ tree_of a
 tidied_tree capacity shrunk a _ (none _) = refl

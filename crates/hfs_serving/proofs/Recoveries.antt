@@ -3,7 +3,7 @@ use Rattle.std.proofs.Common.{◌≡◌, ◌≢◌, ℕ, List, length, refl, sym
 use Rattle.std.specs.Prelude.{None, Ok}
 use Rattle.volume_header.specs.Refusal.{header_refusal}
 use Rattle.jnl_format.specs.Info.{unless_fault}
-use Rattle.jnl_format.specs.Recovery.{Content, sector, Journal, header_of_volume, info_sector_of, journal_in, text_of, volume_of, text_fault, homes_of, replayed, recovery, recovery_at}
+use Rattle.jnl_format.specs.Recovery.{Content, sector, Journal, header_of_volume, info_sector_of, journal_in, text_of, volume_of, text_fault, homes_of, replayed, recovery, recovery_at_as}
 use Rattle.jnl_format.specs.declared.blocks.Home.{Home}
 use Rattle.jnl_format.specs.declared.blocks.Volume.{Volume}
 use Rattle.jnl_format.proofs.Alike.{good_homes, not_home, stands_alike}
@@ -26,7 +26,7 @@ never_info : (volume : Volume) (text : List ℕ) (s : ℕ) (home : Home) → s �
 never_info volume text s home is good same = good.no_info (same ∙ is)
 
 pub recovery_parts : (image recovered : Content) → recovery image ≡ Ok recovered → HasRecovered image recovered
-unfolding recovery_at
+unfolding recovery_at_as
 recovery_parts image recovered is =
     let at = info_sector_of (header_of_volume image) in
     let version = (header_of_volume image).last_mounted_version in

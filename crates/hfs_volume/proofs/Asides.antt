@@ -1,12 +1,12 @@
 -- What lies aside is free: the lists, the trees and the plain tree of the other content are those of the sound one.
-use Rattle.std.proofs.Common.{◌≡◌, ◌≢◌, ◌⊎◌, ◌<◌, ◌≤◌, ℕ, zero, suc, ◌+◌, ◌-◌, ◌*◌, ◌/◌, ◌%◌, ◌==◌, ◌&&◌, Bool, true, false, not, List, [], ◌∷◌, ◌++◌, length, map, take, drop, refl, sym, ◌∙◌, ap, subst, arith, inl, inr, ⊎_elim}
+use Rattle.std.proofs.Common.{◌≡◌, ◌<◌, ◌≤◌, ℕ, ◌-◌, ◌*◌, ◌/◌, ◌%◌, true, false, List, [], length, map, take, refl, sym, ◌∙◌, ap, subst, arith, inl, inr}
 use Rattle.std.proofs.lemmas.Bool.{true≢false}
-use Rattle.std.specs.Prelude.{Contains, All, IsTrue, Option, Some, None, slice_get, if◌then◌else◌}
-use Rattle.std.specs.List.{flat_map, range_with_len}
+use Rattle.std.specs.Prelude.{Contains, IsTrue, Option, Some, None, slice_get, if◌then◌else◌}
+use Rattle.std.specs.List.{range_with_len}
 use Rattle.std.proofs.lemmas.Option.{slice_get_within, get_or_from_slice_get}
 use Rattle.std.proofs.lemmas.List.Elements.{Contains-append_left, Contains-append_right}
 use Rattle.sector_disk.specs.Space.{AgreesOutside}
-use Rattle.jnl_format.specs.Recovery.{Content, sector, header_of_volume, info_sector_of}
+use Rattle.jnl_format.specs.Recovery.{Content, sector, header_of_volume}
 use Rattle.volume_header.specs.Header.{header_of}
 use Rattle.volume_header.specs.declared.header.VolumeHeader.{VolumeHeader}
 use Rattle.flag_rows.specs.Bits.{bit_of}
@@ -17,18 +17,16 @@ use Rattle.btree_node.specs.Keys.{IsCatalogKey, IsExtentKey, IsAttrKey, catalog_
 use Rattle.btree_node.specs.Tree.{pairs_of}
 use Rattle.btree_node.specs.TreeFile.{TreeFile, IsTreeFile, store_of, extents_form, catalog_form, attributes_form}
 use Rattle.cat_records.specs.declared.record.FileRecord.{FileRecord}
-use Rattle.cat_records.specs.declared.record.CatRecord.{CatRecord}
 use Rattle.cat_records.specs.declared.record.CatRecord.TheVariants.{File}
 use Rattle.hfs_volume.specs.Records.{Placed, Overflow, overflow_of, entries_of, id_of, id_in}
 use Rattle.hfs_volume.specs.Forks.{Owned, per_block_of, parts_for, data_kind, extents_of, blocks_owned, special_forks, reserved_blocks, extents_id, catalog_id, allocation_id, attributes_id}
-use Rattle.hfs_volume.specs.Content.{VolumeState, volume_of, records_of, overflow_in_volume, sectors_in, block_limit, block_sector, block_bytes, tree_of_fork, extents_file, catalog_file, attributes_file, overflow_of_content, facts_of, bit_in, bit_of_sector, bitmap_sectors, has_attributes, journal_place}
+use Rattle.hfs_volume.specs.Content.{VolumeState, volume_of, records_of, overflow_in_volume, block_sector, block_bytes, tree_of_fork, extents_file, catalog_file, attributes_file, overflow_of_content, facts_of, bit_in, bit_of_sector, has_attributes}
 use Rattle.hfs_volume.specs.Entries.{IsUserId}
 use Rattle.hfs_volume.specs.Nodes.{HasTrees}
-use Rattle.hfs_volume.specs.Blocks.{forks_of, used_in}
 use Rattle.hfs_volume.specs.Sound.{IsSound, IsSoundVolume}
 use Rattle.hfs_volume.specs.Aside.{IsAside, NamesJournal, AsideIsFree}
 use Rattle.hfs_volume.specs.TreeOf.{tree_in, tree_of, file_bytes, is_plain_file}
-use Rattle.hfs_volume.proofs.Members.{each_of, at_front, behind}
+use Rattle.hfs_volume.proofs.Members.{each_of}
 use Rattle.hfs_volume.proofs.BlockWants.{in_range}
 use Rattle.hfs_volume.proofs.Sectors.{from_first, in_front}
 use Rattle.hfs_volume.proofs.Apart.{reserved_is_used}
@@ -52,7 +50,7 @@ module _ (content other : Content) (sound : IsSound content) (agrees : AgreesOut
 
   -- ---- the two headers
 
-  header_stays : header_of_volume other ≡ head_was
+  pub header_stays : header_of_volume other ≡ head_was
   unfolding volume_of
   header_stays = ap header_of (stays 2 (2 / per_was) refl (λ inside.
       let front : 2 / per_was < parts_for 1536 head_was.block_size = in_front head_was.block_size per_was (blocks content other sound agrees).whole (blocks content other sound agrees).some 1536 2 (omega arith) in

@@ -1,6 +1,6 @@
 -- Changes of a plain tree, and what each keeps: sorted lists, named entries, the root, ids that were given out.
-use Rattle.std.proofs.Common.{◌≡◌, ◌≢◌, ◌⊎◌, ◌<◌, ◌≤◌, ℕ, zero, suc, ◌+◌, ◌==◌, Bool, true, false, not, List, [], ◌∷◌, ◌++◌, length, map, refl, sym, ◌∙◌, ap, subst, arith, inl, inr, ⊎_elim, eq-eqb}
-use Rattle.std.specs.Prelude.{Contains, ◌&&◌, nat_lt, count_by, find, Option, Some, None, if◌then◌else◌}
+use Rattle.std.proofs.Common.{◌≡◌, ◌≢◌, ◌⊎◌, ◌<◌, ◌≤◌, ℕ, ◌+◌, ◌==◌, Bool, true, false, not, List, [], ◌∷◌, ◌++◌, map, refl, sym, ◌∙◌, ap, subst, arith, inl, inr, eq-eqb}
+use Rattle.std.specs.Prelude.{Contains, ◌&&◌, nat_lt, count_by, find, Some, None, if◌then◌else◌}
 use Rattle.std.specs.Str.{bytes_eq}
 use Rattle.std.specs.Option.{option_map}
 use Rattle.std.specs.declared.cmp.Ordering.TheVariants.{Less, Equal, Greater}
@@ -12,18 +12,17 @@ use Rattle.std.proofs.lemmas.Slice.Eq.{bytes_eq-Decides}
 use Rattle.std.specs.Cmp.{IsTotalOrder, ranks}
 use Rattle.std.specs.Cmp.Lexicographic.{slice_cmp}
 use Rattle.std.proofs.lemmas.Bool.{eqb-true, true≢false}
-use Rattle.hfs_model.specs.declared.plain.PlainAttribute.{PlainAttribute}
 use Rattle.hfs_model.specs.declared.plain.PlainEntry.{PlainEntry}
 use Rattle.hfs_model.specs.declared.plain.PlainNode.{PlainNode}
 use Rattle.hfs_model.specs.declared.plain.PlainTree.{PlainTree}
 use Rattle.hfs_model.specs.Sorted.{kept, put_before, IsInOrder}
-use Rattle.hfs_model.specs.Plain.{is_at, entry_before, entry_at, names_of, is_node, node_at, node_before, attribute_before, with_entry, without_entry, with_node, without_node, with_changed, IsNamed, IsPlainTree}
+use Rattle.hfs_model.specs.Plain.{is_at, entry_before, entry_at, names_of, is_node, node_at, node_before, attribute_before, with_entry, without_entry, with_node, without_node, with_changed, IsNamed}
 use Rattle.hfs_volume.specs.Books.{IsGivenTree}
 use Rattle.hfs_volume.specs.Laws.{one_if}
 use Rattle.hfs_volume.proofs.Counting.{count_cons}
-use Rattle.hfs_volume.proofs.Members.{at_front, behind, first_or_later, kept_stands, kept_cases, map_cases}
+use Rattle.hfs_volume.proofs.Members.{at_front, behind, kept_cases, map_cases}
 use Rattle.hfs_volume.proofs.Flat.{found_some, found_none, some_same, none_or_some}
-use Rattle.hfs_volume.proofs.InOrder.{each_by, put_cases, put_still, put_in_order, kept_in_order, map_in_order, lt_trans, lt_other, total_trans, total_other}
+use Rattle.hfs_volume.proofs.InOrder.{each_by, put_cases, put_in_order, kept_in_order, map_in_order, lt_trans, lt_other, total_trans, total_other}
 use Rattle.hfs_volume.proofs.Ranks.{entry_one_way}
 
 -- what holds of a plain tree beside the number of names of each folder and file
@@ -332,7 +331,7 @@ module _ (tree : PlainTree) (parent : ℕ) (name : List ℕ) (item : PlainEntry)
 
 -- ---- a folder or file less
 
-find_kept : {X : Type 0} (test keep : X → Bool) → ((x : X) → test x ≡ true → keep x ≡ true) → (xs : List X) → find test (kept keep xs) ≡ find test xs
+pub find_kept : {X : Type 0} (test keep : X → Bool) → ((x : X) → test x ≡ true → keep x ≡ true) → (xs : List X) → find test (kept keep xs) ≡ find test xs
 find_kept test keep keeps [] = refl
 find_kept {X} test keep keeps (x ∷ xs) = by (find_kept test keep keeps xs) (keep x) (test x) refl refl
   where

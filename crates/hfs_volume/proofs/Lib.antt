@@ -16,6 +16,7 @@ mod Emptying
 pub mod EntryWants
 pub mod Fields
 pub mod Files
+mod Filling
 mod Finishing
 pub mod Fitting
 pub mod Flat
@@ -82,6 +83,7 @@ pub mod TreeUnbroken
 pub mod TreeWants
 mod Trees
 pub mod Untouched
+pub mod Vacating
 pub mod Wants
 pub mod Whole
 mod Reclaiming

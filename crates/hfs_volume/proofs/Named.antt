@@ -19,6 +19,7 @@ use Rattle.hfs_volume.proofs.Making.{tree_entries}
 use Rattle.hfs_volume.proofs.Emptying.{reach_seen}
 use Rattle.hfs_volume.proofs.Sides.{one_key, entry_is_record}
 use Rattle.hfs_volume.proofs.Fitting.{not_private}
+use Rattle.hfs_volume.proofs.Vacating.{moving_is}
 use Rattle.hfs_volume.specs.Changes.{AreSorted}
 
 module _ (old : VolumeState) (bytes_of : FileRecord → List ℕ) (sound : IsSoundVolume old) where
@@ -77,11 +78,8 @@ module _ (old : VolumeState) (bytes_of : FileRecord → List ℕ) (sound : IsSou
 
   pub to_mv_is : (from to : List (List ℕ)) (at : PlainEntry) (goal : Place) → to_mv tree from to ≡ Ok (at, goal) → is_private_path to ≡ false → IsPair from to at goal × (is_below to from ≡ false)
   to_mv_is from to at goal allowed not_private =
-      let first = then_ok (to_pair tree from to) (λ pair. then_ (unless (is_some pair.1.found) refusal.Exists pair) (unless (is_below to from) refusal.Inside)) (at, goal) allowed in
-      let free = then_ok (unless (is_some first.0.1.found) refusal.Exists first.0) (unless (is_below to from) refusal.Inside) (at, goal) first.2 in
-      let not_there = unless_ok (is_some first.0.1.found) refusal.Exists first.0 free.0 free.1 in
-      let outside = unless_ok (is_below to from) refusal.Inside free.0 (at, goal) free.2 in
-      (subst (λ (pair : PlainEntry × Place). IsPair from to pair.0 pair.1) (not_there.1 ∙ outside.1) (to_pair_is from to first.0 first.1 not_private), outside.0)
+      let moving = moving_is tree from to (at, goal) allowed in
+      (to_pair_is from to (at, goal) moving.is_pair not_private, moving.outside)
 
   pub to_ln_is : (from to : List (List ℕ)) (at : PlainEntry) (goal : Place) → to_ln tree from to ≡ Ok (at, goal) → is_private_path to ≡ false → IsPair from to at goal × (at.folder ≡ false)
   to_ln_is from to at goal allowed not_private =

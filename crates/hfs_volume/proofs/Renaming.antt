@@ -1,10 +1,10 @@
 -- `mv` on the lists of a sound volume.
 use Rattle.std.proofs.Common.{◌≡◌, ℕ, ◌+◌, ◌≤◌, Bool, true, false, List, inl, inr, refl, sym, ◌∙◌, ap, subst, arith}
 use Rattle.std.proofs.lemmas.Bool.{true≢false}
-use Rattle.std.specs.Prelude.{Contains, ◌==◌, if◌then◌else◌}
+use Rattle.std.specs.Prelude.{Contains, ◌==◌, None, Ok, if◌then◌else◌}
 use Rattle.cat_records.specs.declared.record.FileRecord.{FileRecord}
 use Rattle.hfs_language.specs.declared.reply.Reply.TheVariants as reply
-use Rattle.hfs_model.specs.Step.{Place, on, last_name, is_below, moved}
+use Rattle.hfs_model.specs.Step.{Place, on, last_name, is_below, to_mv, is_same_file, removed, moved, vacated, moved_over}
 use Rattle.hfs_model.specs.Plain.{with_changed, with_entry, without_entry}
 use Rattle.hfs_volume.specs.Records.{Placed, entries_of, id_of, is_empty, is_folder, special_of, valence_in}
 use Rattle.hfs_volume.specs.Entries.{LiesIn, count_in}
@@ -31,6 +31,8 @@ use Rattle.hfs_volume.proofs.Refielding.{mark_account, fields_tree, id_is, there
 use Rattle.hfs_volume.proofs.Named.{IsSeenName, IsPair, named_entry, to_mv_is}
 use Rattle.hfs_volume.proofs.Folders.{folder_still, parent_folder, top_is_folder}
 use Rattle.hfs_volume.proofs.Fitting.{not_private}
+use Rattle.hfs_volume.proofs.Vacating.{vacates, moves_later}
+use Rattle.hfs_volume.proofs.RemovingNames.{rm_law}
 
 module _ (from to : List (List ℕ)) (at : PlainEntry) (goal : Place) (old new : VolumeState) (bytes_of : FileRecord → List ℕ) (by_fork : BytesBy bytes_of) (sound : IsSoundVolume old) (is : IsPair old bytes_of sound from to at goal) (not_below : is_below to from ≡ false)
     (named : is_empty (last_name to) ≡ false) (does : MovesName at goal old new) where
@@ -162,11 +164,54 @@ module _ (from to : List (List ℕ)) (at : PlainEntry) (goal : Place) (old new :
       ∙ (λ i. with_changed at.id (redated (sym (moment_is old bytes_of) i)) (with_changed goal.folder (dated (sym (moment_is old bytes_of) i)) (with_changed at.parent (dated (sym (moment_is old bytes_of) i))
       (with_entry (record at { parent = goal.folder; name = goal.name }) (without_entry at.parent at.name (tree_in old bytes_of))))))
 
--- `mv`
+-- the same changes, to a place that is free by now
+at_free_place : (at : PlainEntry) (goal : Place) (old new : VolumeState) → MovesName at goal old new → MovesName at (record goal { found = None }) old new
+at_free_place at goal old new does = record {
+  sorted = does.sorted;
+  entry = does.entry;
+  stands = does.stands;
+  is_entry = does.is_entry;
+  moved = does.moved;
+  moves = does.moves;
+  sorted_again = does.sorted_again;
+  lost = does.lost;
+  loses = does.loses;
+  gained = does.gained;
+  gains = does.gains;
+  marks = does.marks;
+}
+
+-- `mv`: to a free place, over another file, which is `rm` of it and then `mv` to a free place, and of a file onto itself
 pub mv_law : MvDoes
-mv_law from to at goal old new bytes_of are sound not_private named allowed does =
-    let is = to_mv_is old bytes_of sound from to at goal allowed not_private in (
-      sound_moved from to at goal old new bytes_of are.by_fork sound is.0 is.1 named does,
-      tree_of_moved from to at goal old new bytes_of are.by_fork sound is.0 is.1 named does
-          ∙ sym (ap (λ r. (on (tree_in old bytes_of) r (λ pair. (reply.Ok, moved pair.0 pair.1 (tree_in old bytes_of)))).1) allowed),
-    )
+mv_law from to at goal old new bytes_of are sound not_private named allowed moves =
+    let tree = tree_in old bytes_of in
+    let whole = sym (ap (λ r. (on tree r (λ pair. (reply.Ok, moved_over pair.0 pair.1 tree))).1) allowed) in
+    elim moves [
+      | inl free ↦
+          let is = to_mv_is old bytes_of sound from to at goal allowed not_private in (
+            sound_moved from to at goal old new bytes_of are.by_fork sound is.0 is.1 named free.1,
+            tree_of_moved from to at goal old new bytes_of are.by_fork sound is.0 is.1 named free.1
+                ∙ (λ i. if is_same_file at (sym free.0 i) then tree else moved at goal (vacated (sym free.0 i) tree))
+                ∙ whole,
+          )
+      | inr rest ↦ elim rest [
+        | inl over ↦
+            let removal = vacates tree from to (at, goal) allowed over.other over.stood in
+            let first = rm_law to over.other old over.vacated bytes_of are sound removal over.removes in
+            let between : tree_in over.vacated bytes_of ≡ removed over.other tree = first.1 ∙ ap (λ r. (on tree r (λ x. (reply.Ok, removed x tree))).1) removal in
+            let allowed_later : to_mv (tree_in over.vacated bytes_of) from to ≡ Ok (at, record goal { found = None }) =
+            ap (λ t. to_mv t from to) between ∙ moves_later tree from to (at, goal) allowed over.other over.stood over.differs in
+            let is = to_mv_is over.vacated bytes_of first.0 from to at (record goal { found = None }) allowed_later not_private in
+            let does = at_free_place at goal over.vacated new over.moves in (
+              sound_moved from to at (record goal { found = None }) over.vacated new bytes_of are.by_fork first.0 is.0 is.1 named does,
+              tree_of_moved from to at (record goal { found = None }) over.vacated new bytes_of are.by_fork first.0 is.0 is.1 named does
+                  ∙ ap (moved at goal) between
+                  ∙ (λ i. if sym over.differs i then tree else moved at goal (vacated (sym over.stood i) tree))
+                  ∙ whole,
+            )
+        | inr stays ↦ (
+          subst IsSoundVolume (sym stays.same) sound,
+          ap (λ v. tree_in v bytes_of) stays.same ∙ (λ i. if sym stays.itself i then tree else moved at goal (vacated goal.found tree)) ∙ whole,
+        )
+      ]
+    ]

@@ -1,6 +1,6 @@
 -- The step of each command keeps plain trees.
-use Rattle.std.proofs.Common.{◌≡◌, ◌≢◌, ◌⊎◌, ◌<◌, ◌≤◌, ℕ, zero, suc, ◌+◌, ◌-◌, ◌==◌, Bool, true, false, not, List, [], ◌∷◌, ◌++◌, length, map, take, drop, refl, sym, ◌∙◌, ap, subst, arith, inl, inr, ⊎_elim, eq-eqb, add-zero}
-use Rattle.std.specs.Prelude.{Contains, ◌&&◌, ◌||◌, nat_lt, nat_le, count_by, find, is_some, Option, Some, None, ok_or, Result, Ok, Err, if◌then◌else◌}
+use Rattle.std.proofs.Common.{◌≡◌, ◌≢◌, ◌⊎◌, ◌<◌, ◌≤◌, ℕ, zero, suc, ◌+◌, ◌==◌, Bool, true, false, not, List, [], ◌∷◌, length, map, take, drop, refl, sym, ◌∙◌, ap, subst, arith, inl, inr, eq-eqb, add-zero}
+use Rattle.std.specs.Prelude.{Contains, ◌&&◌, ◌||◌, nat_le, count_by, find, is_some, Option, Some, None, ok_or, Result, Ok, Err, if◌then◌else◌}
 use Rattle.std.specs.Str.{bytes_eq}
 use Rattle.std.proofs.lemmas.Bool.{eqb-true, ltb-true, true≢false}
 use Rattle.std.proofs.lemmas.Slice.Eq.{bytes_eq-Decides}
@@ -8,7 +8,6 @@ use Rattle.hfs_language.specs.declared.command.Command.{Command}
 use Rattle.hfs_language.specs.declared.command.Command.TheVariants as command
 use Rattle.hfs_language.specs.declared.refusal.Refusal.{Refusal}
 use Rattle.hfs_language.specs.declared.refusal.Refusal.TheVariants as refusal
-use Rattle.hfs_language.specs.declared.reply.Reply.{Reply}
 use Rattle.hfs_language.specs.declared.reply.Reply.TheVariants as reply
 use Rattle.hfs_model.specs.declared.plain.PlainAttribute.{PlainAttribute}
 use Rattle.hfs_model.specs.declared.plain.PlainEntry.{PlainEntry}
@@ -22,15 +21,16 @@ use Rattle.std.proofs.lemmas.Map.Text.{is_eq-slice_cmp}
 use Rattle.hx_bytes.specs.Field.{put_at}
 use Rattle.hfs_model.specs.Sorted.{kept, IsInOrder}
 use Rattle.hfs_model.specs.Plain.{is_at, entry_at, entries_in, names_of, is_node, node_at, node_before, attribute_before, with_entry, without_entry, with_node, without_node, with_changed, new_node, with_attribute, without_attribute, is_named, IsNamed}
-use Rattle.hfs_model.specs.Step.{then_, unless, root_entry, child, walk, reached, Place, place, place_in, front, last_name, is_root, is_below, new_place, to_make, to_rm, to_rmdir, to_pair, to_mv, to_ln, to_link, to_node, to_file, to_folder, touched, marked, drawn, with_private, made, unnamed, removed, removed_folder, moved, linked, link_ids, with_bytes, written, resized, padded, facts_of, listed, listed_attribute, to_write, to_read, to_trunc, to_set, to_attribute, most_links, on, step, Step}
-use Rattle.hfs_volume.specs.Books.{IsGivenTree, StepKeepsTrees}
+use Rattle.hfs_model.specs.Step.{then_, unless, root_entry, child, walk, reached, Place, place, place_in, front, last_name, is_root, new_place, to_make, to_rm, to_rmdir, to_pair, to_mv, to_ln, to_link, to_node, to_folder, is_same_file, vacated, moved_over, touched, marked, drawn, with_private, made, unnamed, removed, removed_folder, moved, linked, link_ids, with_bytes, written, resized, padded, facts_of, listed, listed_attribute, to_write, to_read, to_trunc, to_set, to_attribute, most_links, on, step, Step}
+use Rattle.hfs_volume.specs.Books.{StepKeepsTrees}
 use Rattle.hfs_volume.specs.Laws.{one_if}
-use Rattle.hfs_volume.proofs.Counting.{length_kept, count_cons}
+use Rattle.hfs_volume.proofs.Counting.{count_cons}
 use Rattle.hfs_volume.proofs.Members.{at_front, behind, first_or_later, kept_stands, kept_cases}
 use Rattle.hfs_volume.proofs.Flat.{found_some, found_none, some_same}
 use Rattle.hfs_volume.proofs.Reaching.{ok_same, then_ok, unless_ok, if_ok, found_ok}
 use Rattle.hfs_volume.proofs.InOrder.{each_by, put_cases, put_in_order, kept_in_order, total_trans, total_other}
-use Rattle.hfs_volume.proofs.Booking.{IsBook, HasNames, IsRightlyNamed, given_is, book_of, names_in, changed_in, book_changed, names_changed, book_renumbered, names_renumbered, book_with_node, node_still, node_there, book_with_entry, names_with_entry, book_without, names_without, book_without_node, node_remains, differs}
+use Rattle.hfs_volume.proofs.Vacating.{moving_is, vacates, moves_later}
+use Rattle.hfs_volume.proofs.Booking.{IsBook, HasNames, IsRightlyNamed, given_is, book_of, names_in, changed_in, book_changed, names_changed, book_renumbered, names_renumbered, book_with_node, node_still, node_there, book_with_entry, names_with_entry, book_without, names_without, book_without_node, differs}
 
 -- ---- what paths reach
 
@@ -451,6 +451,28 @@ on_keeps {X} tree r next steady keeps = by r refl
     by (Err why) is = steady
 
 module _ (tree : PlainTree) (steady : IsSteady tree) where
+  -- what both paths of `mv` and `ln` reach
+  pair_is : (from to : List (List ℕ)) (pair : PlainEntry × Place) → to_pair tree from to ≡ Ok pair
+      → (IsThere tree pair.0) × (pair.1.found ≡ entry_at tree pair.1.folder pair.1.name) × ((node : PlainNode) × (node_at tree pair.1.folder ≡ Some node) × (node.folder ≡ true))
+  pair_is from to pair is =
+      let first = then_ok (unless (is_root from || is_root to) refusal.Root from) (λ named. then_ (reached tree named) (λ at. then_ (place tree to) (λ goal. Ok (at, goal)))) pair is in
+      let root = unless_ok (is_root from || is_root to) refusal.Root from first.0 first.1 in
+      let second = then_ok (reached tree first.0) (λ at. then_ (place tree to) (λ goal. Ok (at, goal))) pair first.2 in
+      let third = then_ok (place tree to) (λ goal. Ok (second.0, goal)) pair second.2 in
+      let same : (let p : PlainEntry × Place = (second.0, third.0) in p ≡ pair) = ok_same _ pair third.2 in
+      let facts = place_is tree steady.0 to third.0 third.1 in
+      subst (λ (p : PlainEntry × Place). (IsThere tree p.0) × (p.1.found ≡ entry_at tree p.1.folder p.1.name) × ((node : PlainNode) × (node_at tree p.1.folder ≡ Some node) × (node.folder ≡ true))) same
+      (reached_there tree steady.0 from second.0 (left_false (is_root from) (is_root to) root.0) (ap (reached tree) root.1 ∙ second.1), facts.0, facts.1)
+    where
+      left_false : (a b : Bool) → (a || b) ≡ false → a ≡ false
+      left_false true b is = absurd (true≢false is)
+      left_false false b is = refl
+
+  -- to a free place
+  free_keeps : (from to : List (List ℕ)) (pair : PlainEntry × Place) → to_mv tree from to ≡ Ok pair → pair.1.found ≡ None → IsSteady (moved pair.0 pair.1 tree)
+  free_keeps from to pair is free = let facts = pair_is from to pair (moving_is tree from to pair is).is_pair in moved_keeps tree steady pair.0 facts.0 pair.1 (sym facts.1 ∙ free) facts.2
+
+module _ (tree : PlainTree) (steady : IsSteady tree) where
   make_keeps : (folder : Bool) (path : List (List ℕ)) (at : Place) → to_make tree path ≡ Ok at → IsSteady (made folder at tree)
   make_keeps folder path at is =
       let first = then_ok (unless (is_root path) refusal.Root path) (new_place tree) at is in
@@ -483,32 +505,14 @@ module _ (tree : PlainTree) (steady : IsSteady tree) where
       is_true true is = refl
       is_true false is = absurd (true≢false is)
 
-  -- what both paths of `mv` and `ln` reach
-  pair_is : (from to : List (List ℕ)) (pair : PlainEntry × Place) → to_pair tree from to ≡ Ok pair
-      → (IsThere tree pair.0) × (pair.1.found ≡ entry_at tree pair.1.folder pair.1.name) × ((node : PlainNode) × (node_at tree pair.1.folder ≡ Some node) × (node.folder ≡ true))
-  pair_is from to pair is =
-      let first = then_ok (unless (is_root from || is_root to) refusal.Root from) (λ named. then_ (reached tree named) (λ at. then_ (place tree to) (λ goal. Ok (at, goal)))) pair is in
-      let root = unless_ok (is_root from || is_root to) refusal.Root from first.0 first.1 in
-      let second = then_ok (reached tree first.0) (λ at. then_ (place tree to) (λ goal. Ok (at, goal))) pair first.2 in
-      let third = then_ok (place tree to) (λ goal. Ok (second.0, goal)) pair second.2 in
-      let same : (let p : PlainEntry × Place = (second.0, third.0) in p ≡ pair) = ok_same _ pair third.2 in
-      let facts = place_is tree steady.0 to third.0 third.1 in
-      subst (λ (p : PlainEntry × Place). (IsThere tree p.0) × (p.1.found ≡ entry_at tree p.1.folder p.1.name) × ((node : PlainNode) × (node_at tree p.1.folder ≡ Some node) × (node.folder ≡ true))) same
-      (reached_there tree steady.0 from second.0 (left_false (is_root from) (is_root to) root.0) (ap (reached tree) root.1 ∙ second.1), facts.0, facts.1)
+  mv_keeps : (from to : List (List ℕ)) (pair : PlainEntry × Place) → to_mv tree from to ≡ Ok pair → IsSteady (moved_over pair.0 pair.1 tree)
+  mv_keeps from to pair is = by pair.1.found refl (is_same_file pair.0 pair.1.found) refl
     where
-      left_false : (a b : Bool) → (a || b) ≡ false → a ≡ false
-      left_false true b is = absurd (true≢false is)
-      left_false false b is = refl
-
-  mv_keeps : (from to : List (List ℕ)) (pair : PlainEntry × Place) → to_mv tree from to ≡ Ok pair → IsSteady (moved pair.0 pair.1 tree)
-  mv_keeps from to pair is =
-      let first = then_ok (to_pair tree from to) (λ p. then_ (unless (is_some p.1.found) refusal.Exists p) (unless (is_below to from) refusal.Inside)) pair is in
-      let second = then_ok (unless (is_some first.0.1.found) refusal.Exists first.0) (unless (is_below to from) refusal.Inside) pair first.2 in
-      let free = unless_ok (is_some first.0.1.found) refusal.Exists first.0 second.0 second.1 in
-      let outside = unless_ok (is_below to from) refusal.Inside second.0 pair second.2 in
-      let facts = pair_is from to first.0 first.1 in
-      subst (λ (p : PlainEntry × Place). IsSteady (moved p.0 p.1 tree)) (free.1 ∙ outside.1)
-      (moved_keeps tree steady first.0.0 facts.0 first.0.1 (sym facts.1 ∙ none_found tree steady.0 first.0.1.found free.0) facts.2)
+      by : (o : Option PlainEntry) → pair.1.found ≡ o → (b : Bool) → is_same_file pair.0 pair.1.found ≡ b → IsSteady (if b then tree else moved pair.0 pair.1 (vacated o tree))
+      by o is_o true itself = steady
+      by None free false differs = free_keeps tree steady from to pair is free
+      by (Some other) stood false differs =
+          free_keeps (removed other tree) (rm_keeps to other (vacates tree from to pair is other stood)) from to (pair.0, record pair.1 { found = None }) (moves_later tree from to pair is other stood differs) refl
 
   ln_keeps : (from to : List (List ℕ)) (pair : PlainNode × Place) → to_link tree from to ≡ Ok pair → IsSteady (linked pair.0 pair.1 tree)
   ln_keeps from to pair is =
@@ -523,7 +527,7 @@ module _ (tree : PlainTree) (steady : IsSteady tree) where
       let free = unless_ok (is_some second.0.1.found) refusal.Exists second.0 third.0 third.1 in
       let few = unless_ok (nat_le most_links (names_of tree second.0.0.id)) refusal.TooManyLinks third.0 linking.0 third.2 in
       let all : first.0 ≡ linking.0 = kind.1 ∙ free.1 ∙ few.1 in
-      let facts = pair_is from to linking.0 (first.1 ∙ ap Ok all) in
+      let facts = pair_is tree steady from to linking.0 (first.1 ∙ ap Ok all) in
       let its = (steady.0.named linking.0.0 (stands_in tree linking.0.0 facts.0)).named in
       let is_file : found.0.folder ≡ false =
       ap (λ (n : PlainNode). n.folder) (some_same found.0 its.0 (sym node ∙ its.1)) ∙ its.2 ∙ sym (ap (λ (p : PlainEntry × Place). p.0.folder) all) ∙ kind.0 in
@@ -542,7 +546,7 @@ module _ (tree : PlainTree) (steady : IsSteady tree) where
   step_steady (command.Create path) = on_keeps tree (to_make tree path) (λ at. (reply.Ok, made false at tree)) steady (make_keeps false path)
   step_steady (command.Rm path) = on_keeps tree (to_rm tree path) (λ at. (reply.Ok, removed at tree)) steady (rm_keeps path)
   step_steady (command.Rmdir path) = on_keeps tree (to_rmdir tree path) (λ at. (reply.Ok, removed_folder at tree)) steady (rmdir_keeps path)
-  step_steady (command.Mv from to) = on_keeps tree (to_mv tree from to) (λ pair. (reply.Ok, moved pair.0 pair.1 tree)) steady (mv_keeps from to)
+  step_steady (command.Mv from to) = on_keeps tree (to_mv tree from to) (λ pair. (reply.Ok, moved_over pair.0 pair.1 tree)) steady (mv_keeps from to)
   step_steady (command.Ln from to) = on_keeps tree (to_link tree from to) (λ pair. (reply.Ok, linked pair.0 pair.1 tree)) steady (ln_keeps from to)
   step_steady (command.Write path from value) = on_keeps tree (to_write tree path from value) (λ file. (reply.Ok, written file from value tree)) steady (λ file is. written_keeps file from value)
   step_steady (command.Read path from long) = on_keeps tree (to_read tree path long) (λ file. (reply.Content (take long (drop from file.bytes)), tree)) steady (λ file is. steady)

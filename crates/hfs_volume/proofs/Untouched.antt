@@ -1,6 +1,6 @@
 -- What lies aside is free: a sound content with other bytes in free blocks and in the journal reads as the same volume.
-use Rattle.std.proofs.Common.{◌≡◌, ◌≢◌, ◌⊎◌, ◌<◌, ◌≤◌, ℕ, zero, suc, ◌+◌, ◌-◌, ◌*◌, ◌/◌, ◌%◌, ◌==◌, Bool, true, false, List, [], ◌∷◌, ◌++◌, length, map, take, drop, refl, sym, ◌∙◌, ap, subst, arith, inl, inr, ⊎_elim}
-use Rattle.std.specs.Prelude.{Contains, All, IsTrue, Option, Some, None, slice_get, ◌&&◌, not, nat_lt, nat_le, if◌then◌else◌}
+use Rattle.std.proofs.Common.{◌≡◌, ◌≢◌, ◌⊎◌, ◌<◌, ◌≤◌, ℕ, ◌+◌, ◌*◌, ◌/◌, ◌==◌, Bool, true, false, List, [], ◌∷◌, length, refl, sym, ◌∙◌, ap, subst, arith, inl, inr, ⊎_elim}
+use Rattle.std.specs.Prelude.{Contains, Option, Some, None, ◌&&◌, not, nat_le, if◌then◌else◌}
 use Rattle.std.specs.Int.{is_power_of_two}
 use Rattle.std.specs.List.{flat_map, range_with_len}
 use Rattle.std.specs.Str.{bytes_eq}
@@ -8,10 +8,10 @@ use Rattle.std.proofs.lemmas.Slice.Eq.{bytes_eq-Decides}
 use Rattle.std.proofs.lemmas.Bool.{leb-true, eqb-true, and_parts, true≢false}
 use Rattle.std.proofs.lemmas.List.Elements.{Contains-append_left, Contains-append_right, Contains-append_cases}
 use Rattle.sector_disk.specs.Space.{AgreesOutside}
-use Rattle.jnl_format.specs.Recovery.{Content, sector, header_of_volume, info_sector_of}
+use Rattle.jnl_format.specs.Recovery.{Content, sector, header_of_volume}
 use Rattle.hx_bytes.specs.declared.extents.Extent.{Extent}
 use Rattle.fork_map.specs.Blocks.{blocks_of, sectors_of}
-use Rattle.volume_header.specs.Refusal.{header_refusal, is_volume_size, is_hfsx, is_block_size, fits_blocks}
+use Rattle.volume_header.specs.Refusal.{header_refusal, is_volume_size, is_hfsx, is_block_size}
 use Rattle.volume_header.specs.declared.header.VolumeHeader.{VolumeHeader}
 use Rattle.volume_header.specs.declared.refusal.HeaderRefusal.{HeaderRefusal}
 use Rattle.volume_header.specs.declared.refusal.HeaderRefusal.TheVariants.{LimitSectors, NotHfsx, BadGeometry}
@@ -19,19 +19,19 @@ use Rattle.cat_records.specs.declared.record.FileRecord.{FileRecord}
 use Rattle.cat_records.specs.declared.record.CatRecord.TheVariants.{File}
 use Rattle.hfs_model.specs.Sorted.{kept}
 use Rattle.hfs_model.specs.Step.{journal_name, journal_info_name}
-use Rattle.hfs_volume.specs.Records.{Placed, Overflow, entries_of, id_of, is_empty, is_placed_at}
-use Rattle.hfs_volume.specs.Forks.{Owned, per_block_of, parts_for, data_kind, resource_kind, extents_id, extents_of, in_use, is_of, overflow_in, blocks_owned, forks_in, file_forks, all_forks, special_forks, reserved_blocks}
-use Rattle.hfs_volume.specs.Content.{VolumeState, volume_of, records_of, overflow_in_volume, is_set, JournalPlace}
+use Rattle.hfs_volume.specs.Records.{Placed, Overflow, entries_of, is_empty, is_placed_at}
+use Rattle.hfs_volume.specs.Forks.{Owned, per_block_of, data_kind, resource_kind, extents_id, extents_of, in_use, is_of, overflow_in, blocks_owned, forks_in, file_forks, all_forks, special_forks, reserved_blocks}
+use Rattle.hfs_volume.specs.Content.{VolumeState, volume_of, records_of, overflow_in_volume, JournalPlace}
 use Rattle.hfs_volume.specs.Attributes.{IsOneExtent, journal_extent, info_extent}
 use Rattle.hfs_volume.specs.Blocks.{forks_of, used_in, is_among, HasForks, HasSizes, LieInside}
-use Rattle.hfs_volume.specs.Sound.{IsSound, IsSoundVolume}
-use Rattle.hfs_volume.specs.Aside.{IsAside, IsFreeSector, IsJournalSector, NamesJournal, AsideIsFree}
-use Rattle.hfs_volume.proofs.Members.{each_of, all_of, at_front, behind, kept_stands, kept_cases}
+use Rattle.hfs_volume.specs.Sound.{IsSound}
+use Rattle.hfs_volume.specs.Aside.{IsAside, IsFreeSector, IsJournalSector}
+use Rattle.hfs_volume.proofs.Members.{each_of, at_front, kept_stands, kept_cases}
 use Rattle.hfs_volume.proofs.Flat.{found_some}
 use Rattle.hfs_volume.proofs.Reaching.{flat_stands, flat_cases}
 use Rattle.hfs_volume.proofs.BlockWants.{in_range}
-use Rattle.hfs_volume.proofs.Sectors.{range_cases, whole_sectors, from_first, to_last, in_front, block_is, in_block}
-use Rattle.hfs_volume.proofs.Apart.{reserved_is_used, fork_is_used, not_reserved, not_in_both, among}
+use Rattle.hfs_volume.proofs.Sectors.{range_cases, whole_sectors, from_first, to_last, block_is, in_block}
+use Rattle.hfs_volume.proofs.Apart.{fork_is_used, not_reserved, not_in_both, among}
 
 -- ---- block sizes
 
@@ -207,6 +207,19 @@ module _ (content other : Content) (sound : IsSound content) (agrees : AgreesOut
       not_aside (inr journal) =
           let block = journal_block at journal in
           (own (journal_inside (at / per) block)).1 block
+
+  -- a block of one of the journal's files is used
+  journal_used : (block : ℕ) → IsJournalBlock volume volume.journal block → Contains (used_in volume) block
+  journal_used block (inl journal) = fork_is_used volume (data_fork_of journal_file.file) block journal_stands (in_journal block journal)
+  journal_used block (inr info) = fork_is_used volume (data_fork_of info_file.file) block info_stands (in_info block info)
+
+  -- no sector of the journal is free
+  pub journal_not_free : (at : ℕ) → IsJournalSector content at → IsFreeSector content at → ⊥
+  unfolding volume_of
+  journal_not_free at journal free =
+      let used : is_among (used_in volume) (at / per) ≡ true = among (used_in volume) (at / per) (journal_used (at / per) (journal_block at journal)) in
+      let bit = sound.volume.blocks.bits.bits (at / per) free.0 in
+      true≢false (sym used ∙ sym bit ∙ free.1)
 
   pub fork_stays : (owned : Owned) → Contains (forks_of volume) owned → IsForeign owned → (at : ℕ) → Contains (sectors_of per (blocks_owned (overflow_in_volume volume) owned)) at → sector other at ≡ sector content at
   fork_stays owned stands foreign at has =

@@ -11,7 +11,7 @@ use Rattle.hfs_language.specs.declared.reply.Reply.TheVariants as reply
 use Rattle.hfs_model.specs.declared.plain.PlainNode.{PlainNode}
 use Rattle.hfs_model.specs.declared.plain.PlainTree.{PlainTree}
 use Rattle.hfs_model.specs.Plain.{is_node, node_at, with_changed}
-use Rattle.hfs_model.specs.Step.{on, reached, to_node, to_file, to_size, size_written, then_, unless, with_bytes, written, resized, is_private_name, most_size, most_bytes}
+use Rattle.hfs_model.specs.Step.{on, reached, to_node, to_file, unless, with_bytes, written, resized, is_private_name, most_size, most_bytes}
 use Rattle.hfs_volume.specs.Records.{Placed, entries_of, id_of, is_link, special_of}
 use Rattle.hfs_volume.specs.Forks.{data_kind}
 use Rattle.hfs_volume.specs.Links.{private_id, is_in}
@@ -195,15 +195,11 @@ written_is : (file : PlainNode) (at : ℕ) (value : List ℕ) (tree : PlainTree)
 written_is file at [] tree some = absurd (omega (arith, some))
 written_is file at (byte ∷ value) tree some = refl
 
-to_size_ok : (size : ℕ) (file other : PlainNode) → to_size size file ≡ Ok other → file ≡ other
-to_size_ok size file other allowed = (unless_ok _ refusal.GrowLimit file other allowed).1
-
 pub write_law : WriteDoes
 write_law path at value file from count fresh old new bytes_of bytes_after are sound some allowed does makes =
     let tree = tree_in old bytes_of in
-    let first = then_ok (to_file tree path) (λ f. then_ (unless (nat_lt most_size (at + length value) || nat_lt most_bytes (length value)) refusal.TooLarge f) (to_size (size_written (length f.bytes) at (length value)))) file allowed in
-    let second = then_ok (unless (nat_lt most_size (at + length value) || nat_lt most_bytes (length value)) refusal.TooLarge first.0) (to_size (size_written (length first.0.bytes) at (length value))) file first.2 in
-    let same : first.0 ≡ file = (unless_ok _ refusal.TooLarge first.0 second.0 second.1).1 ∙ to_size_ok _ second.0 file second.2 in
+    let first = then_ok (to_file tree path) (unless (nat_lt most_size (at + length value) || nat_lt most_bytes (length value)) refusal.TooLarge) file allowed in
+    let same : first.0 ≡ file = (unless_ok (nat_lt most_size (at + length value) || nat_lt most_bytes (length value)) refusal.TooLarge first.0 file first.2).1 in
     let it = reaches_file old bytes_of path file (first.1 ∙ ap Ok same) in (
       rewritten_sound (written_bytes at value) file from count fresh old new bytes_of bytes_after are sound it does makes,
       rewritten_tree (written_bytes at value) file from count fresh old new bytes_of bytes_after are sound it does makes
@@ -217,9 +213,8 @@ write_nothing_law path at file old bytes_of allowed = sym (ap (stepped_write (tr
 pub trunc_law : TruncDoes
 trunc_law path size file from count fresh old new bytes_of bytes_after are sound allowed does makes =
     let tree = tree_in old bytes_of in
-    let first = then_ok (to_file tree path) (λ f. then_ (unless (nat_lt most_size size) refusal.TooLarge f) (to_size size)) file allowed in
-    let second = then_ok (unless (nat_lt most_size size) refusal.TooLarge first.0) (to_size size) file first.2 in
-    let same : first.0 ≡ file = (unless_ok _ refusal.TooLarge first.0 second.0 second.1).1 ∙ to_size_ok _ second.0 file second.2 in
+    let first = then_ok (to_file tree path) (unless (nat_lt most_size size) refusal.TooLarge) file allowed in
+    let same : first.0 ≡ file = (unless_ok (nat_lt most_size size) refusal.TooLarge first.0 file first.2).1 in
     let it = reaches_file old bytes_of path file (first.1 ∙ ap Ok same) in (
       rewritten_sound (resized_bytes size) file from count fresh old new bytes_of bytes_after are sound it does makes,
       rewritten_tree (resized_bytes size) file from count fresh old new bytes_of bytes_after are sound it does makes ∙ sym (ap (stepped_trunc tree size) allowed),

@@ -5,7 +5,7 @@ use Rattle.cat_records.specs.declared.record.CatRecord.{CatRecord}
 use Rattle.cat_records.specs.declared.record.CatRecord.TheVariants.{Folder, File, Thread}
 use Rattle.hfs_language.specs.declared.command.Command.TheVariants as command
 use Rattle.hfs_model.specs.declared.plain.PlainEntry.{PlainEntry}
-use Rattle.hfs_model.specs.Step.{Place, step, to_mv, to_rm, to_ln, is_private_path, last_name, private_name}
+use Rattle.hfs_model.specs.Step.{Place, step, to_mv, to_rm, to_ln, is_same_file, is_private_path, last_name, private_name}
 use Rattle.hfs_volume.specs.Records.{Placed, entries_of, is_empty, id_of, is_link, is_link_type, special_of, numbered}
 use Rattle.hfs_volume.specs.Links.{private_id, node_name}
 use Rattle.hfs_volume.specs.Content.{VolumeState, records_of}
@@ -14,7 +14,7 @@ use Rattle.hfs_volume.specs.TreeOf.{tree_in}
 use Rattle.hfs_volume.specs.Changes.{AreSorted, AddsEntry, DropsEntry, MovesEntry, InCatalog}
 use Rattle.hfs_volume.specs.Commands.{AreBytesOf, ChangesFields, IsTouched, IsMarkedAlone, IsRecounted, IsRecountedAlone, IsMarkedLinked, with_counts, IsNewValue, IsEmptyFork}
 
--- `mv`: the entry stands at its new place, with its thread; its old folder has one entry less and its new one one more; and the folder or
+-- `mv` to a free place: the entry stands there, with its thread; its old folder has one entry less and its new one one more; and the folder or
 -- file that it names has a new attribute date
 pub record MovesName (at : PlainEntry) (to : Place) (old new : VolumeState) : Type 0 where
   pub sorted : AreSorted old.catalog_pairs
@@ -114,6 +114,31 @@ pub record RemovesLastLink (at : PlainEntry) (old new : VolumeState) : Type 0 wh
   pub sorted_again : AreSorted moved.catalog_pairs
   pub loses : ChangesFields at.parent (IsTouched old.head.modify_date 0 1) moved new
 
+-- one of the three: of an only name, of a link among others, of the last link
+abbrev pub Removes : PlainEntry → VolumeState → VolumeState → Type 0
+Removes at old new = RemovesFile at old new ⊎ (RemovesLink at old new ⊎ RemovesLastLink at old new)
+
+-- ---- `mv` over a file
+
+-- `mv` over another file: that file loses its name at the new place as by `rm`, so that with its last name it waits in the private folder to
+-- be removed, and the entry takes the free place
+pub record ReplacesName (at : PlainEntry) (to : Place) (old new : VolumeState) : Type 0 where
+  pub other : PlainEntry
+  pub stood : to.found ≡ Some other
+  pub differs : is_same_file at to.found ≡ false
+  pub vacated : VolumeState
+  pub removes : Removes other old vacated
+  pub moves : MovesName at to vacated new
+
+-- `mv` of a file onto itself: nothing changes
+pub record StaysInPlace (at : PlainEntry) (to : Place) (old new : VolumeState) : Type 0 where
+  pub itself : is_same_file at to.found ≡ true
+  pub same : new ≡ old
+
+-- one of the three: to a free place, over another file, of a file onto itself
+abbrev pub Moves : PlainEntry → Place → VolumeState → VolumeState → Type 0
+Moves at to old new = ((to.found ≡ None) × MovesName at to old new) ⊎ (ReplacesName at to old new ⊎ StaysInPlace at to old new)
+
 -- ---- `ln`
 
 -- a new link: a file of the type for such names, without blocks, that tells the number of its file
@@ -173,15 +198,12 @@ pub record LinksMore (at : PlainEntry) (to : Place) (old new : VolumeState) : Ty
 
 -- ---- what each command does
 
--- `mv`: where the step refuses nothing, the lists that the changes lead to are those of a sound volume, and tell the step's tree.
+-- `mv`, in each of its three cases: where the step refuses nothing, the lists that the changes lead to are those of a sound volume, and tell the
+-- step's tree.
 abbrev pub MvDoes : Type 0
 MvDoes =
     (from to : List (List ℕ)) (at : PlainEntry) (goal : Place) (old new : VolumeState) (bytes_of : FileRecord → List ℕ) → AreBytesOf bytes_of → IsSoundVolume old → is_private_path to ≡ false → is_empty (last_name to) ≡ false
-    → to_mv (tree_in old bytes_of) from to ≡ Ok (at, goal) → MovesName at goal old new → IsSoundVolume new × (tree_in new bytes_of ≡ (step (tree_in old bytes_of) (command.Mv from to)).1)
-
--- one of the three: of an only name, of a link among others, of the last link
-abbrev pub Removes : PlainEntry → VolumeState → VolumeState → Type 0
-Removes at old new = RemovesFile at old new ⊎ (RemovesLink at old new ⊎ RemovesLastLink at old new)
+    → to_mv (tree_in old bytes_of) from to ≡ Ok (at, goal) → Moves at goal old new → IsSoundVolume new × (tree_in new bytes_of ≡ (step (tree_in old bytes_of) (command.Mv from to)).1)
 
 -- The same for `rm`, in each of its three cases.
 abbrev pub RmDoes : Type 0

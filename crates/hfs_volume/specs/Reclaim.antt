@@ -1,11 +1,11 @@
 -- Housekeeping: steps that give blocks, attributes and entries back which no name leads to any more.
-use Rattle.std.specs.Prelude.{◌≡◌, ◌≢◌, ◌⊎◌, ◌<◌, ◌≤◌, ℕ, ◌+◌, ◌-◌, ◌*◌, ◌/◌, ◌%◌, ◌^◌, ◌==◌, ◌&&◌, nat_lt, Bool, false, not, List, [], ◌∷◌, length, take, find, slice_index, Option, Some, None, IsTrue, true, Ok, if◌then◌else◌}
+use Rattle.std.specs.Prelude.{◌≡◌, ◌≢◌, ◌⊎◌, ◌<◌, ◌≤◌, ℕ, ◌+◌, ◌-◌, ◌*◌, ◌/◌, ◌%◌, ◌^◌, ◌==◌, ◌&&◌, nat_lt, Bool, false, not, List, [], ◌∷◌, length, take, find, slice_index, Option, Some, None, Ok, if◌then◌else◌}
 use Rattle.std.specs.Str.{bytes_eq}
+use Rattle.sector_disk.specs.Space.{AgreesOutside}
 use Rattle.jnl_format.specs.Recovery.{Content}
 use Rattle.volume_header.specs.declared.header.VolumeHeader.{VolumeHeader}
 use Rattle.hx_bytes.specs.declared.extents.ForkRecord.{ForkRecord}
 use Rattle.hfs_language.specs.declared.command.Command.{Command}
-use Rattle.hfs_language.specs.declared.refusal.Refusal.{Refusal}
 use Rattle.hfs_volume.specs.declared.cost.Cost.{Cost}
 use Rattle.hfs_volume.specs.declared.cost.Cost.TheVariants as cost
 use Rattle.hfs_model.specs.Sorted.{kept}
@@ -17,6 +17,7 @@ use Rattle.hfs_volume.specs.Links.{orphans_of}
 use Rattle.hfs_volume.specs.Blocks.{forks_of}
 use Rattle.hfs_volume.specs.Sound.{IsSound}
 use Rattle.hfs_volume.specs.TreeOf.{tree_of}
+use Rattle.hfs_volume.specs.Aside.{IsAside, IsFreeSector}
 use Rattle.hfs_volume.specs.Cost.{cost_of}
 use Rattle.hfs_volume.specs.Weight.{free_blocks, room_with, needs_for, edits, cut_cost, file_fork, file_blocks, weight}
 
@@ -233,10 +234,20 @@ pub record MarksHeader (old new : Content) : Type 0 where
   pub volume : volume_of new ≡ record (volume_of old) { head = mounted_header (volume_of old).head }
   pub keeps : KeepsTree old new
 
+-- Free blocks were filled ahead of a command that makes a file longer: no list of the volume has changed, and no bytes but those that lie aside.
+pub record FillsZeros (old new : Content) : Type 0 where
+  pub volume : volume_of new ≡ volume_of old
+  pub others : AgreesOutside (IsAside old) old new
+  pub keeps : KeepsTree old new
+
+-- What is written in free blocks is no change of the volume: such a step may come between commands.
+abbrev pub FreeIsFilled : Type 0
+FreeIsFilled = (old new : Content) → IsSound old → AgreesOutside (IsFreeSector old) old new → FillsZeros old new
+
 -- one step of housekeeping
 abbrev pub IsTidied : ℕ → Option ℕ → Content → Content → Type 0
 IsTidied capacity shrunk old new =
-    Reclaims capacity shrunk old new ⊎ (CutsSurplus capacity old new ⊎ (GrowsTreeFirst capacity shrunk old new ⊎ MarksHeader old new))
+    Reclaims capacity shrunk old new ⊎ (CutsSurplus capacity old new ⊎ (GrowsTreeFirst capacity shrunk old new ⊎ (FillsZeros old new ⊎ MarksHeader old new)))
 
 -- Steps of housekeeping, one after the other.
 pub data Tidies (capacity : ℕ) (shrunk : Option ℕ) : Content → Content → Type 0 where

@@ -1,5 +1,5 @@
 -- What a volume has, and what a command takes of it.
-use Rattle.std.specs.Prelude.{ℕ, ◌+◌, ◌-◌, ◌*◌, ◌/◌, ◌==◌, ◌&&◌, nat_lt, min, Bool, false, not, List, [], ◌∷◌, length, map, Option, Some, None, Result, Ok, Err, if◌then◌else◌}
+use Rattle.std.specs.Prelude.{ℕ, ◌+◌, ◌-◌, ◌*◌, ◌/◌, ◌==◌, ◌&&◌, ◌||◌, nat_lt, min, Bool, false, not, List, [], ◌∷◌, length, map, Option, Some, None, Result, Ok, Err, if◌then◌else◌}
 use Rattle.std.specs.List.{range_with_len}
 use Rattle.hx_bytes.specs.declared.extents.Extent.{Extent}
 use Rattle.hx_bytes.specs.declared.extents.ForkRecord.{ForkRecord}
@@ -23,7 +23,7 @@ use Rattle.hfs_model.specs.declared.plain.PlainEntry.{PlainEntry}
 use Rattle.hfs_model.specs.declared.plain.PlainNode.{PlainNode}
 use Rattle.hfs_model.specs.declared.plain.PlainTree.{PlainTree}
 use Rattle.hfs_model.specs.Plain.{names_of, node_at}
-use Rattle.hfs_model.specs.Step.{to_rm, to_rmdir, to_link, to_file, only_reads, size_written}
+use Rattle.hfs_model.specs.Step.{Place, to_rm, to_rmdir, to_mv, to_link, to_file, only_reads, size_written, is_same_file}
 use Rattle.hfs_volume.specs.Records.{Placed, Overflow, entry_of}
 use Rattle.hfs_volume.specs.Forks.{extents_of, parts_for, data_kind, extents_id, catalog_id, attributes_id}
 use Rattle.hfs_volume.specs.Content.{VolumeState, TreeFacts, is_set, records_of, overflow_in_volume, has_attributes}
@@ -132,6 +132,28 @@ new_blocks_of block put = end_block block put - first_block block put
 abbrev pub old_blocks_of : ℕ → Data → ℕ
 old_blocks_of block put = min (end_block block put) (parts_for put.old_size block) - first_block block put
 
+-- ---- zero blocks
+
+-- the new blocks of a `write` that lie wholly past the old size and before the value, and so hold zeros alone
+abbrev pub zeros_before_value : ℕ → Option Data → ℕ
+zeros_before_value block None = 0
+zeros_before_value block (Some put) = put.from / block - parts_for put.old_size block
+
+-- the new blocks of a `trunc` that lie wholly past the old size: they all hold zeros alone
+abbrev pub zeros_up_to_size : ℕ → Option Data → ℕ
+zeros_up_to_size block None = 0
+zeros_up_to_size block (Some put) = parts_for put.new_size block - parts_for put.old_size block
+
+-- how many of the new blocks of a command are zero blocks, which hold nothing but the zeros of a growth
+abbrev pub zero_blocks : ℕ → PlainTree → Command → ℕ
+zero_blocks block tree (command.Write path from value) = zeros_before_value block (written_data from (length value) (to_file tree path))
+zero_blocks block tree (command.Trunc path size) = zeros_up_to_size block (grown_data size (to_file tree path))
+zero_blocks block tree _ = 0
+
+-- the most zero blocks that one step fills
+abbrev pub most_zeros : ℕ
+most_zeros = 1024
+
 -- ---- the forks of a file
 
 -- a fork of a file's record
@@ -191,6 +213,24 @@ abbrev pub rm_edits_at : PlainTree → Result PlainEntry Refusal → Edits
 rm_edits_at tree (Ok entry) = rm_edits tree (node_at tree entry.id)
 rm_edits_at tree (Err why) = edits 0 0 0 0
 
+-- the edits of a `mv` over a file: the file loses the name, one of several, its only one ever, or the last of several, and the entry takes it
+abbrev pub over_edits : PlainTree → Option PlainNode → Edits
+over_edits tree None = edits 0 0 0 0
+over_edits tree (Some file) =
+    if nat_lt 1 (names_of tree file.id) then edits 0 5 0 6
+    else if file.linked then edits 0 8 0 6
+    else edits (folders_made tree) (6 + 2 * folders_made tree) 0 6
+
+-- the edits of a `mv` to a place where this entry stands, if one does
+abbrev pub place_edits : PlainTree → Option PlainEntry → Edits
+place_edits tree None = edits 0 3 0 3
+place_edits tree (Some other) = over_edits tree (node_at tree other.id)
+
+-- the edits of a `mv`; none where it is refused
+abbrev pub mv_edits : PlainTree → Result (PlainEntry × Place) Refusal → Edits
+mv_edits tree (Ok pair) = place_edits tree pair.1.found
+mv_edits tree (Err why) = edits 0 0 0 0
+
 -- how many attributes a folder or file has
 abbrev pub attribute_count : Option PlainNode → ℕ
 attribute_count None = 0
@@ -212,7 +252,7 @@ edits_of tree (command.Mkdir path) = edits 1 2 0 1
 edits_of tree (command.Create path) = edits 1 2 0 1
 edits_of tree (command.Rm path) = rm_edits_at tree (to_rm tree path)
 edits_of tree (command.Rmdir path) = rmdir_edits tree (to_rmdir tree path)
-edits_of tree (command.Mv from to) = edits 0 3 0 3
+edits_of tree (command.Mv from to) = mv_edits tree (to_mv tree from to)
 edits_of tree (command.Ln from to) = ln_edits tree (to_link tree from to)
 edits_of tree (command.Write path from value) = edits 0 0 0 1
 edits_of tree (command.Trunc path size) = edits 0 0 0 1
@@ -265,10 +305,20 @@ abbrev pub lacks_tree : VolumeState → Command → Bool
 lacks_tree volume (command.SetAttr path name value) = not (has_attributes volume.head)
 lacks_tree volume _ = false
 
+-- both places of a `mv` name the same file
+abbrev pub moves_onto_itself : Result (PlainEntry × Place) Refusal → Bool
+moves_onto_itself (Ok pair) = is_same_file pair.0 pair.1.found
+moves_onto_itself (Err why) = false
+
+-- the command changes nothing on this tree, as a `mv` of a file onto itself
+abbrev pub changes_nothing : PlainTree → Command → Bool
+changes_nothing tree (command.Mv from to) = moves_onto_itself (to_mv tree from to)
+changes_nothing tree _ = false
+
 -- The load of a command on a volume, or the first resource refusal, where the blocks that are free are these. Its step doesn't refuse it.
 unfoldable pub weight_with : ℕ → List Bool → VolumeState → PlainTree → Command → Cost
 weight_with capacity free volume tree asked =
-    if only_reads asked then cost.Load 0 (0 ∷ 0 ∷ 0 ∷ [])
+    if only_reads asked || changes_nothing tree asked then cost.Load 0 (0 ∷ 0 ∷ 0 ∷ [])
     else if needs_cut volume (data_of tree asked) then cut_cost (room_with capacity free volume)
     else if lacks_tree volume asked then cost.Refused refusal.NoTree
     else cost_of (needs_for free volume (edits_of tree asked) (data_of tree asked)) (room_with capacity free volume)

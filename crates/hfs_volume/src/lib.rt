@@ -20,7 +20,7 @@ pub use laws::{
     hidden_is_computed, mkdir_does_its_step, rmdir_does_its_step, soundness_has_two_halves,
     value_may_change,
 };
-pub use laws_aside::aside_is_free;
+pub use laws_aside::{aside_is_free, free_is_filled};
 pub use laws_attributes::{
     at_does_its_step, delattr_does_its_step, mount_keeps_the_tree, setattr_does_its_step,
 };

@@ -5,7 +5,6 @@ pub mod Finding
 pub mod Formatted
 pub mod Judging
 pub mod MadeSizes
-pub mod Places
 pub mod Refused
 pub mod Repaired
 pub mod Results

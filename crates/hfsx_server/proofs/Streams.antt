@@ -34,7 +34,7 @@ use Rattle.hfs_language.proofs.Shown.{both_tails}
 use Rattle.hfs_language.proofs.Spelled.{read_as_spelled}
 use Rattle.hfs_language.proofs.Words.{clear_decimal}
 use Rattle.hfs_model.specs.Plain.{fresh_tree}
-use Rattle.hfs_model.specs.Step.{Step, facts_of, is_private, is_refusal, linked, made, marked, moved, on, removed, removed_folder, resized, step, step_line, to_attribute, to_file, to_folder, to_link, to_make, to_mv, to_node, to_read, to_rm, to_rmdir, to_set, to_trunc, to_write, written}
+use Rattle.hfs_model.specs.Step.{Step, facts_of, is_private, is_refusal, linked, made, marked, moved_over, on, removed, removed_folder, resized, step, step_line, to_attribute, to_file, to_folder, to_link, to_make, to_mv, to_node, to_read, to_rm, to_rmdir, to_set, to_trunc, to_write, written}
 use Rattle.hfs_model.specs.declared.plain.PlainTree.{PlainTree}
 use Rattle.hfs_serving.specs.Ending.{FinishesRun}
 use Rattle.hfs_volume.specs.Mount.{Mounts, MountsTo}
@@ -229,7 +229,7 @@ named_step tree (command.Mkdir path) bare = named_on tree (to_make tree path) (�
 named_step tree (command.Create path) bare = named_on tree (to_make tree path) (λ at. (reply.Ok, made false at tree)) (λ at. tt)
 named_step tree (command.Rm path) bare = named_on tree (to_rm tree path) (λ at. (reply.Ok, removed at tree)) (λ at. tt)
 named_step tree (command.Rmdir path) bare = named_on tree (to_rmdir tree path) (λ at. (reply.Ok, removed_folder at tree)) (λ at. tt)
-named_step tree (command.Mv from to) bare = named_on tree (to_mv tree from to) (λ pair. (reply.Ok, moved pair.0 pair.1 tree)) (λ at. tt)
+named_step tree (command.Mv from to) bare = named_on tree (to_mv tree from to) (λ pair. (reply.Ok, moved_over pair.0 pair.1 tree)) (λ at. tt)
 named_step tree (command.Ln from to) bare = named_on tree (to_link tree from to) (λ pair. (reply.Ok, linked pair.0 pair.1 tree)) (λ at. tt)
 named_step tree (command.Write path from value) bare = named_on tree (to_write tree path from value) (λ file. (reply.Ok, written file from value tree)) (λ at. tt)
 named_step tree (command.Read path from long) bare = named_on tree (to_read tree path long) _ (λ at. tt)

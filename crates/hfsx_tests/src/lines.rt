@@ -39,7 +39,17 @@ fn lines_are_answered(rt: HostRuntime) -> Result<(), Fail> {
         // Moments, modes and bytes.
         (
             "at 100\ncreate /a\nat 200\nwrite /a 0 =x\nchmod /a 600\nstat /a\nread /a 1 5\nread /a 0 65537\ntrunc /a 1048578\n",
-            "ok\nok\nok\nok\nok\nok file 18 1 1 0600 100 200 200\nok =\nno TooLarge\nno GrowLimit\n",
+            "ok\nok\nok\nok\nok\nok file 18 1 1 0600 100 200 200\nok =\nno TooLarge\nok\n",
+        ),
+        // A file takes the place of another; a folder neither takes one nor gives way.
+        (
+            "create /a\nwrite /a 0 =A\ncreate /b\nwrite /b 0 =BB\nln /b /c\nmv /a /b\nread /b 0 9\nstat /c\nmv /b /c\nls /\nread /c 0 9\nmv /c /c\ncreate /z\nstat /z\nmkdir /d\nmv /c /d\n",
+            "ok\nok\nok\nok\nok\nok\nok =A\nok file 19 2 1 0644 0 0 0\nok\nok 1 c\nok =A\nok\nok\nok file 23 0 1 0644 0 0 0\nok\nno Exists\n",
+        ),
+        // A file grows by 1,536 blocks in one line, and by no more than there are.
+        (
+            "create /f\ntrunc /f 6291456\nstat /f\ntrunc /f 7340032\ntrunc /f 1099511627776\n",
+            "ok\nok\nok file 18 6291456 1 0644 0 0 0\nno NoSpace 156 256\nno NoSpace 156 268433920\n",
         ),
         // A folder with what is in it gets another place; a mode of one digit.
         (
@@ -102,7 +112,7 @@ fn lines_are_answered(rt: HostRuntime) -> Result<(), Fail> {
         // What a file's names and bytes refuse.
         (
             "create /f\nrm /\nrm /g\nrm /f/g\nln /f /f\nln / /g\nwrite / 0 =x\nwrite /f 2000000 =x\ntrunc /g 5\ntrunc /f 1099511627777\n",
-            "ok\nno Root\nno NotFound\nno NotFolder\nno Exists\nno Root\nno IsFolder\nno GrowLimit\nno NotFound\nno TooLarge\n",
+            "ok\nno Root\nno NotFound\nno NotFolder\nno Exists\nno Root\nno IsFolder\nok\nno NotFound\nno TooLarge\n",
         ),
     ] {
         assert!(rt;

@@ -5,7 +5,7 @@ use Rattle.std.proofs.lemmas.List.{length-take, length-drop}
 use Rattle.sector_disk.specs.Disk.{IsDisk, State, content}
 use Rattle.jnl_format.specs.Info.{unless_fault}
 use Rattle.jnl_format.specs.Named.{Each, IsGoodHome, IsHomeOf, MixesHomes}
-use Rattle.jnl_format.specs.Recovery.{Content, Journal, header_of_volume, homes_of, info_sector_of, journal_in, recovery, recovery_at, replayed, sector, text_fault, text_of, volume_of}
+use Rattle.jnl_format.specs.Recovery.{Content, Journal, header_of_volume, homes_of, info_sector_of, journal_in, recovery, recovery_at_as, replayed, sector, text_fault, text_of, volume_of}
 use Rattle.jnl_format.specs.declared.blocks.Home.{Home}
 use Rattle.jnl_format.specs.declared.blocks.Volume.{Volume}
 use Rattle.jnl_replay.specs.Plan.{journal_of}
@@ -23,7 +23,7 @@ home_size volume text (h ∷ hs) at value good (inl is) = omega (arith, ap (λ (
 home_size volume text (h ∷ hs) at value good (inr more) = home_size volume text hs at value good.1 more
 
 pub sector_size : (image recovered : Content) → recovery image ≡ Ok recovered → (s : ℕ) → length (sector image s) ≡ 512 → length (sector recovered s) ≡ 512
-unfolding recovery_at
+unfolding recovery_at_as
 sector_size image recovered is s size =
     let at = info_sector_of (header_of_volume image) in
     let version = (header_of_volume image).last_mounted_version in

@@ -10,8 +10,10 @@ use Rattle.hx_bytes.proofs.Laws.{length-number_bytes, number_bytes-number_at_4}
 use Rattle.hx_bytes.proofs.Spelling.{spelled_first}
 use Rattle.jnl_format.specs.Checksum.{checksum_of}
 use Rattle.jnl_format.specs.Info.{info_of, with_info, unless_fault}
-use Rattle.jnl_format.specs.Header.{order_of, header_of, header_sum, header_fault, header_in, header_read, header_spelled, header_bytes, is_offset, is_blhdr}
+use Rattle.jnl_format.specs.Header.{order_of, header_of, header_sum, header_fault_as, header_in_as, header_read_as, header_read, header_spelled, header_bytes, is_offset, is_blhdr_as}
 use Rattle.jnl_format.specs.RoundTrip.{with_offsets, header_again}
+use Rattle.jnl_format.specs.declared.dialect.Dialect.{Dialect}
+use Rattle.jnl_format.specs.declared.dialect.Dialect.TheVariants.{Plain}
 use Rattle.jnl_format.specs.declared.structures.Header.{Header}
 use Rattle.jnl_format.specs.declared.structures.JnlRefusal.{JnlRefusal}
 use Rattle.jnl_format.specs.declared.structures.JnlRefusal.TheVariants.{BadHeader}
@@ -45,16 +47,16 @@ magic_by false true Little h sector a b = absurd (cc h)
 magic_by false true Big h sector a b = b refl
 magic_by false false o h sector a b = absurd (cc h)
 
-read_by : (size : ℕ) (sector : List ℕ) (o : Order) (head : Header) → order_of sector ≡ Some o → (fault : Option JnlRefusal) → fault ≡ header_fault o size sector → unless_fault fault (header_of o size sector) ≡ Ok head → IsRead size sector head
-read_by size sector o head ordered (Some x) fault h = absurd (cc h)
-read_by size sector o head ordered None fault h =
+read_by : (dialect : Dialect) (size : ℕ) (sector : List ℕ) (o : Order) (head : Header) → order_of sector ≡ Some o → (fault : Option JnlRefusal) → fault ≡ header_fault_as dialect o size sector → unless_fault fault (header_of o size sector) ≡ Ok head → IsRead size sector head
+read_by dialect size sector o head ordered (Some x) fault h = absurd (cc h)
+read_by dialect size sector o head ordered None fault h =
     let is : header_of o size sector ≡ head = cc h in
     let same : o ≡ head.order = ap (λ (x : Header). x.order) is in
     let p1 = none_parts (eqb (number_at o 4 sector 4) 0x12345678) (BadHeader 4) _ (sym fault) in
     let p2 = none_parts (is_offset size (number_at o 8 sector 8)) (BadHeader 8) _ p1.1 in
     let p3 = none_parts (is_offset size (number_at o 8 sector 16)) (BadHeader 16) _ p2.1 in
     let p4 = none_parts (eqb (number_at o 8 sector 24) size) (BadHeader 24) _ p3.1 in
-    let p5 = none_parts (is_blhdr (number_at o 4 sector 32)) (BadHeader 32) _ p4.1 in
+    let p5 = none_parts (is_blhdr_as dialect (number_at o 4 sector 32)) (BadHeader 32) _ p4.1 in
     let p6 = none_parts (eqb (number_at o 4 sector 36) (header_sum sector)) (BadHeader 36) _ p5.1 in
     let p7 = none_parts (eqb (number_at o 4 sector 40) 512) (BadHeader 40) _ p6.1 in
     let magic : number_at o 4 sector 0 ≡ 0x4A4E4C78 =
@@ -67,9 +69,9 @@ read_by size sector o head ordered None fault h =
       header_size = ap (λ (x : Order). number_at x 4 sector 40) (sym same) ∙ eqb-true (number_at o 4 sector 40) 512 p7.0;
     }
 
-read_in : (size : ℕ) (sector : List ℕ) (head : Header) (ordered : Option Order) → ordered ≡ order_of sector → header_in ordered size sector ≡ Ok head → IsRead size sector head
-read_in size sector head None ordered h = absurd (cc h)
-read_in size sector head (Some o) ordered h = read_by size sector o head (sym ordered) (header_fault o size sector) refl h
+read_in : (dialect : Dialect) (size : ℕ) (sector : List ℕ) (head : Header) (ordered : Option Order) → ordered ≡ order_of sector → header_in_as dialect ordered size sector ≡ Ok head → IsRead size sector head
+read_in dialect size sector head None ordered h = absurd (cc h)
+read_in dialect size sector head (Some o) ordered h = read_by dialect size sector o head (sym ordered) (header_fault_as dialect o size sector) refl h
 
 -- the bytes of a sector, as its fields and the rest
 respelled : (o : Order) (bytes : List ℕ) → 44 ≤ length bytes → AreBytes bytes
@@ -135,17 +137,24 @@ whole_by size sector head long are r =
     ∙ ap (λ s. put_at (with_offsets head sector) 36 (number_bytes o 4 s)) (sym own)
 
 -- a header that was read is written with its offsets in the buffer
+pub header_whole_as : (dialect : Dialect) (size : ℕ) (sector : List ℕ) (head : Header) → 44 ≤ length sector → AreBytes sector → header_read_as dialect size sector ≡ Ok head → header_bytes head ++ drop 44 sector ≡ header_again head sector
+header_whole_as dialect size sector head long are read = whole_by size sector head long are (read_in dialect size sector head (order_of sector) refl read)
+
 pub header_whole : (size : ℕ) (sector : List ℕ) (head : Header) → 44 ≤ length sector → AreBytes sector → header_read size sector ≡ Ok head → header_bytes head ++ drop 44 sector ≡ header_again head sector
-header_whole size sector head long are read = whole_by size sector head long are (read_in size sector head (order_of sector) refl read)
+header_whole = header_whole_as Plain
 
 -- where they stand so, all bytes stay
-pub header_same : (size : ℕ) (sector : List ℕ) (head : Header) → 44 ≤ length sector → AreBytes sector → header_read size sector ≡ Ok head → head.start ≡ number_at head.order 8 sector 8 → head.end ≡ number_at head.order 8 sector 16
+pub header_same_as : (dialect : Dialect) (size : ℕ) (sector : List ℕ) (head : Header) → 44 ≤ length sector → AreBytes sector → header_read_as dialect size sector ≡ Ok head → head.start ≡ number_at head.order 8 sector 8 → head.end ≡ number_at head.order 8 sector 16
     → header_bytes head ++ drop 44 sector ≡ sector
-header_same size sector head long are read start end =
+header_same_as dialect size sector head long are read start end =
     let o = head.order in
-    let r = read_in size sector head (order_of sector) refl read in
+    let r = read_in dialect size sector head (order_of sector) refl read in
     let is : with_offsets head sector ≡ sector =
     ap (λ (l : List ℕ). put_at l 16 (number_bytes o 8 head.end)) (put_own_8 o sector 8 head.start (omega (arith, long)) are (sym start)) ∙ put_own_8 o sector 16 head.end (omega (arith, long)) are (sym end) in
     whole_by size sector head long are r
     ∙ ap (λ (l : List ℕ). put_at l 36 (number_bytes o 4 (header_sum l))) is
     ∙ put_own_4 o sector 36 (header_sum sector) (omega (arith, long)) are r.sum
+
+pub header_same : (size : ℕ) (sector : List ℕ) (head : Header) → 44 ≤ length sector → AreBytes sector → header_read size sector ≡ Ok head → head.start ≡ number_at head.order 8 sector 8 → head.end ≡ number_at head.order 8 sector 16
+    → header_bytes head ++ drop 44 sector ≡ sector
+header_same = header_same_as Plain

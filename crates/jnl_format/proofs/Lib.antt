@@ -1,4 +1,5 @@
 pub mod Alike
+pub mod Dialects
 pub mod Fields
 pub mod HeaderBack
 pub mod Headers
@@ -11,3 +12,4 @@ pub mod Places
 pub mod ReadBack
 pub mod Recovering
 pub mod Volumes
+pub mod Widening

@@ -10,11 +10,14 @@ use Rattle.hx_bytes.specs.declared.fields.Order.TheVariants.{Little, Big}
 use Rattle.hx_bytes.proofs.Laws.{length-number_bytes, number_at-number_bytes, number_at-behind}
 use Rattle.jnl_format.specs.Checksum.{checksum_of}
 use Rattle.jnl_format.specs.Info.{unless_fault}
-use Rattle.jnl_format.specs.Header.{order_of, header_of, header_sum, header_fault, header_in, header_read, header_spelled, header_bytes, is_offset, is_blhdr, wrapped, IsHeader}
+use Rattle.jnl_format.specs.Header.{order_of, header_of, header_sum, header_fault_as, header_in_as, header_read_as, header_spelled, header_bytes, is_offset, is_blhdr_as, wrapped, IsHeaderAs}
+use Rattle.jnl_format.specs.Dialect.{most_blhdr}
+use Rattle.jnl_format.specs.declared.dialect.Dialect.{Dialect}
 use Rattle.jnl_format.specs.declared.structures.Header.{Header}
 use Rattle.jnl_format.specs.declared.structures.JnlRefusal.{JnlRefusal}
 use Rattle.jnl_format.specs.declared.structures.JnlRefusal.TheVariants.{BadHeader}
 use Rattle.jnl_format.proofs.Headers.{take_header}
+use Rattle.jnl_format.proofs.Dialects.{most_bound}
 
 -- a field at the front, and one behind a field
 here : (o : Order) (n x : ℕ) (rest : List ℕ) → x < 256 ^ n → number_at o n (number_bytes o n x ++ rest) 0 ≡ x
@@ -112,9 +115,9 @@ pub record FitsHeader (h : Header) : Type 0 where
   pub end : h.end < 2 ^ 64
   pub size : h.size < 2 ^ 64
 
-fields_back : (h : Header) (sum size : ℕ) (rest : List ℕ) → IsHeader size h → FitsHeader h → sum < 2 ^ 32 → sum ≡ checksum_of (header_spelled 0 h) → (bytes : List ℕ) → bytes ≡ header_spelled sum h ++ rest
-    → (header_fault h.order size bytes ≡ None) × (header_of h.order size bytes ≡ h)
-fields_back h sum size rest i f small own bytes is =
+fields_back : (dialect : Dialect) (h : Header) (sum size : ℕ) (rest : List ℕ) → IsHeaderAs dialect size h → FitsHeader h → sum < 2 ^ 32 → sum ≡ checksum_of (header_spelled 0 h) → (bytes : List ℕ) → bytes ≡ header_spelled sum h ++ rest
+    → (header_fault_as dialect h.order size bytes ≡ None) × (header_of h.order size bytes ≡ h)
+fields_back dialect h sum size rest i f small own bytes is =
     let o = h.order in
     let all : bytes ≡ r0 sum h rest = is ∙ spelled_is sum h rest in
     let at : (n k x : ℕ) → number_at o n (r0 sum h rest) k ≡ x → number_at o n bytes k ≡ x = λ n k x e. ap (λ (l : List ℕ). number_at o n l k) all ∙ e in
@@ -125,7 +128,7 @@ fields_back h sum size rest i f small own bytes is =
     let e16 : number_at o 8 bytes 16 ≡ h.end = at 8 16 h.end (behind o 8 12 4 s0 (r1 sum h rest) ∙ behind o 8 8 4 s1 (r2 sum h rest) ∙ behind o 8 0 8 h.start (r3 sum h rest) ∙ here o 8 h.end (r4 sum h rest) f.end) in
     let e24 : number_at o 8 bytes 24 ≡ h.size = at 8 24 h.size (behind o 8 20 4 s0 (r1 sum h rest) ∙ behind o 8 16 4 s1 (r2 sum h rest) ∙ behind o 8 8 8 h.start (r3 sum h rest) ∙ behind o 8 0 8 h.end (r4 sum h rest) ∙ here o 8 h.size (r5 sum h rest) f.size) in
     let e32 : number_at o 4 bytes 32 ≡ h.blhdr =
-    at 4 32 h.blhdr (behind o 4 28 4 s0 (r1 sum h rest) ∙ behind o 4 24 4 s1 (r2 sum h rest) ∙ behind o 4 16 8 h.start (r3 sum h rest) ∙ behind o 4 8 8 h.end (r4 sum h rest) ∙ behind o 4 0 8 h.size (r5 sum h rest) ∙ here o 4 h.blhdr (r6 sum h rest) (omega (arith, i.blhdr_high))) in
+    at 4 32 h.blhdr (behind o 4 28 4 s0 (r1 sum h rest) ∙ behind o 4 24 4 s1 (r2 sum h rest) ∙ behind o 4 16 8 h.start (r3 sum h rest) ∙ behind o 4 8 8 h.end (r4 sum h rest) ∙ behind o 4 0 8 h.size (r5 sum h rest) ∙ here o 4 h.blhdr (r6 sum h rest) (omega (arith, i.blhdr_high, most_bound dialect))) in
     let e36 : number_at o 4 bytes 36 ≡ sum =
     at 4 36 sum (behind o 4 32 4 s0 (r1 sum h rest) ∙ behind o 4 28 4 s1 (r2 sum h rest) ∙ behind o 4 20 8 h.start (r3 sum h rest) ∙ behind o 4 12 8 h.end (r4 sum h rest) ∙ behind o 4 4 8 h.size (r5 sum h rest) ∙ behind o 4 0 4 h.blhdr (r6 sum h rest) ∙ here o 4 sum (r7 h rest) small) in
     let e40 : number_at o 4 bytes 40 ≡ 512 =
@@ -135,7 +138,7 @@ fields_back h sum size rest i f small own bytes is =
           (none_by (is_offset size (number_at o 8 bytes 8)) (BadHeader 8) _ (ap (is_offset size) e8 ∙ offset_by size h.start i.start_whole i.start_low (omega (arith, i.start_high)))
           (none_by (is_offset size (number_at o 8 bytes 16)) (BadHeader 16) _ (ap (is_offset size) e16 ∙ offset_by size h.end i.end_whole i.end_low (omega (arith, i.end_high)))
           (none_by (eqb (number_at o 8 bytes 24) size) (BadHeader 24) _ (eq-eqb (number_at o 8 bytes 24) size (e24 ∙ i.size))
-          (none_by (is_blhdr (number_at o 4 bytes 32)) (BadHeader 32) _ (ap is_blhdr e32 ∙ and_from (eqb (h.blhdr % 512) 0 && leb 512 h.blhdr) (leb h.blhdr 65536) (and_from (eqb (h.blhdr % 512) 0) (leb 512 h.blhdr) (eq-eqb (h.blhdr % 512) 0 i.blhdr_whole) (le-leb 512 h.blhdr i.blhdr_low)) (le-leb h.blhdr 65536 i.blhdr_high))
+          (none_by (is_blhdr_as dialect (number_at o 4 bytes 32)) (BadHeader 32) _ (ap (is_blhdr_as dialect) e32 ∙ and_from (eqb (h.blhdr % 512) 0 && leb 512 h.blhdr) (leb h.blhdr (most_blhdr dialect)) (and_from (eqb (h.blhdr % 512) 0) (leb 512 h.blhdr) (eq-eqb (h.blhdr % 512) 0 i.blhdr_whole) (le-leb 512 h.blhdr i.blhdr_low)) (le-leb h.blhdr (most_blhdr dialect) i.blhdr_high))
           (none_by (eqb (number_at o 4 bytes 36) (header_sum bytes)) (BadHeader 36) _ (eq-eqb (number_at o 4 bytes 36) (header_sum bytes) (e36 ∙ c36))
           (none_by (eqb (number_at o 4 bytes 40) 512) (BadHeader 40) None (eq-eqb (number_at o 4 bytes 40) 512 e40) refl)))))),
       (let a : wrapped size (number_at o 8 bytes 8) ≡ h.start = ap (wrapped size) e8 ∙ wrapped_by size h.start i.start_high in
@@ -144,13 +147,13 @@ fields_back h sum size rest i f small own bytes is =
     )
 
 -- a header that was written is read as itself
-pub header_back : (h : Header) (size : ℕ) (rest : List ℕ) → IsHeader size h → FitsHeader h → checksum_of (header_spelled 0 h) < 2 ^ 32 → header_read size (header_bytes h ++ rest) ≡ Ok h
-header_back h size rest i f small =
+pub header_back : {dialect : Dialect} (h : Header) (size : ℕ) (rest : List ℕ) → IsHeaderAs dialect size h → FitsHeader h → checksum_of (header_spelled 0 h) < 2 ^ 32 → header_read_as dialect size (header_bytes h ++ rest) ≡ Ok h
+header_back {dialect = dialect} h size rest i f small =
     let sum = checksum_of (header_spelled 0 h) in
     let bytes = header_bytes h ++ rest in
     let o : order_of bytes ≡ Some h.order = ap order_of (spelled_is sum h rest) ∙ magic_is h.order (r1 sum h rest) in
-    let p = fields_back h sum size rest i f small refl bytes refl in
-    ap (λ (x : Option Order). header_in x size bytes) o
+    let p = fields_back dialect h sum size rest i f small refl bytes refl in
+    ap (λ (x : Option Order). header_in_as dialect x size bytes) o
     ∙ ap (λ (x : Option JnlRefusal). unless_fault x (header_of h.order size bytes)) p.0 ∙ ap (λ (x : Header). Ok x) p.1
 
 pub checksum_fits : (bytes : List ℕ) → checksum_of bytes < 2 ^ 32

@@ -8,8 +8,11 @@ use Rattle.volume_header.specs.Header.{header_of}
 use Rattle.volume_header.specs.Refusal.{header_refusal}
 use Rattle.volume_header.specs.declared.header.VolumeHeader.{VolumeHeader}
 use Rattle.jnl_format.specs.List.{entry_at, is_list_head}
-use Rattle.jnl_format.specs.Text.{bytes_at, is_skipped, covers, is_inside, is_apart, is_same_volume, is_same_kind, is_same_layout, has_same_bits, keeps_volume, keeps_header, is_block, are_blocks, block_bytes, head_at, is_list, bad_list}
+use Rattle.jnl_format.specs.Text.{bytes_at, is_skipped, covers, is_inside, is_apart, is_same_volume, is_same_kind, is_same_layout, has_same_bits, keeps_volume, keeps_header, is_block, are_blocks, block_bytes, head_at, is_list_as, bad_list_as, bad_list}
 use Rattle.jnl_format.specs.declared.blocks.Volume.{Volume}
+use Rattle.jnl_format.specs.Dialect.{may_end}
+use Rattle.jnl_format.specs.declared.dialect.Dialect.{Dialect}
+use Rattle.jnl_format.specs.declared.dialect.Dialect.TheVariants.{Plain}
 use Rattle.jnl_format.specs.declared.structures.Entry.{Entry}
 use Rattle.jnl_format.specs.Keeping.{IsSame}
 
@@ -97,17 +100,20 @@ blocks_same old new order text at body (suc count) s =
     ap (λ b. b && are_blocks new order text (at + 16) (body + e.bsize) count) (block_same old new text body e s)
     ∙ ap (λ b. is_block old text body e && b) (blocks_same old new order text (at + 16) (body + e.bsize) count s)
 
-list_same : (old new : Volume) (order : Order) (blhdr : ℕ) (text : List ℕ) (at : ℕ) → IsSameVolume old new → is_list new order blhdr text at ≡ is_list old order blhdr text at
-unfolding is_list
-list_same old new order blhdr text at s =
+list_same : (dialect : Dialect) (old new : Volume) (order : Order) (blhdr : ℕ) (text : List ℕ) (at : ℕ) → IsSameVolume old new → is_list_as dialect new order blhdr text at ≡ is_list_as dialect old order blhdr text at
+unfolding is_list_as
+list_same dialect old new order blhdr text at s =
     let hd = head_at order text at in
-    ap (λ b. leb (at + blhdr) (length text) && is_list_head order blhdr (bytes_at text at 32) && eqb hd.used (blhdr + block_bytes order text (at + 32) (hd.entries - 1)) && leb (at + hd.used) (length text) && b && (hd.last || ltb (at + hd.used) (length text)))
+    ap (λ b. leb (at + blhdr) (length text) && is_list_head order blhdr (bytes_at text at 32) && eqb hd.used (blhdr + block_bytes order text (at + 32) (hd.entries - 1)) && leb (at + hd.used) (length text) && b && (may_end dialect hd.last || ltb (at + hd.used) (length text)))
     (blocks_same old new order text (at + 32) (at + blhdr) (hd.entries - 1) s)
 
 -- the same lists are bad on both
-pub bad_same : (old new : Volume) (order : Order) (blhdr : ℕ) (text : List ℕ) (count at : ℕ) → IsSameVolume old new → bad_list new order blhdr text count at ≡ bad_list old order blhdr text count at
-bad_same old new order blhdr text zero at s = refl
-bad_same old new order blhdr text (suc count) at s =
+pub bad_same_as : (dialect : Dialect) (old new : Volume) (order : Order) (blhdr : ℕ) (text : List ℕ) (count at : ℕ) → IsSameVolume old new → bad_list_as dialect new order blhdr text count at ≡ bad_list_as dialect old order blhdr text count at
+bad_same_as dialect old new order blhdr text zero at s = refl
+bad_same_as dialect old new order blhdr text (suc count) at s =
     let used = (head_at order text at).used in
-    ap (λ b. cond (leb (length text) at) None (cond (not b) (Some at) (bad_list new order blhdr text count (at + used)))) (list_same old new order blhdr text at s)
-    ∙ ap (λ r. cond (leb (length text) at) None (cond (not (is_list old order blhdr text at)) (Some at) r)) (bad_same old new order blhdr text count (at + used) s)
+    ap (λ b. cond (leb (length text) at) None (cond (not b) (Some at) (bad_list_as dialect new order blhdr text count (at + used)))) (list_same dialect old new order blhdr text at s)
+    ∙ ap (λ r. cond (leb (length text) at) None (cond (not (is_list_as dialect old order blhdr text at)) (Some at) r)) (bad_same_as dialect old new order blhdr text count (at + used) s)
+
+pub bad_same : (old new : Volume) (order : Order) (blhdr : ℕ) (text : List ℕ) (count at : ℕ) → IsSameVolume old new → bad_list new order blhdr text count at ≡ bad_list old order blhdr text count at
+bad_same = bad_same_as Plain

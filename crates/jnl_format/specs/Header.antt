@@ -4,7 +4,10 @@ use Rattle.hx_bytes.specs.Field.{number_at, number_bytes, big, put_at}
 use Rattle.hx_bytes.specs.declared.fields.Order.{Order}
 use Rattle.hx_bytes.specs.declared.fields.Order.TheVariants.{Little, Big}
 use Rattle.jnl_format.specs.Checksum.{checksum_of}
+use Rattle.jnl_format.specs.Dialect.{most_blhdr}
 use Rattle.jnl_format.specs.Info.{unless_fault}
+use Rattle.jnl_format.specs.declared.dialect.Dialect.{Dialect}
+use Rattle.jnl_format.specs.declared.dialect.Dialect.TheVariants.{Plain}
 use Rattle.jnl_format.specs.declared.structures.Header.{Header}
 use Rattle.jnl_format.specs.declared.structures.JnlRefusal.{JnlRefusal}
 use Rattle.jnl_format.specs.declared.structures.JnlRefusal.TheVariants.{BadHeader}
@@ -37,29 +40,45 @@ header_sum sector = checksum_of (take 44 (put_at sector 36 (big 4 0)))
 abbrev pub is_offset : ℕ → ℕ → Bool
 is_offset size at = at % 512 == 0 && nat_le 512 at && nat_le at size
 
+-- whole sectors, from one to as many as the dialect has
+abbrev pub is_blhdr_as : Dialect → ℕ → Bool
+is_blhdr_as dialect blhdr = blhdr % 512 == 0 && nat_le 512 blhdr && nat_le blhdr (most_blhdr dialect)
+
 -- whole sectors, from one to 128
 abbrev pub is_blhdr : ℕ → Bool
-is_blhdr blhdr = blhdr % 512 == 0 && nat_le 512 blhdr && nat_le blhdr 65536
+is_blhdr = is_blhdr_as Plain
 
--- the first fault behind the magic number, in a journal of so many bytes
-abbrev pub header_fault : Order → ℕ → List ℕ → Option JnlRefusal
-header_fault order size sector =
+-- the first fault behind the magic number, in a journal of so many bytes, in a dialect
+abbrev pub header_fault_as : Dialect → Order → ℕ → List ℕ → Option JnlRefusal
+header_fault_as dialect order size sector =
     if not (number_at order 4 sector 4 == 0x12345678) then Some (BadHeader 4) else
     (if not (is_offset size (number_at order 8 sector 8)) then Some (BadHeader 8) else
     (if not (is_offset size (number_at order 8 sector 16)) then Some (BadHeader 16) else
     (if not (number_at order 8 sector 24 == size) then Some (BadHeader 24) else
-    (if not (is_blhdr (number_at order 4 sector 32)) then Some (BadHeader 32) else
+    (if not (is_blhdr_as dialect (number_at order 4 sector 32)) then Some (BadHeader 32) else
     (if not (number_at order 4 sector 36 == header_sum sector) then Some (BadHeader 36) else
     (if not (number_at order 4 sector 40 == 512) then Some (BadHeader 40) else None))))))
 
--- the header of a sector, read in an order, if any
-abbrev pub header_in : Option Order → ℕ → List ℕ → Result Header JnlRefusal
-header_in None size sector = Err (BadHeader 0)
-header_in (Some order) size sector = unless_fault (header_fault order size sector) (header_of order size sector)
+-- the same in the plain dialect
+abbrev pub header_fault : Order → ℕ → List ℕ → Option JnlRefusal
+header_fault = header_fault_as Plain
 
--- what a sector is read as, in a journal of so many bytes: a header, or its first fault
+-- the header of a sector, read in a dialect and an order, if any
+abbrev pub header_in_as : Dialect → Option Order → ℕ → List ℕ → Result Header JnlRefusal
+header_in_as dialect None size sector = Err (BadHeader 0)
+header_in_as dialect (Some order) size sector = unless_fault (header_fault_as dialect order size sector) (header_of order size sector)
+
+-- the same in the plain dialect
+abbrev pub header_in : Option Order → ℕ → List ℕ → Result Header JnlRefusal
+header_in = header_in_as Plain
+
+-- what a sector is read as in a dialect, in a journal of so many bytes: a header, or its first fault
+abbrev pub header_read_as : Dialect → ℕ → List ℕ → Result Header JnlRefusal
+header_read_as dialect size sector = header_in_as dialect (order_of sector) size sector
+
+-- the same in the plain dialect
 abbrev pub header_read : ℕ → List ℕ → Result Header JnlRefusal
-header_read size sector = header_in (order_of sector) size sector
+header_read = header_read_as Plain
 
 -- the 44 bytes of a header, with this checksum
 abbrev pub header_spelled : ℕ → Header → List ℕ
@@ -71,8 +90,8 @@ header_spelled sum head =
 abbrev pub header_bytes : Header → List ℕ
 header_bytes head = header_spelled (checksum_of (header_spelled 0 head)) head
 
--- a header as it is read: both offsets in the buffer, and the journal's size
-pub record IsHeader (bytes : ℕ) (head : Header) : Type 0 where
+-- a header as it is read in a dialect: both offsets in the buffer, and the journal's size
+pub record IsHeaderAs (dialect : Dialect) (bytes : ℕ) (head : Header) : Type 0 where
   pub start_whole : head.start % 512 ≡ 0
   pub start_low : 512 ≤ head.start
   pub start_high : head.start < bytes
@@ -82,4 +101,8 @@ pub record IsHeader (bytes : ℕ) (head : Header) : Type 0 where
   pub size : head.size ≡ bytes
   pub blhdr_whole : head.blhdr % 512 ≡ 0
   pub blhdr_low : 512 ≤ head.blhdr
-  pub blhdr_high : head.blhdr ≤ 65536
+  pub blhdr_high : head.blhdr ≤ most_blhdr dialect
+
+-- the same in the plain dialect
+abbrev pub IsHeader : ℕ → Header → Type 0
+IsHeader = IsHeaderAs Plain

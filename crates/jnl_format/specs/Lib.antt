@@ -1,4 +1,5 @@
 pub mod Checksum
+pub mod Dialect
 pub mod Header
 pub mod Info
 pub mod Keeping

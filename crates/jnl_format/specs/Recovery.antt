@@ -4,11 +4,13 @@ use Rattle.hx_bytes.specs.declared.fields.Order.TheVariants.{Little}
 use Rattle.volume_header.specs.Header.{header_of}
 use Rattle.volume_header.specs.declared.header.VolumeHeader.{VolumeHeader}
 use Rattle.jnl_format.specs.Info.{info_of, info_fault, holds, is_fresh, unless_fault}
-use Rattle.jnl_format.specs.Header.{header_read}
+use Rattle.jnl_format.specs.Header.{header_read_as}
 use Rattle.jnl_format.specs.Ring.{ring_text, offset_after}
-use Rattle.jnl_format.specs.Text.{bytes_at, bad_list, text_homes}
+use Rattle.jnl_format.specs.Text.{bytes_at, bad_list_as, text_homes}
 use Rattle.jnl_format.specs.declared.blocks.Home.{Home}
 use Rattle.jnl_format.specs.declared.blocks.Volume.{Volume}
+use Rattle.jnl_format.specs.declared.dialect.Dialect.{Dialect}
+use Rattle.jnl_format.specs.declared.dialect.Dialect.TheVariants.{Plain}
 use Rattle.jnl_format.specs.declared.structures.Info.{Info}
 use Rattle.jnl_format.specs.declared.structures.Header.{Header}
 use Rattle.jnl_format.specs.declared.structures.JnlRefusal.{JnlRefusal}
@@ -53,15 +55,23 @@ info_from sectors at bytes = unless_fault (info_fault (sectors * 512) (holds (in
 abbrev pub info_in : ℕ → Content → Result Info JnlRefusal
 info_in at content = info_from (length content) at (sector content at)
 
--- the journal that an info block names, unless its header has a fault; where it is fresh, the header isn't read
-abbrev pub journal_at : Content → Info → Result Journal JnlRefusal
-journal_at content info =
+-- the journal that an info block names, unless its header has a fault in a dialect; where it is fresh, the header isn't read
+abbrev pub journal_at_as : Dialect → Content → Info → Result Journal JnlRefusal
+journal_at_as dialect content info =
     if is_fresh info then Ok (record { info = info; header = fresh_header info.size; fresh = true })
-    else and_then (header_read info.size (sector content (info.offset / 512))) (λ header. Ok (record { info = info; header = header; fresh = false }))
+    else and_then (header_read_as dialect info.size (sector content (info.offset / 512))) (λ header. Ok (record { info = info; header = header; fresh = false }))
 
--- a content's journal, whose info block stands in this sector, or the first fault of the info block and the header
-unfoldable pub journal_in : ℕ → Content → Result Journal JnlRefusal
-journal_in at content = and_then (info_in at content) (λ info. journal_at content info)
+-- the same in the plain dialect
+abbrev pub journal_at : Content → Info → Result Journal JnlRefusal
+journal_at = journal_at_as Plain
+
+-- a content's journal in a dialect, whose info block stands in this sector, or the first fault of the info block and the header
+unfoldable pub journal_as : Dialect → ℕ → Content → Result Journal JnlRefusal
+journal_as dialect at content = and_then (info_in at content) (λ info. journal_at_as dialect content info)
+
+-- the same in the plain dialect
+abbrev pub journal_in : ℕ → Content → Result Journal JnlRefusal
+journal_in = journal_as Plain
 
 -- the text of a journal
 abbrev pub text_of : Journal → Content → List ℕ
@@ -77,11 +87,15 @@ volume_of at journal content = record {
   header = header_of_volume content;
 }
 
--- the first of the journal's lists that isn't as it must be, by its offset in the journal
-abbrev pub list_fault : ℕ → Journal → Content → Option JnlRefusal
-list_fault at journal content =
+-- the first of the journal's lists that isn't as it must be in a dialect, by its offset in the journal
+abbrev pub list_fault_as : Dialect → ℕ → Journal → Content → Option JnlRefusal
+list_fault_as dialect at journal content =
     let text = text_of journal content in
-    option_map (λ place. BadList (offset_after journal.info.size journal.header.start place)) (bad_list (volume_of at journal content) journal.header.order journal.header.blhdr text (length text) 0)
+    option_map (λ place. BadList (offset_after journal.info.size journal.header.start place)) (bad_list_as dialect (volume_of at journal content) journal.header.order journal.header.blhdr text (length text) 0)
+
+-- the same in the plain dialect
+abbrev pub list_fault : ℕ → Journal → Content → Option JnlRefusal
+list_fault = list_fault_as Plain
 
 -- the version of systems that keep this journal: `HFSJ`
 abbrev pub journaling_version : ℕ
@@ -96,9 +110,13 @@ abbrev pub or_else : Option JnlRefusal → Option JnlRefusal → Option JnlRefus
 or_else None second = second
 or_else (Some first) second = Some first
 
--- the first fault behind the header
+-- the first fault behind the header, in a dialect
+abbrev pub text_fault_as : Dialect → ℕ → ℕ → Journal → Content → Option JnlRefusal
+text_fault_as dialect at version journal content = or_else (list_fault_as dialect at journal content) (foreign_fault version journal)
+
+-- the same in the plain dialect
 abbrev pub text_fault : ℕ → ℕ → Journal → Content → Option JnlRefusal
-text_fault at version journal content = or_else (list_fault at journal content) (foreign_fault version journal)
+text_fault = text_fault_as Plain
 
 -- the sectors that the journal's blocks belong into, in order
 abbrev pub homes_of : Journal → Content → List Home
@@ -116,12 +134,20 @@ with_homes text homes content = fold (with_home text) content homes
 abbrev pub replayed : Journal → Content → Content
 replayed journal content = with_homes (text_of journal content) (homes_of journal content) content
 
--- what a content stands for, given its info block's sector and its last mounted version: the content with the
--- journal's blocks written to their sectors, or the first fault
-unfoldable pub recovery_at : ℕ → ℕ → Content → Result Content JnlRefusal
-recovery_at at version content =
-    and_then (journal_in at content) (λ journal. unless_fault (text_fault at version journal content) (replayed journal content))
+-- what a content stands for in a dialect, given its info block's sector and its last mounted version: the content with
+-- the journal's blocks written to their sectors, or the first fault
+unfoldable pub recovery_at_as : Dialect → ℕ → ℕ → Content → Result Content JnlRefusal
+recovery_at_as dialect at version content =
+    and_then (journal_as dialect at content) (λ journal. unless_fault (text_fault_as dialect at version journal content) (replayed journal content))
 
--- the same, with what the content's own volume header says
+-- the same in the plain dialect
+abbrev pub recovery_at : ℕ → ℕ → Content → Result Content JnlRefusal
+recovery_at = recovery_at_as Plain
+
+-- what a content stands for in a dialect, with what the content's own volume header says
+abbrev pub recovery_as : Dialect → Content → Result Content JnlRefusal
+recovery_as dialect content = recovery_at_as dialect (info_sector_of (header_of_volume content)) (header_of_volume content).last_mounted_version content
+
+-- the same in the plain dialect
 abbrev pub recovery : Content → Result Content JnlRefusal
 recovery content = recovery_at (info_sector_of (header_of_volume content)) (header_of_volume content).last_mounted_version content

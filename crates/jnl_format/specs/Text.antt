@@ -6,9 +6,12 @@ use Rattle.hx_bytes.specs.declared.fields.Order.{Order}
 use Rattle.volume_header.specs.Header.{header_of}
 use Rattle.volume_header.specs.Refusal.{header_refusal}
 use Rattle.volume_header.specs.declared.header.VolumeHeader.{VolumeHeader}
+use Rattle.jnl_format.specs.Dialect.{may_end}
 use Rattle.jnl_format.specs.List.{list_head_of, is_list_head, entry_at}
 use Rattle.jnl_format.specs.declared.blocks.Home.{Home}
 use Rattle.jnl_format.specs.declared.blocks.Volume.{Volume}
+use Rattle.jnl_format.specs.declared.dialect.Dialect.{Dialect}
+use Rattle.jnl_format.specs.declared.dialect.Dialect.TheVariants.{Plain}
 use Rattle.jnl_format.specs.declared.structures.ListHead.{ListHead}
 use Rattle.jnl_format.specs.declared.structures.Entry.{Entry}
 
@@ -76,23 +79,31 @@ abbrev pub head_at : Order → List ℕ → ℕ → ListHead
 head_at order text at = list_head_of order (bytes_at text at 32)
 
 -- The list at a place: its header lies in the text and is one, its blocks fill what it says it uses, that
--- lies in the text too, each block is as it must be, and the text's last list is the last of its transaction.
-unfoldable pub is_list : Volume → Order → ℕ → List ℕ → ℕ → Bool
-is_list volume order blhdr text at =
+-- lies in the text too, each block is as it must be, and the text's last list is one behind which it may end.
+unfoldable pub is_list_as : Dialect → Volume → Order → ℕ → List ℕ → ℕ → Bool
+is_list_as dialect volume order blhdr text at =
     nat_le (at + blhdr) (length text)
     && is_list_head order blhdr (bytes_at text at 32)
     && (head_at order text at).used == blhdr + block_bytes order text (at + 32) ((head_at order text at).entries - 1)
     && nat_le (at + (head_at order text at).used) (length text)
     && are_blocks volume order text (at + 32) (at + blhdr) ((head_at order text at).entries - 1)
-    && ((head_at order text at).last || nat_lt (at + (head_at order text at).used) (length text))
+    && (may_end dialect (head_at order text at).last || nat_lt (at + (head_at order text at).used) (length text))
 
--- The place of the first of the lists from `at` on that isn't as it must be. There are at most `count` of
+-- the same in the plain dialect: the text's last list is the last of its transaction
+abbrev pub is_list : Volume → Order → ℕ → List ℕ → ℕ → Bool
+is_list = is_list_as Plain
+
+-- The place of the first of the lists from `at` on that isn't as it must be in a dialect. There are at most `count` of
 -- them, since each has a byte.
-abbrev pub bad_list : Volume → Order → ℕ → List ℕ → ℕ → ℕ → Option ℕ
-bad_list volume order blhdr text zero at = None
-bad_list volume order blhdr text (suc count) at =
+abbrev pub bad_list_as : Dialect → Volume → Order → ℕ → List ℕ → ℕ → ℕ → Option ℕ
+bad_list_as dialect volume order blhdr text zero at = None
+bad_list_as dialect volume order blhdr text (suc count) at =
     if nat_le (length text) at then None else
-    (if not (is_list volume order blhdr text at) then Some at else bad_list volume order blhdr text count (at + (head_at order text at).used))
+    (if not (is_list_as dialect volume order blhdr text at) then Some at else bad_list_as dialect volume order blhdr text count (at + (head_at order text at).used))
+
+-- the same in the plain dialect
+abbrev pub bad_list : Volume → Order → ℕ → List ℕ → ℕ → ℕ → Option ℕ
+bad_list = bad_list_as Plain
 
 -- so many sectors, with the bytes from a place on
 abbrev pub sector_homes : ℕ → ℕ → ℕ → List Home

@@ -1,7 +1,9 @@
 //! The journal header, in the order of the machine that wrote it.
 ghost use Rattle.std.specs.Prelude.{◌≡◌, ◌<◌, ◌^◌, ◌++◌, ℕ, drop};
-ghost use Rattle.jnl_format.specs.Header.{order_of, header_of, header_sum, header_fault, header_read, header_spelled, header_bytes, is_offset, is_blhdr, wrapped, IsHeader};
+ghost use Rattle.jnl_format.specs.Header.{order_of, header_of, header_sum, header_fault_as, header_read, header_read_as, header_spelled, header_bytes, is_offset, is_blhdr_as, wrapped, IsHeader, IsHeaderAs};
+ghost use Rattle.jnl_format.specs.declared.dialect.Dialect.{Dialect};
 
+use crate::dialect::Dialect;
 use crate::structures::{Header, JnlRefusal};
 use crate::sums::checksum;
 use hx_bytes::{Order, Sector, read_o32, read_o64, write_be32, write_o32, write_o64};
@@ -17,9 +19,16 @@ const HEADER_SIZE: u32 = 512;
 pub fn read_header(sector: &Sector, size: u64) -> Result<Header, JnlRefusal>
     ensures { result ≡ header_read size sector.now }
 {
+    read_header_as(sector, size, Dialect::Plain)
+}
+
+/// The same in a dialect.
+pub fn read_header_as(sector: &Sector, size: u64, dialect: Dialect) -> Result<Header, JnlRefusal>
+    ensures { result ≡ header_read_as dialect size sector.now }
+{
     match order(sector) {
         None => Err(JnlRefusal::BadHeader(0)),
-        Some(order) => match first_header_fault(sector, order, size) {
+        Some(order) => match first_header_fault(sector, order, size, dialect) {
             None => Ok(header_fields(sector, order, size)),
             Some(fault) => Err(fault),
         },
@@ -38,8 +47,13 @@ fn order(sector: &Sector) -> Option<Order>
     None
 }
 
-fn first_header_fault(sector: &Sector, order: Order, size: u64) -> Option<JnlRefusal>
-    ensures { result ≡ header_fault order size sector.now }
+fn first_header_fault(
+    sector: &Sector,
+    order: Order,
+    size: u64,
+    dialect: Dialect,
+) -> Option<JnlRefusal>
+    ensures { result ≡ header_fault_as dialect order size sector.now }
 {
     if read_o32(sector, 4, order) != ENDIAN {
         return Some(JnlRefusal::BadHeader(4));
@@ -53,7 +67,7 @@ fn first_header_fault(sector: &Sector, order: Order, size: u64) -> Option<JnlRef
     if read_o64(sector, 24, order) != size {
         return Some(JnlRefusal::BadHeader(24));
     }
-    if !is_list_header_size(read_o32(sector, 32, order)) {
+    if !is_list_header_size(read_o32(sector, 32, order), dialect) {
         return Some(JnlRefusal::BadHeader(32));
     }
     if read_o32(sector, 36, order) != sum_of_header(sector) {
@@ -71,10 +85,11 @@ fn is_buffer_offset(at: u64, size: u64) -> bool
     at % 512 == 0 && 512 <= at && at <= size
 }
 
-fn is_list_header_size(blhdr: u32) -> bool
-    ensures { result ≡ is_blhdr blhdr }
+fn is_list_header_size(blhdr: u32, dialect: Dialect) -> bool
+    ensures { result ≡ is_blhdr_as dialect blhdr }
 {
-    blhdr % 512 == 0 && 512 <= blhdr && blhdr <= 65536
+    let most = dialect.most_blhdr();
+    blhdr % 512 == 0 && 512 <= blhdr && blhdr <= most
 }
 
 fn sum_of_header(sector: &Sector) -> u32
@@ -107,6 +122,7 @@ fn wrapped_offset(at: u64, size: u64) -> u64
 pub fn write_header(head: &Header, into: &mut Sector)
     ensures bytes { into.new ≡ header_bytes head.now ++ drop 44 into.old }
     ensures read_back { (size : ℕ) → size < 2 ^ 64 → IsHeader size head.now → header_read size into.new ≡ Ok head.now }
+    ensures read_back_as { (dialect : Dialect) (size : ℕ) → size < 2 ^ 64 → IsHeaderAs dialect size head.now → header_read_as dialect size into.new ≡ Ok head.now }
 {
     // The checksum is taken with its own field zero.
     write_fields(head, 0, into);

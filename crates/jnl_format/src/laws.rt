@@ -3,9 +3,11 @@ ghost use Rattle.std.specs.Prelude.{◌≡◌, ◌≤◌, ◌++◌, ℕ, List, l
 ghost use Rattle.hx_bytes.specs.Field.{number_at, AreBytes};
 ghost use Rattle.hx_bytes.specs.declared.fields.Order.{Order};
 ghost use Rattle.jnl_format.specs.Info.{info_of, with_info};
-ghost use Rattle.jnl_format.specs.Header.{header_bytes, header_read};
+ghost use Rattle.jnl_format.specs.Header.{header_bytes, header_read, header_read_as};
 ghost use Rattle.jnl_format.specs.List.{entry_at, entry_bytes, list_bytes, list_read, max_blocks};
 ghost use Rattle.jnl_format.specs.RoundTrip.{FitsEntry, FitsListHead, header_again, list_again};
+ghost use Rattle.jnl_format.specs.Recovery.{Content, recovery, recovery_as};
+ghost use Rattle.jnl_format.specs.declared.dialect.Dialect.TheVariants.{Wide};
 ghost use Rattle.jnl_format.specs.declared.structures.Header.{Header};
 ghost use Rattle.jnl_format.specs.declared.structures.ListHead.{ListHead};
 ghost use Rattle.jnl_format.specs.declared.structures.Entry.{Entry};
@@ -44,4 +46,10 @@ pub fn list_round_trip()
 pub fn entry_round_trip()
     ensures read_back { (order : Order) (entry : Entry) → FitsEntry entry → entry_at order (entry_bytes order entry) 0 ≡ entry }
     ensures written_back { (order : Order) (bytes : List ℕ) → length bytes ≡ 16 → AreBytes bytes → entry_bytes order (entry_at order bytes 0) ≡ bytes }
+{}
+
+/// What the plain dialect reads, the wide one reads as the same: a journal header, and what a content stands for.
+pub fn wide_takes_plain()
+    ensures header { (size : ℕ) (sector : List ℕ) (head : Header) → header_read size sector ≡ Ok head → header_read_as Wide size sector ≡ Ok head }
+    ensures content { (content recovered : Content) → recovery content ≡ Ok recovered → recovery_as Wide content ≡ Ok recovered }
 {}

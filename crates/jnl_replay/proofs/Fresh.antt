@@ -9,26 +9,29 @@ use Rattle.sector_disk.specs.Lists.{Content, sector}
 use Rattle.sector_disk.specs.Disk.{only, Mixes}
 use Rattle.sector_disk.proofs.Stages.{mixes_size, mixes_before, mixes_behind, mixes_inside, put_before, put_behind, put_inside, length-put}
 use Rattle.jnl_format.specs.Info.{info_of, info_fault, with_info, is_fresh, is_sized, holds, unless_fault, IsInfo}
-use Rattle.jnl_format.specs.Header.{header_read, header_spelled, IsHeader}
-use Rattle.jnl_format.specs.Recovery.{header_of_volume, Journal, journal_in, info_in, info_from, text_of, replayed, fresh_header}
+use Rattle.jnl_format.specs.Header.{header_read_as, header_spelled, IsHeaderAs}
+use Rattle.jnl_format.specs.Recovery.{header_of_volume, Journal, journal_as, info_in, info_from, text_of, replayed, fresh_header}
+use Rattle.jnl_format.specs.Dialect.{most_blhdr}
+use Rattle.jnl_format.specs.declared.dialect.Dialect.{Dialect}
+use Rattle.jnl_format.specs.declared.dialect.Dialect.TheVariants.{Plain, Wide}
 use Rattle.jnl_format.specs.declared.structures.Info.{Info}
 use Rattle.jnl_format.specs.declared.structures.Header.{Header}
 use Rattle.jnl_format.specs.declared.structures.JnlRefusal.{JnlRefusal}
 use Rattle.jnl_format.specs.declared.structures.JnlRefusal.TheVariants.{OtherDevice, BadInfo}
-use Rattle.jnl_format.proofs.Alike.{stands_for, same_place, recovers}
+use Rattle.jnl_format.proofs.Alike.{stands_for_as, same_place, recovers_as}
 use Rattle.jnl_format.specs.Keeping.{KeepsHeader}
 use Rattle.jnl_format.proofs.InfoBack.{info_back, flag_off, flags_fit, here_stays, elsewhere_stays, no_info_block}
 use Rattle.jnl_format.proofs.ReadBack.{header_back, checksum_fits}
-use Rattle.jnl_format.proofs.Recovering.{IsJournal, Found, is_new, is_kept, journal_parts, journal_is_fresh, journal_is_kept, apart_sector, kept_journal, fresh_journal, found_journal, unless_parts}
+use Rattle.jnl_format.proofs.Recovering.{IsJournalAs, FoundAs, is_new, is_kept, journal_parts_as, journal_is_fresh_as, journal_is_kept_as, apart_sector, kept_journal, fresh_journal, found_journal_as, unless_parts}
 use Rattle.jnl_format.proofs.Volumes.{same_refl}
 use Rattle.jnl_format.specs.Keeping.{IsSame}
-use Rattle.jnl_replay.specs.Homing.{AgreesOutsideJournal, StandsForSame, emptied, initialised, empty_header, with_empty_header}
-use Rattle.jnl_replay.specs.Plan.{IsPlan, FitsPlan, journal_of}
+use Rattle.jnl_replay.specs.Homing.{AgreesOutsideJournal, StandsForSameAs, emptied, initialised, empty_header, with_empty_header}
+use Rattle.jnl_replay.specs.Plan.{IsPlanAs, FitsPlanAs, journal_of}
 use Rattle.jnl_replay.specs.declared.plan.Plan.{Plan}
 use Rattle.jnl_replay.proofs.Checks.{place_of}
-use Rattle.jnl_replay.proofs.Stages.{empty_fault, empty_replay, empty_text}
+use Rattle.jnl_replay.proofs.Stages.{empty_fault_as, empty_replay, empty_text}
 
-fresh_found : (c : Content) (plan : Plan) → plan.fresh ≡ true → Found c plan.info (journal_of plan) → (is_fresh plan.info ≡ true) × (plan.header ≡ fresh_header plan.info.size)
+pub fresh_found : {dialect : Dialect} (c : Content) (plan : Plan) → plan.fresh ≡ true → FoundAs dialect c plan.info (journal_of plan) → (is_fresh plan.info ≡ true) × (plan.header ≡ fresh_header plan.info.size)
 fresh_found c plan new (is_new f e) = (f, ap (λ (j : Journal). j.header) e)
 fresh_found c plan new (is_kept header f r e) = absurd (let x = ap (λ (j : Journal). j.fresh) e in cc)
 
@@ -39,12 +42,16 @@ same_fault volume taken info =
     ap (λ x. cond (not (eqb x 0)) (Some OtherDevice) (cond (not (not (eqb (bit_and (bit_and info.flags 4294967291) 1) 0))) (Some (BadInfo 0)) rest)) (elsewhere_stays info.flags)
     ∙ ap (λ x. cond (not (eqb (bit_and info.flags 2) 0)) (Some OtherDevice) (cond (not (not (eqb x 0))) (Some (BadInfo 0)) rest)) (here_stays info.flags)
 
-module _ (c : Content) (plan : Plan) (is : IsPlan c plan) (total : ℕ) (fits : FitsPlan total plan) (size : length c ≡ total) (new : plan.fresh ≡ true) where
-  parts : IsJournal plan.place.info_sector c (journal_of plan)
-  parts = journal_parts plan.place.info_sector c (journal_of plan) is.journal
+least_most : (dialect : Dialect) → 4096 ≤ most_blhdr dialect
+least_most Plain = omega arith
+least_most Wide = omega arith
+
+module _ {dialect form : Dialect} (c : Content) (plan : Plan) (is : IsPlanAs dialect c plan) (total : ℕ) (fits : FitsPlanAs form total plan) (size : length c ≡ total) (new : plan.fresh ≡ true) where
+  parts : IsJournalAs dialect plan.place.info_sector c (journal_of plan)
+  parts = journal_parts_as dialect plan.place.info_sector c (journal_of plan) is.journal
 
   facts : (is_fresh plan.info ≡ true) × (plan.header ≡ fresh_header plan.info.size)
-  facts = fresh_found c plan new (found_journal c plan.info (journal_of plan) parts.found)
+  facts = fresh_found c plan new (found_journal_as dialect c plan.info (journal_of plan) parts.found)
 
   nothing : text_of (journal_of plan) c ≡ []
   nothing = empty_text plan.info plan.header plan.fresh c (let e = ap (λ (h : Header). h.start) facts.1 in let f = ap (λ (h : Header). h.end) facts.1 in e ∙ sym f)
@@ -74,18 +81,18 @@ module _ (c : Content) (plan : Plan) (is : IsPlan c plan) (total : ℕ) (fits : 
 
   -- the flag still stands
   stands_new : (image : Content) → length image ≡ length c → ((s : ℕ) → s ≢ plan.info.offset / 512 → sector image s ≡ sector c s)
-      → (sector image (plan.info.offset / 512) ≡ sector c (plan.info.offset / 512)) ⊎ (sector image (plan.info.offset / 512) ≡ empty_header plan c) → StandsForSame plan c image
+      → (sector image (plan.info.offset / 512) ≡ sector c (plan.info.offset / 512)) ⊎ (sector image (plan.info.offset / 512) ≡ empty_header plan c) → StandsForSameAs dialect plan c image
   stands_new image long same header =
       let at = plan.place.info_sector in
       let info : info_in at image ≡ Ok plan.info = ap (λ n. info_from n at (sector image at)) long ∙ ap (λ (b : List ℕ). info_from (length c) at b) (same at not_info) ∙ parts.whole in
       let k = fresh_journal plan.info in
-      let found = journal_is_fresh at image plan.info info facts.0 in
+      let found = journal_is_fresh_as dialect at image plan.info info facts.0 in
       let none = empty_text plan.info (fresh_header plan.info.size) true image refl in
       record {
         recovered = image;
         stands =
-            recovers at plan.place.last_mounted image (same_place at plan.place.last_mounted c image long (place_of c plan.place is.place) (keeps image (same 2 not_two)))
-            ∙ stands_for at plan.place.last_mounted k image found (empty_fault at plan.place.last_mounted k image none refl)
+            recovers_as dialect at plan.place.last_mounted image (same_place at plan.place.last_mounted c image long (place_of c plan.place is.place) (keeps image (same 2 not_two)))
+            ∙ stands_for_as dialect at plan.place.last_mounted k image found (empty_fault_as dialect at plan.place.last_mounted k image none refl)
             ∙ ap (λ (x : Content). Ok x) (empty_replay k image none);
         agrees = agreeing image long (λ s. elim (cases_eq s (plan.info.offset / 512)) [ inl e ↦ inr (inl e) | inr n ↦ inl (same s n) ]);
         volume = keeps image (same 2 not_two);
@@ -102,7 +109,7 @@ module _ (c : Content) (plan : Plan) (is : IsPlan c plan) (total : ℕ) (fits : 
 
   -- it is cleared
   stands_done : (image : Content) (old : List ℕ) → length image ≡ length c → 52 ≤ length old → old ≡ sector c plan.place.info_sector → sector image plan.place.info_sector ≡ with_info (initialised plan.info) old → sector image (plan.info.offset / 512) ≡ empty_header plan c
-      → ((s : ℕ) → s ≢ plan.info.offset / 512 → s ≢ plan.place.info_sector → sector image s ≡ sector c s) → StandsForSame plan c image
+      → ((s : ℕ) → s ≢ plan.info.offset / 512 → s ≢ plan.place.info_sector → sector image s ≡ sector c s) → StandsForSameAs dialect plan c image
   stands_done image old long enough was info_new header_new same =
       let rest = drop 44 (sector c (plan.info.offset / 512)) in
       let at = plan.place.info_sector in
@@ -122,7 +129,7 @@ module _ (c : Content) (plan : Plan) (is : IsPlan c plan) (total : ℕ) (fits : 
       let end_is : plan.header.end ≡ 512 = ap (λ (h : Header). h.end) facts.1 in
       let size_is : plan.header.size ≡ plan.info.size = ap (λ (h : Header). h.size) facts.1 in
       let blhdr_is : plan.header.blhdr ≡ 4096 = ap (λ (h : Header). h.blhdr) facts.1 in
-      let is_head : IsHeader plan.info.size head = record {
+      let is_head : IsHeaderAs dialect plan.info.size head = record {
         start_whole = omega arith;
         start_low = omega arith;
         start_high = omega (arith, fits.least);
@@ -132,15 +139,15 @@ module _ (c : Content) (plan : Plan) (is : IsPlan c plan) (total : ℕ) (fits : 
         size = size_is;
         blhdr_whole = omega arith;
         blhdr_low = omega arith;
-        blhdr_high = omega arith;
+        blhdr_high = omega (arith, blhdr_is, least_most dialect);
       } in
       let end_fits : plan.header.end < 2 ^ 64 = omega arith in
       let head_size_fits : plan.header.size < 2 ^ 64 = omega (arith, size_fits) in
-      let read : header_read plan.info.size (sector image base) ≡ Ok head =
-      ap (λ (b : List ℕ). header_read plan.info.size b) header_new
+      let read : header_read_as dialect plan.info.size (sector image base) ≡ Ok head =
+      ap (λ (b : List ℕ). header_read_as dialect plan.info.size b) header_new
       ∙ header_back head plan.info.size rest is_head (record { start = end_fits; end = end_fits; size = head_size_fits }) (checksum_fits (header_spelled 0 head)) in
       let k = kept_journal done head in
-      let found : journal_in at image ≡ Ok k = journal_is_kept at image done (Ok head) info off read in
+      let found : journal_as dialect at image ≡ Ok k = journal_is_kept_as dialect at image done (Ok head) info off read in
       let none = empty_text done head false image refl in
       let other : (s : ℕ) → (sector image s ≡ sector c s) ⊎ (s ≡ base) ⊎ (s ≡ at) = λ s. elim (cases_eq s base) [
         | inl e ↦ inr (inl e)
@@ -149,8 +156,8 @@ module _ (c : Content) (plan : Plan) (is : IsPlan c plan) (total : ℕ) (fits : 
       record {
         recovered = image;
         stands =
-            recovers at plan.place.last_mounted image (same_place at plan.place.last_mounted c image long (place_of c plan.place is.place) (keeps image (same 2 not_two (λ e. info_not_two (sym e)))))
-            ∙ stands_for at plan.place.last_mounted k image found (empty_fault at plan.place.last_mounted k image none refl)
+            recovers_as dialect at plan.place.last_mounted image (same_place at plan.place.last_mounted c image long (place_of c plan.place is.place) (keeps image (same 2 not_two (λ e. info_not_two (sym e)))))
+            ∙ stands_for_as dialect at plan.place.last_mounted k image found (empty_fault_as dialect at plan.place.last_mounted k image none refl)
             ∙ ap (λ (x : Content). Ok x) (empty_replay k image none);
         agrees = agreeing image long other;
         volume = keeps image (same 2 not_two (λ e. info_not_two (sym e)));
@@ -169,7 +176,7 @@ module _ (c : Content) (plan : Plan) (is : IsPlan c plan) (total : ℕ) (fits : 
   base_inside = omega (arith, size, fits.inside, fits.least)
 
   -- the empty header is written
-  pub stage_header : (image : Content) → Mixes (only c) (plan.info.offset / 512) (empty_header plan c ∷ []) image → StandsForSame plan c image
+  pub stage_header : (image : Content) → Mixes (only c) (plan.info.offset / 512) (empty_header plan c ∷ []) image → StandsForSameAs dialect plan c image
   stage_header image m =
       let base = plan.info.offset / 512 in
       let e = empty_header plan c ∷ [] in
@@ -186,7 +193,7 @@ module _ (c : Content) (plan : Plan) (is : IsPlan c plan) (total : ℕ) (fits : 
 
   -- and then the info block
   pub stage_info : (image : Content) → 52 ≤ length (sector (with_empty_header plan c) plan.place.info_sector)
-      → Mixes (only (with_empty_header plan c)) plan.place.info_sector (with_info (initialised plan.info) (sector (with_empty_header plan c) plan.place.info_sector) ∷ []) image → StandsForSame plan c image
+      → Mixes (only (with_empty_header plan c)) plan.place.info_sector (with_info (initialised plan.info) (sector (with_empty_header plan c) plan.place.info_sector) ∷ []) image → StandsForSameAs dialect plan c image
   stage_info image enough m =
       let base = plan.info.offset / 512 in
       let at = plan.place.info_sector in

@@ -8,13 +8,14 @@ use Rattle.sector_disk.specs.Clock.{TimePasses, WithTold}
 use Rattle.sector_disk.specs.Disk.{State, Candidates, candidates_of, content, content_of, LeftNow, CrashesLeave, SameSink}
 use Rattle.sector_disk.proofs.Passing.{both_pass, none_passes}
 use Rattle.jnl_format.specs.Ring.{journal_bytes, bytes_from}
-use Rattle.jnl_format.specs.Text.{bad_list, are_blocks, block_bytes, sector_homes, entry_homes, text_homes}
+use Rattle.jnl_format.specs.Text.{bad_list_as, are_blocks, block_bytes, sector_homes, entry_homes, text_homes}
 use Rattle.jnl_format.specs.Recovery.{with_home, with_homes}
+use Rattle.jnl_format.specs.declared.dialect.Dialect.TheVariants.{Wide}
 use Rattle.jnl_format.specs.declared.blocks.Home.{Home}
 use Rattle.jnl_format.specs.declared.blocks.Volume.{Volume}
 use Rattle.jnl_format.specs.Named.{IsGoodHome, Each}
 use Rattle.jnl_format.proofs.Alike.{never_own, not_home}
-use Rattle.jnl_format.proofs.Lists.{good_text}
+use Rattle.jnl_format.proofs.Lists.{good_text_as}
 use Rattle.jnl_format.proofs.Mixing.{mixes_with_homes, same_journal}
 use Rattle.jnl_format.specs.Named.{IsHomeOf}
 use Rattle.jnl_replay.specs.Homing.{AreHomesOf, GrowsHomes, IsHomeMix}
@@ -50,7 +51,7 @@ pub record Homed (volume : Volume) (bytes : List ℕ) (c : Homes) (homes : List 
 
 pub all_good : (total : ℕ) (text : Text) (bytes : List ℕ) (volume : Volume) (homes : List Home) → AreHomesOf total text bytes volume homes → Each (IsGoodHome volume bytes) homes
 all_good total text bytes volume homes a =
-    subst (Each (IsGoodHome volume bytes)) (sym a.homes_are) (good_text volume text.order text.blhdr bytes (length bytes) 0 a.good)
+    subst (Each (IsGoodHome volume bytes)) (sym a.homes_are) (good_text_as Wide volume text.order text.blhdr bytes (length bytes) 0 a.good)
 
 each_front : (P : Home → Type 0) (hs gs : List Home) → Each P (hs ++ gs) → Each P hs
 each_front P [] gs a = tt
@@ -65,7 +66,7 @@ start_pending total text bytes volume homes c a is size z =
       sectors = size ∙ sym a.sectors;
       lists = length bytes;
       enough = omega (arith, z.0);
-      good = ap (λ k. bad_list volume order c.text.blhdr bytes (length bytes) k) z.0 ∙ ap (λ (t : Text). bad_list volume t.order t.blhdr bytes (length bytes) 0) is ∙ a.good;
+      good = ap (λ k. bad_list_as Wide volume order c.text.blhdr bytes (length bytes) k) z.0 ∙ ap (λ (t : Text). bad_list_as Wide volume t.order t.blhdr bytes (length bytes) 0) is ∙ a.good;
       blocks = ap (λ k. are_blocks volume order bytes c.entry c.body k) entries;
       bodies = omega (arith, z.0, z.3, ap (λ k. block_bytes order bytes c.entry k) entries);
       inside = omega (arith, z.0);

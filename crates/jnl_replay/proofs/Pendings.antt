@@ -5,11 +5,12 @@ use Rattle.std.proofs.lemmas.Bool.{and_parts, leb-true}
 use Rattle.hx_bytes.specs.Field.{number_at}
 use Rattle.hx_bytes.specs.declared.fields.Order.{Order}
 use Rattle.jnl_format.specs.List.{entry_at, is_list_head, list_sum}
-use Rattle.jnl_format.specs.Text.{bytes_at, is_skipped, is_block, are_blocks, block_bytes, head_at, bad_list, sector_homes, block_homes, entry_homes, text_homes}
+use Rattle.jnl_format.specs.Text.{bytes_at, is_skipped, is_block, are_blocks, block_bytes, head_at, bad_list_as, sector_homes, block_homes, entry_homes, text_homes}
+use Rattle.jnl_format.specs.declared.dialect.Dialect.TheVariants.{Wide}
 use Rattle.jnl_format.specs.declared.blocks.Home.{Home}
 use Rattle.jnl_format.specs.declared.blocks.Volume.{Volume}
 use Rattle.jnl_format.specs.declared.structures.Entry.{Entry}
-use Rattle.jnl_format.proofs.Lists.{IsList, first_list, first_homes, no_homes}
+use Rattle.jnl_format.proofs.Lists.{IsListAs, first_list_as, first_homes, no_homes}
 use Rattle.std.proofs.lemmas.Bool.Decides.{when_true}
 use Rattle.std.specs.Bool.{MatchBool}
 use Rattle.jnl_replay.specs.Pending.{Pending, GoesOn}
@@ -54,11 +55,11 @@ module _ (volume : Volume) (bytes : List ℕ) (c : Homes) (homes : List Home) (p
     more_lists : (m : ℕ) × (p.lists ≡ suc m)
     more_lists = suc_of p.lists (omega (arith, p.enough, below))
 
-    next_list : IsList volume c.text.order c.text.blhdr bytes c.list × (bad_list volume c.text.order c.text.blhdr bytes more_lists.0 (c.list + (head_at c.text.order bytes c.list).used) ≡ None)
+    next_list : IsListAs Wide volume c.text.order c.text.blhdr bytes c.list × (bad_list_as Wide volume c.text.order c.text.blhdr bytes more_lists.0 (c.list + (head_at c.text.order bytes c.list).used) ≡ None)
     next_list =
-        first_list volume c.text.order c.text.blhdr bytes more_lists.0 c.list (ap (λ n. bad_list volume c.text.order c.text.blhdr bytes n c.list) (sym more_lists.1) ∙ p.good) below
+        first_list_as Wide volume c.text.order c.text.blhdr bytes more_lists.0 c.list (ap (λ n. bad_list_as Wide volume c.text.order c.text.blhdr bytes n c.list) (sym more_lists.1) ∙ p.good) below
 
-    pub list_here : IsList volume c.text.order c.text.blhdr bytes c.list
+    pub list_here : IsListAs Wide volume c.text.order c.text.blhdr bytes c.list
     list_here = next_list.0
 
     pub pend_list : (used header entries : ℕ) → used ≡ (head_at c.text.order bytes c.list).used → header ≡ c.text.blhdr → entries ≡ (head_at c.text.order bytes c.list).entries - 1 → 0 < c.text.blhdr
@@ -73,7 +74,7 @@ module _ (volume : Volume) (bytes : List ℕ) (c : Homes) (homes : List Home) (p
           sectors = p.sectors;
           lists = more_lists.0;
           enough = omega (arith, p.enough, more_lists.1, u, l.used, some);
-          good = ap (λ k. bad_list volume order c.text.blhdr bytes more_lists.0 (c.list + k)) u ∙ next_list.1;
+          good = ap (λ k. bad_list_as Wide volume order c.text.blhdr bytes more_lists.0 (c.list + k)) u ∙ next_list.1;
           blocks = ap (λ k. are_blocks volume order bytes (c.list + 32) (c.list + k) entries) h ∙ ap (λ k. are_blocks volume order bytes (c.list + 32) (c.list + c.text.blhdr) k) n ∙ l.blocks;
           bodies = omega (arith, bytes_are, u, h, l.used);
           inside = omega (arith, u, l.inside);

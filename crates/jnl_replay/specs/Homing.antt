@@ -4,10 +4,12 @@ use Rattle.sector_disk.specs.Lists.{Content, sector, put_sectors}
 use Rattle.sector_disk.specs.Disk.{Candidates, GrowsBy, MixesBy, content}
 use Rattle.jnl_format.specs.Info.{with_info}
 use Rattle.jnl_format.specs.Header.{header_bytes}
-use Rattle.jnl_format.specs.Text.{bad_list, text_homes}
-use Rattle.jnl_format.specs.Recovery.{Journal, journal_in, recovery, replayed}
+use Rattle.jnl_format.specs.Text.{bad_list_as, text_homes}
+use Rattle.jnl_format.specs.Recovery.{Journal, journal_as, recovery_as, replayed}
 use Rattle.jnl_format.specs.declared.blocks.Home.{Home}
 use Rattle.jnl_format.specs.declared.blocks.Volume.{Volume}
+use Rattle.jnl_format.specs.declared.dialect.Dialect.{Dialect}
+use Rattle.jnl_format.specs.declared.dialect.Dialect.TheVariants.{Plain, Wide}
 use Rattle.jnl_format.specs.declared.structures.Info.{Info}
 use Rattle.jnl_format.specs.declared.structures.Header.{Header}
 use Rattle.jnl_format.specs.Keeping.{KeepsHeader}
@@ -24,12 +26,13 @@ GrowsHomes bytes homes = GrowsBy (IsHomeOf bytes homes)
 abbrev pub IsHomeMix : List ℕ → List Home → Candidates → Content → Type 0
 IsHomeMix bytes homes = MixesBy (IsHomeOf bytes homes)
 
--- these are the homes of a text on a disk of so many sectors, each of whose lists is as it must be
+-- These are the homes of a text on a disk of so many sectors, each of whose lists is as it must be: as the wide dialect
+-- has it, which takes what the plain one takes.
 pub record AreHomesOf (total : ℕ) (text : Text) (bytes : List ℕ) (volume : Volume) (homes : List Home) : Type 0 where
   pub sectors : volume.sectors ≡ total
   pub first : volume.first ≡ text.span.base
   pub count : volume.count ≡ text.span.size / 512
-  pub good : bad_list volume text.order text.blhdr bytes (length bytes) 0 ≡ None
+  pub good : bad_list_as Wide volume text.order text.blhdr bytes (length bytes) 0 ≡ None
   pub homes_are : homes ≡ text_homes text.order text.blhdr bytes (length bytes) 0
 
 -- a header that says of its journal that it is empty
@@ -66,17 +69,17 @@ pub record AgreesOutsideJournal (plan : Plan) (old new : Content) : Type 0 where
 abbrev pub IsJournalSector : Plan → ℕ → Type 0
 IsJournalSector plan at = ((plan.info.offset / 512 ≤ at) × (at < plan.info.offset / 512 + plan.info.size / 512)) ⊎ (at ≡ plan.place.info_sector)
 
--- A content that stands for what this one does, but in the journal header and the info block. It can be mounted: its
+-- A content that stands in a dialect for what this one does, but in the journal header and the info block. It can be mounted: its
 -- volume header is accepted and of the same volume, and its journal has the same place, order and sizes. Its journal
 -- header and its info block are those of before, or those that a replay writes. The journal's own sectors of what it
 -- stands for are its own.
-pub record StandsForSame (plan : Plan) (old image : Content) : Type 0 where
+pub record StandsForSameAs (dialect : Dialect) (plan : Plan) (old image : Content) : Type 0 where
   pub recovered : Content
-  pub stands : recovery image ≡ Ok recovered
+  pub stands : recovery_as dialect image ≡ Ok recovered
   pub agrees : AgreesOutsideJournal plan (replayed (journal_of plan) old) recovered
   pub volume : KeepsHeader old image
   pub journal : Journal
-  pub found : journal_in plan.place.info_sector image ≡ Ok journal
+  pub found : journal_as dialect plan.place.info_sector image ≡ Ok journal
   pub offset : journal.info.offset ≡ plan.info.offset
   pub size : journal.info.size ≡ plan.info.size
   pub order : journal.header.order ≡ plan.header.order
@@ -84,3 +87,7 @@ pub record StandsForSame (plan : Plan) (old image : Content) : Type 0 where
   pub header : (sector image (plan.info.offset / 512) ≡ sector old (plan.info.offset / 512)) ⊎ (sector image (plan.info.offset / 512) ≡ empty_header plan old)
   pub info : (sector image plan.place.info_sector ≡ sector old plan.place.info_sector) ⊎ ((plan.fresh ≡ true) × (sector image plan.place.info_sector ≡ with_info (initialised plan.info) (sector old plan.place.info_sector)))
   pub own : (s : ℕ) → IsJournalSector plan s → sector recovered s ≡ sector image s
+
+-- the same in the plain dialect
+abbrev pub StandsForSame : Plan → Content → Content → Type 0
+StandsForSame = StandsForSameAs Plain

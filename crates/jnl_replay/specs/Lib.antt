@@ -1,3 +1,4 @@
+pub mod Adopting
 pub mod Buffered
 pub mod Homing
 pub mod Peeked

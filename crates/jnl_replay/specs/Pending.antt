@@ -1,6 +1,7 @@
 -- The homes that a walk over a journal's text has still to give.
 use Rattle.std.specs.Prelude.{◌≡◌, ◌≤◌, ◌+◌, ◌*◌, ◌-◌, ℕ, Bool, List, [], ◌∷◌, ◌++◌, length, true, Option, None, MatchOption, MatchBool}
-use Rattle.jnl_format.specs.Text.{are_blocks, block_bytes, bad_list, sector_homes, entry_homes, text_homes}
+use Rattle.jnl_format.specs.Text.{are_blocks, block_bytes, bad_list_as, sector_homes, entry_homes, text_homes}
+use Rattle.jnl_format.specs.declared.dialect.Dialect.TheVariants.{Wide}
 use Rattle.jnl_format.specs.declared.blocks.Home.{Home}
 use Rattle.jnl_format.specs.declared.blocks.Volume.{Volume}
 use Rattle.jnl_format.specs.Named.{IsGoodHome, Each}
@@ -22,7 +23,7 @@ pub record Pending (volume : Volume) (bytes : List ℕ) (c : Homes) (homes : Lis
   pub sectors : c.sectors ≡ volume.sectors
   pub lists : ℕ
   pub enough : length bytes ≤ c.list + lists
-  pub good : bad_list volume c.text.order c.text.blhdr bytes lists c.list ≡ None
+  pub good : bad_list_as Wide volume c.text.order c.text.blhdr bytes lists c.list ≡ None
   pub blocks : are_blocks volume c.text.order bytes c.entry c.body c.entries ≡ true
   pub bodies : c.body + block_bytes c.text.order bytes c.entry c.entries ≡ c.list
   pub inside : c.list ≤ length bytes

@@ -1,8 +1,10 @@
 -- What a plan is, and what it is for.
 use Rattle.std.specs.Prelude.{◌≡◌, false, ◌<◌, ◌≤◌, ◌+◌, ◌%◌, ◌*◌, ℕ, length, Option, None, Some, Result, Ok, Err}
 use Rattle.volume_header.specs.Refusal.{header_refusal}
-use Rattle.jnl_format.specs.Header.{IsHeader}
-use Rattle.jnl_format.specs.Recovery.{Content, header_of_volume, info_sector_of, Journal, journal_in, text_fault, recovery}
+use Rattle.jnl_format.specs.Header.{IsHeaderAs}
+use Rattle.jnl_format.specs.Recovery.{Content, header_of_volume, info_sector_of, Journal, journal_as, text_fault_as, recovery_as}
+use Rattle.jnl_format.specs.declared.dialect.Dialect.{Dialect}
+use Rattle.jnl_format.specs.declared.dialect.Dialect.TheVariants.{Plain, Wide}
 use Rattle.jnl_format.specs.declared.structures.JnlRefusal.{JnlRefusal}
 use Rattle.jnl_replay.specs.declared.plan.Place.{Place}
 use Rattle.jnl_replay.specs.declared.plan.Plan.{Plan}
@@ -24,11 +26,15 @@ pub record IsQuick (plan : Plan) : Type 0 where
   pub old : plan.fresh ≡ false
   pub empty : plan.header.start ≡ plan.header.end
 
--- the plan has the content's journal, which has no fault
-pub record IsPlan (content : Content) (plan : Plan) : Type 0 where
+-- the plan has the content's journal, which has no fault in a dialect
+pub record IsPlanAs (dialect : Dialect) (content : Content) (plan : Plan) : Type 0 where
   pub place : IsPlace content plan.place
-  pub journal : journal_in plan.place.info_sector content ≡ Ok (journal_of plan)
-  pub text : text_fault plan.place.info_sector plan.place.last_mounted (journal_of plan) content ≡ None
+  pub journal : journal_as dialect plan.place.info_sector content ≡ Ok (journal_of plan)
+  pub text : text_fault_as dialect plan.place.info_sector plan.place.last_mounted (journal_of plan) content ≡ None
+
+-- the same in the plain dialect
+abbrev pub IsPlan : Content → Plan → Type 0
+IsPlan = IsPlanAs Plain
 
 -- a refusal is the fault that stands in place of a value; a fault of the disk says nothing of it
 abbrev pub IsFaultOf : {T : Type 0} → Result T JnlRefusal → ReplayFault → Type 0
@@ -40,12 +46,16 @@ abbrev pub IsFirstFault : Option JnlRefusal → ReplayFault → Type 0
 IsFirstFault fault Disk = Unit {0}
 IsFirstFault fault (Refused refusal) = fault ≡ Some refusal
 
--- a refusal is the first fault of the content
-abbrev pub IsRefusedAs : Content → ReplayFault → Type 0
-IsRefusedAs content fault = IsFaultOf (recovery content) fault
+-- a refusal is the first fault of the content in a dialect
+abbrev pub IsRefusedIn : Dialect → Content → ReplayFault → Type 0
+IsRefusedIn dialect content fault = IsFaultOf (recovery_as dialect content) fault
 
--- the plan's journal and info block lie on a disk of so many sectors
-pub record FitsPlan (total : ℕ) (plan : Plan) : Type 0 where
+-- the same in the plain dialect
+abbrev pub IsRefusedAs : Content → ReplayFault → Type 0
+IsRefusedAs = IsRefusedIn Plain
+
+-- the plan's journal and info block lie on a disk of so many sectors, and its header is as a dialect has it
+pub record FitsPlanAs (dialect : Dialect) (total : ℕ) (plan : Plan) : Type 0 where
   pub sectors : total ≤ 2147483648
   pub info_sector : plan.place.info_sector < total
   pub offset : plan.info.offset % 512 ≡ 0
@@ -57,4 +67,12 @@ pub record FitsPlan (total : ℕ) (plan : Plan) : Type 0 where
   pub end_low : 512 ≤ plan.header.end
   pub end_high : plan.header.end < plan.info.size
   pub blhdr : 512 ≤ plan.header.blhdr
-  pub header : IsHeader plan.info.size plan.header
+  pub header : IsHeaderAs dialect plan.info.size plan.header
+
+-- the same in the plain dialect
+abbrev pub FitsPlan : ℕ → Plan → Type 0
+FitsPlan = FitsPlanAs Plain
+
+-- the same in whichever dialect the journal was read: the wide one allows most
+abbrev pub FitsAny : ℕ → Plan → Type 0
+FitsAny = FitsPlanAs Wide

@@ -4,9 +4,9 @@ ghost use Rattle.sector_disk.specs.Cause.{Rose};
 ghost use Rattle.sector_disk.specs.Disk.{content};
 ghost use Rattle.sector_disk.specs.Lists.{sector};
 ghost use Rattle.jnl_format.specs.Info.{holds, is_fresh, IsInfo};
-ghost use Rattle.jnl_format.specs.Header.{header_read, IsHeader};
-ghost use Rattle.jnl_format.specs.Recovery.{info_in, info_from, journal_in, list_fault, foreign_fault, text_fault, fresh_header, recovery, replayed};
-ghost use Rattle.jnl_replay.specs.Plan.{IsPlace, IsPlan, IsRefusedAs, IsFaultOf, IsFirstFault, FitsPlan, journal_of};
+ghost use Rattle.jnl_format.specs.Header.{header_read_as, IsHeaderAs};
+ghost use Rattle.jnl_format.specs.Recovery.{info_in, info_from, journal_as, list_fault_as, foreign_fault, text_fault_as, fresh_header, recovery, recovery_as, replayed};
+ghost use Rattle.jnl_replay.specs.Plan.{IsPlace, IsPlan, IsPlanAs, IsRefusedAs, IsRefusedIn, IsFaultOf, IsFirstFault, FitsPlan, FitsPlanAs, journal_of};
 ghost use Rattle.sector_disk.specs.Disk.{OnlyReads};
 ghost use Rattle.jnl_replay.specs.declared.plan.ReplayFault.TheVariants.{Disk};
 
@@ -15,7 +15,9 @@ use crate::plan::{Place, Plan, ReplayFault};
 use crate::text::text_of;
 use crate::volume::{HEADER_SECTOR, read_volume};
 use hx_bytes::{Order, Sector};
-use jnl_format::{Header, Info, JnlRefusal, Volume, first_info_fault, info_fields, read_header};
+use jnl_format::{
+    Dialect, Header, Info, JnlRefusal, Volume, first_info_fault, info_fields, read_header_as,
+};
 use jnl_ring::advance;
 use sector_disk::SectorDisk;
 
@@ -41,22 +43,48 @@ pub fn validate<D: SectorDisk>(disk: &mut D, place: &Place) -> Result<Plan, Repl
     ensures reads { OnlyReads (D.state disk.old) (D.state disk.new) }
     ensures cause { IsErrOf result Disk → Rose (D.state disk.old).faults (D.state disk.new).faults }
 {
-    let plan = match find_journal(disk, place) {
+    validate_as(disk, place, Dialect::Plain)
+}
+
+/// The same in a dialect.
+pub fn validate_as<D: SectorDisk>(
+    disk: &mut D,
+    place: &Place,
+    dialect: Dialect,
+) -> Result<Plan, ReplayFault>
+    requires size { (D.state disk.old).sectors ≤ 2147483648 }
+    requires info { place.now.info_sector < (D.state disk.old).sectors }
+    requires place { IsTrue (D.state disk.old).tells → IsPlace (content (D.state disk.old)) place.now }
+    // A plan has the content's journal, which has no fault.
+    ensures plan { IsTrue (D.state disk.old).tells → IfOk result (λ plan. IsPlanAs dialect (content (D.state disk.old)) plan × (plan.place ≡ place.now)) }
+    // With a plan the recovered content is defined: the blocks are written to their sectors.
+    ensures recovered { IsTrue (D.state disk.old).tells → IfOk result (λ plan. recovery_as dialect (content (D.state disk.old)) ≡ Ok (replayed (journal_of plan) (content (D.state disk.old)))) }
+    // A refusal is the one that stands in place of the recovered content.
+    ensures refused { IsTrue (D.state disk.old).tells → IfErr result (IsRefusedIn dialect (content (D.state disk.old))) }
+    ensures fits { IfOk result (λ plan. FitsPlanAs dialect (D.state disk.old).sectors plan) }
+    ensures reads { OnlyReads (D.state disk.old) (D.state disk.new) }
+    ensures cause { IsErrOf result Disk → Rose (D.state disk.old).faults (D.state disk.new).faults }
+{
+    let plan = match find_journal(disk, place, dialect) {
         Ok(plan) => plan,
         Err(fault) => return Err(fault),
     };
-    match check_text(disk, &plan) {
+    match check_text(disk, &plan, dialect) {
         Ok(()) => Ok(plan),
         Err(fault) => Err(fault),
     }
 }
 
-fn find_journal<D: SectorDisk>(disk: &mut D, place: &Place) -> Result<Plan, ReplayFault>
+fn find_journal<D: SectorDisk>(
+    disk: &mut D,
+    place: &Place,
+    dialect: Dialect,
+) -> Result<Plan, ReplayFault>
     requires size { (D.state disk.old).sectors ≤ 2147483648 }
     requires info { place.now.info_sector < (D.state disk.old).sectors }
-    ensures plan { IsTrue (D.state disk.old).tells → IfOk result (λ plan. (journal_in place.now.info_sector (content (D.state disk.old)) ≡ Ok (journal_of plan)) × (plan.place ≡ place.now)) }
-    ensures refused { IsTrue (D.state disk.old).tells → IfErr result (IsFaultOf (journal_in place.now.info_sector (content (D.state disk.old)))) }
-    ensures fits { IfOk result (λ plan. FitsPlan (D.state disk.old).sectors plan) }
+    ensures plan { IsTrue (D.state disk.old).tells → IfOk result (λ plan. (journal_as dialect place.now.info_sector (content (D.state disk.old)) ≡ Ok (journal_of plan)) × (plan.place ≡ place.now)) }
+    ensures refused { IsTrue (D.state disk.old).tells → IfErr result (IsFaultOf (journal_as dialect place.now.info_sector (content (D.state disk.old)))) }
+    ensures fits { IfOk result (λ plan. FitsPlanAs dialect (D.state disk.old).sectors plan) }
     ensures reads { OnlyReads (D.state disk.old) (D.state disk.new) }
     ensures cause { IsErrOf result Disk → Rose (D.state disk.old).faults (D.state disk.new).faults }
 {
@@ -67,7 +95,7 @@ fn find_journal<D: SectorDisk>(disk: &mut D, place: &Place) -> Result<Plan, Repl
     if is_new(&info) {
         return Ok(fresh_plan(place, &info));
     }
-    match find_header(disk, &info) {
+    match find_header(disk, &info, dialect) {
         Ok(header) => Ok(kept_plan(place, &info, &header)),
         Err(fault) => Err(fault),
     }
@@ -114,30 +142,34 @@ fn is_taken(info: &Info, at: u64) -> bool
     lies_on(info, HEADER_SECTOR) || lies_on(info, at)
 }
 
-fn find_header<D: SectorDisk>(disk: &mut D, info: &Info) -> Result<Header, ReplayFault>
+fn find_header<D: SectorDisk>(
+    disk: &mut D,
+    info: &Info,
+    dialect: Dialect,
+) -> Result<Header, ReplayFault>
     requires least { 1536 ≤ info.now.size }
     requires inside { info.now.offset + info.now.size ≤ (D.state disk.old).sectors * 512 }
-    ensures found { IsTrue (D.state disk.old).tells → IfOk result (λ header. header_read info.now.size (sector (content (D.state disk.old)) (info.now.offset / 512)) ≡ Ok header) }
-    ensures refused { IsTrue (D.state disk.old).tells → IfErr result (IsFaultOf (header_read info.now.size (sector (content (D.state disk.old)) (info.now.offset / 512)))) }
-    ensures fits { IfOk result (λ header. IsHeader info.now.size header) }
+    ensures found { IsTrue (D.state disk.old).tells → IfOk result (λ header. header_read_as dialect info.now.size (sector (content (D.state disk.old)) (info.now.offset / 512)) ≡ Ok header) }
+    ensures refused { IsTrue (D.state disk.old).tells → IfErr result (IsFaultOf (header_read_as dialect info.now.size (sector (content (D.state disk.old)) (info.now.offset / 512)))) }
+    ensures fits { IfOk result (λ header. IsHeaderAs dialect info.now.size header) }
     ensures reads { OnlyReads (D.state disk.old) (D.state disk.new) }
     ensures cause { IsErrOf result Disk → Rose (D.state disk.old).faults (D.state disk.new).faults }
 {
     let mut block = [0; 512];
     match disk.read(info.offset / 512, &mut block) {
-        Ok(()) => judge_header(&block, info.size),
+        Ok(()) => judge_header(&block, info.size, dialect),
         Err(_) => Err(ReplayFault::Disk),
     }
 }
 
-fn judge_header(block: &Sector, size: u64) -> Result<Header, ReplayFault>
+fn judge_header(block: &Sector, size: u64, dialect: Dialect) -> Result<Header, ReplayFault>
     requires { 1536 ≤ size }
-    ensures found { IfOk result (λ header. header_read size block.now ≡ Ok header) }
-    ensures refused { IfErr result (IsFaultOf (header_read size block.now)) }
-    ensures fits { IfOk result (λ header. IsHeader size header) }
+    ensures found { IfOk result (λ header. header_read_as dialect size block.now ≡ Ok header) }
+    ensures refused { IfErr result (IsFaultOf (header_read_as dialect size block.now)) }
+    ensures fits { IfOk result (λ header. IsHeaderAs dialect size header) }
     ensures no_disk { IsErrOf result Disk → ⊥ }
 {
-    match read_header(block, size) {
+    match read_header_as(block, size, dialect) {
         Ok(header) => Ok(header),
         Err(refusal) => Err(ReplayFault::Refused(refusal)),
     }
@@ -186,25 +218,29 @@ fn lies_on(info: &Info, sector: u64) -> bool
     info.offset < from + 512 && (from < info.offset || from - info.offset < info.size)
 }
 
-fn check_text<D: SectorDisk>(disk: &mut D, plan: &Plan) -> Result<(), ReplayFault>
-    requires fits { FitsPlan (D.state disk.old).sectors plan.now }
+fn check_text<D: SectorDisk>(disk: &mut D, plan: &Plan, dialect: Dialect) -> Result<(), ReplayFault>
+    requires fits { FitsPlanAs dialect (D.state disk.old).sectors plan.now }
     requires place { IsTrue (D.state disk.old).tells → IsPlace (content (D.state disk.old)) plan.now.place }
-    ensures sound { IsTrue (D.state disk.old).tells → OnOk result (text_fault plan.now.place.info_sector plan.now.place.last_mounted (journal_of plan.now) (content (D.state disk.old)) ≡ None) }
-    ensures refused { IsTrue (D.state disk.old).tells → IfErr result (IsFirstFault (text_fault plan.now.place.info_sector plan.now.place.last_mounted (journal_of plan.now) (content (D.state disk.old)))) }
+    ensures sound { IsTrue (D.state disk.old).tells → OnOk result (text_fault_as dialect plan.now.place.info_sector plan.now.place.last_mounted (journal_of plan.now) (content (D.state disk.old)) ≡ None) }
+    ensures refused { IsTrue (D.state disk.old).tells → IfErr result (IsFirstFault (text_fault_as dialect plan.now.place.info_sector plan.now.place.last_mounted (journal_of plan.now) (content (D.state disk.old)))) }
     ensures reads { OnlyReads (D.state disk.old) (D.state disk.new) }
     ensures cause { IsErrOf result Disk → Rose (D.state disk.old).faults (D.state disk.new).faults }
 {
-    match check_lists(disk, plan) {
+    match check_lists(disk, plan, dialect) {
         Ok(()) => check_origin(plan),
         Err(fault) => Err(fault),
     }
 }
 
-fn check_lists<D: SectorDisk>(disk: &mut D, plan: &Plan) -> Result<(), ReplayFault>
-    requires fits { FitsPlan (D.state disk.old).sectors plan.now }
+fn check_lists<D: SectorDisk>(
+    disk: &mut D,
+    plan: &Plan,
+    dialect: Dialect,
+) -> Result<(), ReplayFault>
+    requires fits { FitsPlanAs dialect (D.state disk.old).sectors plan.now }
     requires place { IsTrue (D.state disk.old).tells → IsPlace (content (D.state disk.old)) plan.now.place }
-    ensures sound { IsTrue (D.state disk.old).tells → OnOk result (list_fault plan.now.place.info_sector (journal_of plan.now) (content (D.state disk.old)) ≡ None) }
-    ensures refused { IsTrue (D.state disk.old).tells → IfErr result (IsFirstFault (list_fault plan.now.place.info_sector (journal_of plan.now) (content (D.state disk.old)))) }
+    ensures sound { IsTrue (D.state disk.old).tells → OnOk result (list_fault_as dialect plan.now.place.info_sector (journal_of plan.now) (content (D.state disk.old)) ≡ None) }
+    ensures refused { IsTrue (D.state disk.old).tells → IfErr result (IsFirstFault (list_fault_as dialect plan.now.place.info_sector (journal_of plan.now) (content (D.state disk.old)))) }
     ensures reads { OnlyReads (D.state disk.old) (D.state disk.new) }
     ensures cause { IsErrOf result Disk → Rose (D.state disk.old).faults (D.state disk.new).faults }
 {
@@ -221,7 +257,7 @@ fn check_lists<D: SectorDisk>(disk: &mut D, plan: &Plan) -> Result<(), ReplayFau
         info_sector: plan.place.info_sector,
         header,
     };
-    match first_bad_list(disk, &text, &volume)? {
+    match first_bad_list(disk, &text, &volume, dialect)? {
         None => Ok(()),
         Some(at) => {
             let offset = advance(&text.span, text.start, at);

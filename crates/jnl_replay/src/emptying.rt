@@ -6,7 +6,7 @@ ghost use Rattle.jnl_format.specs.Info.{with_info};
 ghost use Rattle.jnl_format.specs.Header.{header_bytes};
 ghost use Rattle.sector_disk.specs.Lists.{sector};
 ghost use Rattle.jnl_replay.specs.Homing.{emptied, initialised, empty_header, with_empty_header, with_info_done};
-ghost use Rattle.jnl_replay.specs.Plan.{FitsPlan};
+ghost use Rattle.jnl_replay.specs.Plan.{FitsAny};
 
 use crate::plan::Plan;
 use hx_bytes::Failed;
@@ -17,7 +17,7 @@ const ALL_BUT_FRESH: u32 = 0xFFFF_FFFB;
 
 /// Writes a journal header whose start is its end, and calls a barrier.
 pub fn empty_journal<D: SectorDisk>(disk: &mut D, plan: &Plan) -> Result<(), Failed>
-    requires { FitsPlan (D.state disk.old).sectors plan.now }
+    requires { FitsAny (D.state disk.old).sectors plan.now }
     ensures settled { IsTrue (D.state disk.old).tells → OnOk result ((D.state disk.new).candidates ≡ only (with_empty_header plan.now (content (D.state disk.old)))) }
     ensures crash { IsTrue (D.state disk.old).tells → CrashesLeave (D.state disk.old) (D.state disk.new) (Mixes (D.state disk.old).candidates (plan.now.info.offset / 512) (empty_header plan.now (content (D.state disk.old)) ∷ [])) }
     ensures counted { OnOk result ((D.state disk.new).barriers ≡ next_count (D.state disk.old).barriers) }
@@ -47,7 +47,7 @@ fn empty(header: &Header) -> Header
 
 /// Clears the flag of a journal that still has to be initialised, and calls a barrier.
 pub fn clear_flag<D: SectorDisk>(disk: &mut D, plan: &Plan) -> Result<(), Failed>
-    requires { FitsPlan (D.state disk.old).sectors plan.now }
+    requires { FitsAny (D.state disk.old).sectors plan.now }
     ensures settled { IsTrue (D.state disk.old).tells → OnOk result ((D.state disk.new).candidates ≡ only (with_info_done plan.now (content (D.state disk.old)))) }
     ensures crash { IsTrue (D.state disk.old).tells → CrashesLeave (D.state disk.old) (D.state disk.new)
         (Mixes (D.state disk.old).candidates plan.now.place.info_sector (with_info (initialised plan.now.info) (sector (content (D.state disk.old)) plan.now.place.info_sector) ∷ [])) }

@@ -1,6 +1,7 @@
 //! A journal checked, replayed, and looked through.
 #![tactic(auto)]
 
+mod adopting;
 mod blocks;
 mod buffered;
 mod buffering;
@@ -21,12 +22,13 @@ mod text;
 mod view;
 mod volume;
 
-pub use checking::validate;
+pub use adopting::{adopt, plain_size};
+pub use checking::{validate, validate_as};
 pub use emptying::empty_journal;
 pub use homing::write_homes;
 pub use index::Peek;
 pub use plan::{Place, Plan, ReplayFault};
-pub use replaying::replay;
+pub use replaying::{replay, replay_as};
 pub use run_index::RunIndex;
 pub use runs::Run;
 pub use text::{Text, text_of};

@@ -3,7 +3,7 @@ ghost use Rattle.std.specs.Prelude.{◌≡◌, ◌<◌, ◌≤◌, ◌+◌, ◌/
 ghost use Rattle.jnl_ring.specs.Span.{sector_after};
 ghost use Rattle.sector_disk.specs.Cause.{HasCause, next_count};
 ghost use Rattle.sector_disk.specs.Disk.{CrashesLeave, IsImage, SameDisk, SameSink, content, only};
-ghost use Rattle.jnl_replay.specs.Plan.{FitsPlan};
+ghost use Rattle.jnl_replay.specs.Plan.{FitsAny};
 ghost use Rattle.jnl_replay.specs.Repeating.{Repeats, repeat_all, repeat_at, repeat_ring};
 ghost use Rattle.jnl_replay.specs.Text.{IsText};
 
@@ -18,7 +18,7 @@ use sector_disk::SectorDisk;
 /// a barrier. Where a barrier failed in an earlier run, a system may go on giving what was written before it though it
 /// isn't stable, and a later barrier answers for what was written since alone.
 pub fn settle_again<D: SectorDisk>(disk: &mut D, plan: &Plan) -> Result<(), Failed>
-    requires { FitsPlan (D.state disk.old).sectors plan.now }
+    requires { FitsAny (D.state disk.old).sectors plan.now }
     ensures settled { IsTrue (D.state disk.old).tells → OnOk result ((D.state disk.new).candidates ≡ only (content (D.state disk.old))) }
     ensures crash { IsTrue (D.state disk.old).tells → CrashesLeave (D.state disk.old) (D.state disk.new) (IsImage (D.state disk.old).candidates) }
     ensures counted { OnOk result ((D.state disk.new).barriers ≡ next_count (D.state disk.old).barriers) }
@@ -33,7 +33,7 @@ pub fn settle_again<D: SectorDisk>(disk: &mut D, plan: &Plan) -> Result<(), Fail
 
 // Writes what a replay acts on again.
 fn repeat_sources<D: SectorDisk>(disk: &mut D, plan: &Plan) -> Result<(), Failed>
-    requires { FitsPlan (D.state disk.old).sectors plan.now }
+    requires { FitsAny (D.state disk.old).sectors plan.now }
     ensures written { IsTrue (D.state disk.old).tells → OnOk result ((D.state disk.new).candidates ≡ repeat_all plan.now (D.state disk.old).candidates) }
     ensures repeats { IsTrue (D.state disk.old).tells → Repeats (D.state disk.old) (D.state disk.new) }
     ensures barriers { (D.state disk.new).barriers ≡ (D.state disk.old).barriers }

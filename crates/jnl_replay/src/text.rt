@@ -4,7 +4,7 @@ ghost use Rattle.sector_disk.specs.Cause.{HasCause};
 ghost use Rattle.sector_disk.specs.Disk.{content};
 ghost use Rattle.jnl_format.specs.List.{entry_at};
 ghost use Rattle.jnl_format.specs.Text.{bytes_at};
-ghost use Rattle.jnl_replay.specs.Plan.{FitsPlan};
+ghost use Rattle.jnl_replay.specs.Plan.{FitsAny};
 ghost use Rattle.sector_disk.specs.Disk.{OnlyReads};
 ghost use Rattle.jnl_replay.specs.Text.{words, IsText, text_in};
 
@@ -25,7 +25,7 @@ pub struct Text {
 }
 
 pub fn text_of(plan: &Plan, sectors: u64) -> Text
-    requires { FitsPlan sectors plan.now }
+    requires { FitsAny sectors plan.now }
     ensures is { result ≡ text_in plan.now.info plan.now.header }
     ensures fits { IsText sectors result }
 {

@@ -76,7 +76,6 @@ pub(crate) const REFUSALS: &[(Refusal, &str)] = &[
     (Refusal::Inside, "no Inside\n"),
     (Refusal::TooManyLinks, "no TooManyLinks\n"),
     (Refusal::TooLarge, "no TooLarge\n"),
-    (Refusal::GrowLimit, "no GrowLimit\n"),
     (Refusal::AttributeTooLarge, "no AttributeTooLarge\n"),
     (Refusal::NoAttribute, "no NoAttribute\n"),
     (Refusal::NoTree, "no NoTree\n"),

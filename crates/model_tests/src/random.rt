@@ -56,10 +56,10 @@ impl Dice {
         Ok(path)
     }
 
-    /// A small number, and seldom one past a limit.
+    /// A small number, seldom a larger one, and seldom one past a limit.
     fn size(&mut self) -> u64 {
         match self.roll(32) {
-            0 => 2_000_000,
+            0 => 20_000,
             1 => 1_099_511_627_777,
             _ => self.roll(60),
         }

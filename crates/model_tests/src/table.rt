@@ -198,6 +198,12 @@ impl Table {
         }
         let item = self.reach_file(path)?;
         let above = self.reach_above(path)?;
+        self.lose(path, item, above);
+        Ok(String::new(alloc))
+    }
+
+    /// A file loses a name in a folder.
+    fn lose(&mut self, path: &[u8], item: usize, above: usize) {
         self.drop_row(path);
         if self.names_of(item) == 0 {
             self.draw_private();
@@ -205,7 +211,6 @@ impl Table {
             self.mark(item);
         }
         self.touch(above);
-        Ok(String::new(alloc))
     }
 
     fn rmdir(&mut self, alloc: Global, path: &[u8]) -> Told {
@@ -249,8 +254,14 @@ impl Table {
             Ok(goal) => goal,
             Err(why) => return Ok(Err(why)),
         };
-        if self.find(to).is_some() {
-            return Ok(Err("Exists"));
+        if let Some(other) = self.find(to) {
+            if self.is_folder(item) || self.is_folder(other) {
+                return Ok(Err("Exists"));
+            }
+            if other == item {
+                return Ok(Ok(String::new(alloc)));
+            }
+            self.lose(to, other, goal);
         }
         if to.starts_with(from) {
             return Ok(Err("Inside"));
@@ -316,9 +327,6 @@ impl Table {
             if count == 0 {
                 return Ok(Ok(String::new(alloc)));
             }
-            if from + u64::from(count) > file.bytes.len() as u64 + (1 << 20) {
-                return Ok(Err("GrowLimit"));
-            }
             if (file.bytes.len() as u64) < from {
                 file.bytes.resize(from as usize, 0)?;
             }
@@ -364,9 +372,6 @@ impl Table {
         }
         let moment = self.moment;
         if let Some(file) = self.items.get_mut(item) {
-            if size > file.bytes.len() as u64 + (1 << 20) {
-                return Ok(Err("GrowLimit"));
-            }
             file.bytes.resize(size as usize, 0)?;
             file.changed = moment;
             file.marked = moment;

@@ -31,9 +31,10 @@ use Rattle.volume_base.specs.declared.volume.Volume.{Volume}
 use Rattle.volume_step.specs.Steps.{IsServedAs}
 use Rattle.volume_step.specs.declared.outcome.Outcome.{Outcome}
 use Rattle.volume_step.specs.declared.outcome.Outcome.TheVariants as outcome
-use Rattle.served_volume.specs.Answering.{AnswersAs, CutsForLine, GrowsForLine, ShrinksBy, TellsAs}
+use Rattle.served_volume.specs.Answering.{AnswersAs, CutsForLine, FillsForLine, GrowsForLine, ShrinksBy, TellsAs}
 use Rattle.served_volume.specs.Knowing.{IsAlike, Knows}
 use Rattle.served_volume.proofs.Alike.{served_alike, told_alike}
+use Rattle.served_volume.proofs.Filled.{line_filled}
 use Rattle.served_volume.proofs.Stepping.{Leaves, follow, heads_then, knows_then, place_then, reads_then}
 
 -- what a run of one entry tells
@@ -119,13 +120,14 @@ module _ (v w : Volume) (capacity : ℕ) (committed now : Content) (shrunk : Opt
         known = subst (λ (c : Content). Knows w capacity committed c shrunk b) is (knows_then v w capacity committed now shrunk a b known below reads heads leaves shrunk (kept ∙ known.shrunk_is));
       }
 
-  -- a file lost blocks past its size, or a tree has grown
-  went : (line : List ℕ) → CutsForLine capacity line a.content b.content ⊎ GrowsForLine capacity line a.content b.content → shrunk_of w ≡ shrunk_of v → Tidied capacity (asked_in line) (λ was is file. Knows w capacity was is file b) committed now shrunk b
+  -- a file lost blocks past its size, a tree has grown, or blocks were filled
+  went : (line : List ℕ) → CutsForLine capacity line a.content b.content ⊎ (GrowsForLine capacity line a.content b.content ⊎ FillsForLine capacity line a.content b.content) → shrunk_of w ≡ shrunk_of v → Tidied capacity (asked_in line) (λ was is file. Knows w capacity was is file b) committed now shrunk b
   went line was kept =
       let f = follow v w capacity committed now shrunk a b known below reads heads leaves in
       record {
         next = f.next;
-        tidied = inr (⊎_elim (λ cuts. inl (cuts_alike capacity line now f.next a.content b.content known.alike f.alike cuts)) (λ grows. inr (inl (grows_alike capacity shrunk line now f.next a.content b.content known.alike f.alike grows))) was);
+        tidied = inr (⊎_elim (λ cuts. inl (cuts_alike capacity line now f.next a.content b.content known.alike f.alike cuts)) (λ more. inr (⊎_elim (λ grows. inl (grows_alike capacity shrunk line now f.next a.content b.content known.alike f.alike grows))
+            (λ fills. inr (inl (line_filled capacity line now f.next a b reads (reads_then v w capacity committed now shrunk a b known below reads heads leaves) known.alike f.alike fills))) more)) was);
         place = place_then v w capacity committed now shrunk a b known below reads heads leaves;
         reads = reads_then v w capacity committed now shrunk a b known below reads heads leaves;
         heads = heads_then v w capacity committed now shrunk a b known below reads heads leaves;

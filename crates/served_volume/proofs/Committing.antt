@@ -28,10 +28,11 @@ use Rattle.served_volume.proofs.Elsewhere.{DiffersInJournal, as_sound, settled_e
 use Rattle.served_volume.proofs.Heading.{journal_alike}
 use Rattle.served_volume.proofs.Holding.{holds_used}
 use Rattle.served_volume.proofs.Service.{service_on}
+use Rattle.volume_step.proofs.Unfilled.{filled_none}
 
 module _ (v w : Volume) (settles : Settles v w) where
-  -- but for its marks of blocks and what an undo brings back it is as it was
-  is_same : record v { map = w.map; kept = w.kept } ≡ w
+  -- but for its marks of blocks, what an undo brings back and a growth in hand it is as it was
+  is_same : record v { map = w.map; kept = w.kept; filling = w.filling } ≡ w
   is_same = λ i. record {
     header = sym settles.same.header i;
     map = w.map;
@@ -42,9 +43,10 @@ module _ (v w : Volume) (settles : Settles v w) where
     shrunk = sym settles.same.shrunk i;
     capacity = sym settles.same.capacity i;
     kept = w.kept;
+    filling = w.filling;
   }
 
-  service_then : (space : Space) → IsInService v space → IsInService (record v { map = w.map; kept = w.kept }) space
+  service_then : (space : Space) → IsInService v space → IsInService (record v { map = w.map; kept = w.kept; filling = w.filling }) space
   service_then space was = record {
     extents = was.extents;
     catalog = was.catalog;
@@ -66,10 +68,10 @@ module _ (v w : Volume) (settles : Settles v w) where
     was = known.stands.stands tells
 
     stands_then : IsStanding w b
-    stands_then = subst (λ (u : Volume). IsStanding u b) is_same (stands_elsewhere law v a b was known.settled known.alike.sound_other differs w.map w.kept settles.same.used settles.same.fork settles.same.per_block)
+    stands_then = subst (λ (u : Volume). IsStanding u b) is_same (stands_elsewhere law v a b was known.settled known.alike.sound_other differs w.map w.kept w.filling settles.same.used settles.same.fork settles.same.per_block)
 
     settled_then : IsSettled w b.content
-    settled_then = subst (λ (u : Volume). IsSettled u b.content) is_same (settled_elsewhere law v a b was known.settled known.alike.sound_other differs w.map w.kept settles.same.used settles.same.fork settles.same.per_block)
+    settled_then = subst (λ (u : Volume). IsSettled u b.content) is_same (settled_elsewhere law v a b was known.settled known.alike.sound_other differs w.map w.kept w.filling settles.same.used settles.same.fork settles.same.per_block)
 
     pub committed_knows : Knows w capacity now now shrunk b
     committed_knows =
@@ -77,6 +79,7 @@ module _ (v w : Volume) (settles : Settles v w) where
         record {
           stands = record { service = service_settled b (service_on v a b sectors known.stands.service); stands = λ _. stands_then };
           settled = settled_then;
+          filled = filled_none w b settles.filling;
           holds = (
             ap (λ (l : List Bool). length l) settles.held ∙ length-replicate (length v.map.used) false ∙ sym (ap (λ (l : List Bool). length l) settles.same.used),
             λ block set. holds_used v a.content now known.alike.lists known.settled w.map.used w.map.held settles.same.used block set,

@@ -26,6 +26,7 @@ use Rattle.hfs_volume.specs.Sound.{IsSound, IsSoundVolume}
 use Rattle.hfs_volume.specs.TreeOf.{tree_of}
 use Rattle.volume_base.specs.Lists.{lists_of}
 use Rattle.volume_base.specs.Standing.{HoldsTrees, HasItsForks, IsStanding, IsSettled, attribute_sectors, file_sectors, map_sectors, own_sectors, with_attributes_tree}
+use Rattle.volume_base.specs.declared.volume.Filling.{Filling}
 use Rattle.volume_base.specs.declared.volume.Kept.{Kept}
 use Rattle.volume_base.specs.declared.volume.Volume.{Volume}
 use Rattle.volume_base.proofs.ListsAfter.{file_pairs}
@@ -106,11 +107,11 @@ module _ (law : AsideIsFree) (v : Volume) (old new : Space) (was : IsStanding v 
     attribute_pairs = attributes_same i;
   }
 
-  -- ---- with other marks of blocks that are held
+  -- ---- with other marks of blocks that are held, and another growth in hand
 
-  module _ (map_now : Bitmap) (kept_now : Kept) (used : map_now.used ≡ v.map.used) (fork : map_now.fork ≡ v.map.fork) (per_block : map_now.per_block ≡ v.map.per_block) where
+  module _ (map_now : Bitmap) (kept_now : Kept) (filling_now : Option Filling) (used : map_now.used ≡ v.map.used) (fork : map_now.fork ≡ v.map.fork) (per_block : map_now.per_block ≡ v.map.per_block) where
     abbrev w : Volume
-    w = record v { map = map_now; kept = kept_now }
+    w = record v { map = map_now; kept = kept_now; filling = filling_now }
 
     map_at : fork_sectors map_now.fork map_now.per_block ≡ fork_sectors v.map.fork v.map.per_block
     map_at = λ i. fork_sectors (fork i) (per_block i)

@@ -50,8 +50,8 @@ shortened capacity number line asked before after sound spelled false (outcome.A
 shortened capacity number line asked before after sound spelled true outcome.CommitFirst was =
     subst (λ (c : Content). IsServedAs capacity number [] (record { line = line; reply = reply.No refusal.OutOfMemory; before = before; after = c })) (sym was) (refused_entry capacity number line before sound refusal.OutOfMemory (inr refl))
 shortened capacity number line asked before after sound spelled false outcome.CommitFirst was = was
-shortened capacity number line asked before after sound spelled true outcome.Again was = ⊎_elim (λ cuts. inl (record { asked = asked; spelled = spelled; first = cuts })) (λ grows. inr (record { asked = asked; spelled = spelled; first = grows })) was
-shortened capacity number line asked before after sound spelled false outcome.Again was = ⊎_elim (λ cuts. inl (record { asked = asked; spelled = spelled; first = cuts })) (λ grows. inr (record { asked = asked; spelled = spelled; first = grows })) was
+shortened capacity number line asked before after sound spelled true outcome.Again was = ⊎_elim (λ cuts. inl (record { asked = asked; spelled = spelled; first = cuts })) (⊎_elim (λ grows. inr (inl (record { asked = asked; spelled = spelled; first = grows }))) (λ fills. inr (inr (record { asked = asked; spelled = spelled; first = fills })))) was
+shortened capacity number line asked before after sound spelled false outcome.Again was = ⊎_elim (λ cuts. inl (record { asked = asked; spelled = spelled; first = cuts })) (⊎_elim (λ grows. inr (inl (record { asked = asked; spelled = spelled; first = grows }))) (λ fills. inr (inr (record { asked = asked; spelled = spelled; first = fills })))) was
 
 -- where it wants no commit
 pub decided : (capacity number : ℕ) (line : List ℕ) (asked : Command) (before after : Content) → command_of line ≡ Ok asked → (fresh : Bool) (o : Outcome) → StepsTo o capacity number asked before after → o ≢ outcome.CommitFirst → IsDecidedAs (unless_short fresh o) capacity line before after

@@ -1,11 +1,13 @@
 -- A volume over a space in which nothing was changed that it knows.
-use Rattle.std.proofs.Common.{◌≡◌, ◌⊎◌, ◌≤◌, ◌<◌, ◌-◌, ℕ, length, sym, ◌∙◌, subst}
+use Rattle.std.proofs.Common.{◌≡◌, ◌⊎◌, ◌≤◌, ◌<◌, ◌-◌, ◌*◌, ◌/◌, ℕ, length, sym, ◌∙◌, subst}
 use Rattle.std.specs.Prelude.{IsTrue, Option}
 use Rattle.jnl_format.specs.Recovery.{info_sector_of}
 use Rattle.sector_disk.specs.Lists.{Content}
 use Rattle.sector_disk.specs.Space.{Space}
 use Rattle.volume_base.specs.Standing.{AreWhole, HoldsTrees, HasItsForks, IsStanding, IsSettled, StandsOver, blocks_end}
+use Rattle.file_io.specs.Bytes.{HoldZeros, sectors_in}
 use Rattle.volume_base.specs.declared.volume.Volume.{Volume}
+use Rattle.volume_space.specs.Zeroing.{HasFilled}
 use Rattle.served_volume.specs.Knowing.{IsAlike, Knows}
 use Rattle.served_volume.proofs.Service.{service_on}
 
@@ -33,6 +35,16 @@ module _ (v : Volume) (a b : Space) (same : IsSame a b) where
     live = λ s l. was.live s (same.live s l);
   }
 
+  filled_same : HasFilled v a → HasFilled v b
+  filled_same was it is =
+      let old = was it is in
+      record {
+        blocks = old.blocks;
+        enough = old.enough;
+        place = old.place;
+        zeros = λ tells. subst (λ (c : Content). HoldZeros c (sectors_in v.header.block_size it.blocks) (it.place * (v.header.block_size / 512)) (it.done * (v.header.block_size / 512))) (sym same.content) (old.zeros (sym same.tells ∙ tells));
+      }
+
   pub stands_same : StandsOver v a → StandsOver v b
   stands_same was = record { service = service_on v a b same.sectors was.service; stands = λ tells. standing_same (was.stands (sym same.tells ∙ tells)) }
 
@@ -40,6 +52,7 @@ module _ (v : Volume) (a b : Space) (same : IsSame a b) where
   knows_same capacity committed now shrunk was = record {
     stands = stands_same was.stands;
     settled = subst (λ (c : Content). IsSettled v c) (sym same.content) was.settled;
+    filled = filled_same was.filled;
     holds = was.holds;
     laid_out = was.laid_out;
     was_sound = was.was_sound;

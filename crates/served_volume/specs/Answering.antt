@@ -15,7 +15,7 @@ use Rattle.hfs_serving.specs.Said.{joined}
 use Rattle.hfs_serving.specs.declared.volume.Step.{Step}
 use Rattle.hfs_serving.specs.declared.volume.Step.TheVariants as step
 use Rattle.hfs_serving.specs.declared.volume.ToTell.{ToTell}
-use Rattle.volume_step.specs.Steps.{CutsFirst, GrowsFirst, IsServedAs}
+use Rattle.volume_step.specs.Steps.{CutsFirst, FillsFirst, GrowsFirst, IsServedAs}
 use Rattle.volume_step.specs.declared.outcome.Outcome.{Outcome}
 use Rattle.volume_step.specs.declared.outcome.Outcome.TheVariants as outcome
 
@@ -31,11 +31,17 @@ pub record GrowsForLine (capacity : ℕ) (line : List ℕ) (before after : Conte
   pub spelled : command_of line ≡ Ok asked
   pub first : GrowsFirst capacity asked before after
 
--- the line's entry is one of a run, and this is what it tells watchers; or nothing was changed; or a file lost blocks past its size, or a tree has grown, ahead of its command
+-- Blocks that the line's command will take were filled.
+pub record FillsForLine (capacity : ℕ) (line : List ℕ) (before after : Content) : Type 0 where
+  pub asked : Command
+  pub spelled : command_of line ≡ Ok asked
+  pub first : FillsFirst capacity asked before after
+
+-- the line's entry is one of a run, and this is what it tells watchers; or nothing was changed; or a file lost blocks past its size, a tree has grown, or blocks were filled, ahead of its command
 abbrev pub AnswersAs : Outcome → ℕ → ℕ → List ℕ → Content → Content → Type 0
 AnswersAs (outcome.Answered said changes) capacity number line before after = IsServedAs capacity number changes (record { line = line; reply = said; before = before; after = after })
 AnswersAs outcome.CommitFirst capacity number line before after = after ≡ before
-AnswersAs outcome.Again capacity number line before after = CutsForLine capacity line before after ⊎ GrowsForLine capacity line before after
+AnswersAs outcome.Again capacity number line before after = CutsForLine capacity line before after ⊎ (GrowsForLine capacity line before after ⊎ FillsForLine capacity line before after)
 
 -- A line is answered as its command's step, or a resource is missing for it: a commit isn't wanted, and memory isn't missing. Or it is tried again.
 abbrev pub IsDecidedAs : Outcome → ℕ → List ℕ → Content → Content → Type 0

@@ -15,6 +15,7 @@ ghost use Rattle.volume_base.specs.Room.{capacity_of};
 ghost use Rattle.volume_base.specs.Service.{IsInService};
 ghost use Rattle.volume_space.specs.Spilling.{IsLaidOutAs};
 ghost use Rattle.volume_space.specs.Standing.{HoldsOn};
+ghost use Rattle.volume_space.specs.Zeroing.{HasFilled};
 ghost use Rattle.volume_base.specs.Standing.{IsSettled, StandsOver};
 ghost use Rattle.volume_base.specs.Touching.{Touches};
 ghost use Rattle.volume_step.specs.Anew.{FitsAnew, IsAnew};
@@ -114,6 +115,7 @@ pub(crate) fn answer_line<P: Ground>(
 ) -> Result<Outcome, Trouble>
     requires stands { StandsOver volume.old (P.SectorView.space space.old) }
     requires settled { IsTrue (P.SectorView.space space.old).tells → IsSettled volume.old (P.SectorView.space space.old).content }
+    requires filled { HasFilled volume.old (P.SectorView.space space.old) }
     requires sound { IsTrue (P.SectorView.space space.old).tells → IsSound (P.SectorView.space space.old).content }
     requires closed { IsTrue (P.SectorView.space space.old).tells → (at : ℕ) → (P.SectorView.space space.old).closed at → IsJournalSector (P.SectorView.space space.old).content at }
     // Told, the line's entry is one of a run, with what it changed for watchers; or a commit is wanted first.
@@ -121,6 +123,7 @@ pub(crate) fn answer_line<P: Ground>(
     ensures place { IsTrue (P.SectorView.space space.old).tells → OnOk result (KeepsJournal (P.SectorView.space space.old).content (P.SectorView.space space.new).content) }
     ensures stands { OnOk result (StandsOver volume.new (P.SectorView.space space.new)) }
     ensures settled { IsTrue (P.SectorView.space space.old).tells → OnOk result (IsSettled volume.new (P.SectorView.space space.new).content) }
+    ensures filled { HasFilled volume.new (P.SectorView.space space.new) }
     ensures service { IsInService volume.new (P.SectorView.space space.new) }
     ensures holds { (committed : Content) → HoldsOn committed volume.old → OnOk result (HoldsOn committed volume.new) }
     ensures capacity { capacity_of volume.new ≡ capacity_of volume.old }
@@ -137,7 +140,7 @@ pub(crate) fn answer_line<P: Ground>(
     }
 }
 
-// Does the command that a line spells.
+// Does the command that a line spells. Behind a fault no growth is in hand.
 fn do_command<P: Ground>(
     alloc: Global,
     volume: &mut Volume,
@@ -148,6 +151,7 @@ fn do_command<P: Ground>(
 ) -> Result<Outcome, Trouble>
     requires stands { StandsOver volume.old (P.SectorView.space space.old) }
     requires settled { IsTrue (P.SectorView.space space.old).tells → IsSettled volume.old (P.SectorView.space space.old).content }
+    requires filled { HasFilled volume.old (P.SectorView.space space.old) }
     requires sound { IsTrue (P.SectorView.space space.old).tells → IsSound (P.SectorView.space space.old).content }
     requires closed { IsTrue (P.SectorView.space space.old).tells → (at : ℕ) → (P.SectorView.space space.old).closed at → IsJournalSector (P.SectorView.space space.old).content at }
     requires spelled { command_of line.now ≡ Ok command.now }
@@ -163,6 +167,7 @@ fn do_command<P: Ground>(
     ensures place { IsTrue (P.SectorView.space space.old).tells → OnOk result (KeepsJournal (P.SectorView.space space.old).content (P.SectorView.space space.new).content) }
     ensures stands { OnOk result (StandsOver volume.new (P.SectorView.space space.new)) }
     ensures settled { IsTrue (P.SectorView.space space.old).tells → OnOk result (IsSettled volume.new (P.SectorView.space space.new).content) }
+    ensures filled { HasFilled volume.new (P.SectorView.space space.new) }
     ensures service { IsInService volume.new (P.SectorView.space space.new) }
     ensures holds { (committed : Content) → HoldsOn committed volume.old → OnOk result (HoldsOn committed volume.new) }
     ensures capacity { capacity_of volume.new ≡ capacity_of volume.old }
@@ -173,6 +178,12 @@ fn do_command<P: Ground>(
     ensures cause { HasTroubleCause (P.SectorView.space space.old).faults (P.SectorView.space space.new).faults result }
 {
     let fresh = is_fresh(space);
-    let outcome = step(alloc, volume, space, number, command)?;
-    Ok(unless_short(alloc, fresh, outcome))
+    match step(alloc, volume, space, number, command) {
+        Ok(outcome) => Ok(unless_short(alloc, fresh, outcome)),
+        Err(trouble) => {
+            // A growth ends where a step of it is undone.
+            volume.filling = None;
+            Err(trouble)
+        }
+    }
 }

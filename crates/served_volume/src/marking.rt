@@ -33,6 +33,7 @@ impl ServedVolume {
             return Err(Trouble::Memory);
         }
         mark(&mut self.volume, base, in_use);
+        self.volume.filling = None;
         base.look();
         Ok(())
     }

@@ -2,7 +2,7 @@
 ghost use Rattle.served_volume.specs.Knowing.{Knows};
 
 use crate::answering::answer_line;
-use crate::renewing::with_shrunk;
+use crate::renewing::{put_in_place, with_shrunk};
 use crate::served::ServedVolume;
 use crate::tidied::next_of;
 use crate::told::{say_short, tell};
@@ -38,6 +38,7 @@ impl Volume for ServedVolume {
         }
         let fresh = base.pending() == 0;
         let came = tidy(self.alloc, &mut self.volume, base);
+        self.volume.filling = None;
         base.look();
         match came {
             Ok(came) => next_of(fresh, came),
@@ -79,7 +80,7 @@ impl Volume for ServedVolume {
         let sectors = base.sectors();
         match found {
             Ok(volume) => {
-                self.volume = with_shrunk(volume, recalled.shrunk);
+                put_in_place(&mut self.volume, with_shrunk(volume, recalled.shrunk));
                 self.sectors = sectors;
                 Ok(())
             }

@@ -1,5 +1,5 @@
 -- That what the load of a command counts for its edits suffices: the depth, the free nodes and the writes of each tree.
-use Rattle.std.specs.Prelude.{◌≡◌, ◌⊎◌, ◌≢◌, ◌<◌, ◌≤◌, ℕ, zero, suc, ◌+◌, ◌-◌, ◌*◌, ◌^◌, Bool, false, IsTrue, List, slice_index}
+use Rattle.std.specs.Prelude.{◌≡◌, ◌⊎◌, ◌≢◌, ◌<◌, ◌≤◌, ℕ, zero, suc, ◌+◌, ◌-◌, ◌*◌, ◌^◌, ◌||◌, Bool, false, IsTrue, List, slice_index}
 use Rattle.btree_node.specs.Store.{Store, IsWellFormed, SameStore}
 use Rattle.btree_edit.specs.Edits.{GoesNoDeeper, EditRoom, TakesAtMost}
 use Rattle.hfs_language.specs.declared.command.Command.{Command}
@@ -7,7 +7,7 @@ use Rattle.hfs_model.specs.declared.plain.PlainTree.{PlainTree}
 use Rattle.hfs_model.specs.Step.{only_reads}
 use Rattle.hfs_volume.specs.Content.{VolumeState}
 use Rattle.hfs_volume.specs.Cost.{depth_of, rises, need, growth, new_maps, growth_writes, tree_load, node_sectors, is_too_deep, extents_key, catalog_key, attributes_key, tree_at, plan_of, growth_blocks, load_of, cost_of}
-use Rattle.hfs_volume.specs.Weight.{edits_of, data_of, needs_for, needs_cut, room_with, weight_with}
+use Rattle.hfs_volume.specs.Weight.{changes_nothing, edits_of, data_of, needs_for, needs_cut, room_with, weight_with}
 use Rattle.hfs_volume.specs.declared.cost.Cost.TheVariants as cost
 use Rattle.hfs_volume.specs.declared.cost.Needs.{Needs}
 use Rattle.hfs_volume.specs.declared.cost.Room.{Room}
@@ -83,7 +83,7 @@ LoadSaysEnough = (needs : Needs) (room : Room) (load : ℕ) (grow : List ℕ) �
 -- So does the weight of a command that changes something and needs no cut step before: what it needs are its edits and its data.
 abbrev pub WeightSaysEnough : Type 0
 WeightSaysEnough =
-    (capacity : ℕ) (free : List Bool) (volume : VolumeState) (tree : PlainTree) (asked : Command) (load : ℕ) (grow : List ℕ) → only_reads asked ≡ false → needs_cut volume (data_of tree asked) ≡ false
+    (capacity : ℕ) (free : List Bool) (volume : VolumeState) (tree : PlainTree) (asked : Command) (load : ℕ) (grow : List ℕ) → (only_reads asked || changes_nothing tree asked) ≡ false → needs_cut volume (data_of tree asked) ≡ false
     → weight_with capacity free volume tree asked ≡ cost.Load load grow → IsAfforded (needs_for free volume (edits_of tree asked) (data_of tree asked)) (room_with capacity free volume) load grow
 
 -- the longest keys of the trees of extents, catalog and attributes, in this order

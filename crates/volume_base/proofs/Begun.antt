@@ -259,6 +259,7 @@ served header map extents catalog attributes private capacity = record {
   private = private;
   shrunk = None;
   capacity = capacity;
+  filling = None;
   kept = record { header = header; private = private; shrunk = None };
 }
 
@@ -317,5 +318,6 @@ fresh_then header map extents catalog attributes private capacity per_block rest
     shrunk = refl;
   };
   shrunk = refl;
+  filling = refl;
   capacity_is = refl;
 }

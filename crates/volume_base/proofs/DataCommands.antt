@@ -15,7 +15,7 @@ use Rattle.hfs_volume.specs.Cost.{cost_of}
 use Rattle.hfs_volume.specs.Weight.{Data, cut_cost, data_of, edits, free_blocks, grown_data, needs_cut, needs_for, room_with, weight, weight_with, written_data}
 use Rattle.hfs_volume.proofs.Reaching.{then_ok, unless_ok}
 use Rattle.volume_base.specs.DataWeighing.{data_as, data_weighed, needs_data}
-use Rattle.volume_base.specs.Refusing.{against_growth, against_trunc, against_write}
+use Rattle.volume_base.specs.Refusing.{against_trunc, against_write}
 use Rattle.volume_base.specs.Weighing.{joined, refused_or, weighed}
 use Rattle.volume_base.specs.declared.data_cost.Put.{Put}
 use Rattle.volume_base.proofs.ToNode.{node_there}
@@ -103,7 +103,7 @@ module _ (tree : PlainTree) (path : List (List ℕ)) (told : Facts) (node : Plai
 pub trunc_low : (size : ℕ) (told : Facts) → None ≡ against_trunc size told → size ≤ 2 ^ 40
 trunc_low size told none = by told.folder (nat_lt most_size size) refl none
   where
-    by : (a b : Bool) → nat_lt most_size size ≡ b → None ≡ (if a then Some refusal.IsFolder else if b then Some refusal.TooLarge else against_growth told.size size) → size ≤ 2 ^ 40
+    by : (a b : Bool) → nat_lt most_size size ≡ b → None ≡ (if a then Some refusal.IsFolder else if b then Some refusal.TooLarge else None) → size ≤ 2 ^ 40
     by true b is same = absurd (cc same)
     by false true is same = absurd (cc same)
     by false false is same = omega (arith, ltb-false most_size size is)
@@ -111,7 +111,7 @@ trunc_low size told none = by told.folder (nat_lt most_size size) refl none
 pub write_low : (from long : ℕ) (told : Facts) → None ≡ against_write from long told → from + long ≤ 2 ^ 40
 write_low from long told none = by told.folder (nat_lt most_size (from + long)) refl none
   where
-    by : (a b : Bool) → nat_lt most_size (from + long) ≡ b → None ≡ (if a then Some refusal.IsFolder else if b || nat_lt most_bytes long then Some refusal.TooLarge else against_growth told.size (size_written told.size from long)) → from + long ≤ 2 ^ 40
+    by : (a b : Bool) → nat_lt most_size (from + long) ≡ b → None ≡ (if a then Some refusal.IsFolder else if b || nat_lt most_bytes long then Some refusal.TooLarge else None) → from + long ≤ 2 ^ 40
     by true b is same = absurd (cc same)
     by false true is same = absurd (cc same)
     by false false is same = omega (arith, ltb-false most_size (from + long) is)

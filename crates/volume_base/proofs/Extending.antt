@@ -70,6 +70,7 @@ extents_read v file desk before after keeps looks fits = record {
     shrunk = refl;
     capacity = refl;
     kept = refl;
+    filling = refl;
   };
   looks = looks_wider (λ s. Contains (sectors_of_tree v.extents.file) s) (λ s. Contains (own_sectors v) s) before after (λ told s here. extents_own v s here) looks;
 }

@@ -62,6 +62,8 @@ pub mod Resettling
 pub mod Rising
 pub mod RoomKept
 pub mod RoomToRemove
+pub mod Freeing
+pub mod MovedOver
 pub mod Routed
 pub mod Seeing
 pub mod Settling

@@ -1,14 +1,16 @@
 -- The load of a command that needs no block: the header's sector, and its nodes of the catalog, which bound what it puts.
 use Rattle.std.proofs.Common.{◌≡◌, ◌≤◌, ℕ, ◌+◌, ◌*◌, ◌/◌, Bool, true, false, List, [], ◌∷◌, refl, sym, ◌∙◌, ap, subst, arith}
-use Rattle.std.specs.Prelude.{Option, None, Some, slice_index}
+use Rattle.std.specs.Prelude.{Option, None, Some, Ok, if◌then◌else◌, slice_index}
 use Rattle.sector_disk.specs.Lists.{Content}
 use Rattle.hfs_language.specs.declared.command.Command.TheVariants as command
 use Rattle.hfs_language.specs.declared.refusal.Refusal.{Refusal}
+use Rattle.hfs_model.specs.Step.{Place, is_same_file, to_mv}
+use Rattle.hfs_model.specs.declared.plain.PlainEntry.{PlainEntry}
 use Rattle.hfs_model.specs.declared.plain.PlainTree.{PlainTree}
 use Rattle.hfs_volume.specs.Content.{TreeFacts, VolumeState, volume_of}
 use Rattle.hfs_volume.specs.Cost.{catalog_key, cost_of, cost_or, growth, growth_for, load_of, plan_of, resource_refusal, tree_load}
 use Rattle.hfs_volume.specs.Forks.{catalog_id}
-use Rattle.hfs_volume.specs.Weight.{Edits, cost_of_tree, edits, extents_in_use, free_blocks, needs_for, room_with, weight, weight_with}
+use Rattle.hfs_volume.specs.Weight.{Edits, cost_of_tree, edits, extents_in_use, free_blocks, moves_onto_itself, mv_edits, needs_for, place_edits, room_with, weight, weight_with}
 use Rattle.hfs_volume.specs.declared.cost.Cost.{Cost}
 use Rattle.hfs_volume.specs.declared.cost.Cost.TheVariants as cost
 use Rattle.hfs_volume.specs.declared.cost.Needs.{Needs}
@@ -96,16 +98,23 @@ make_load_told v content settled none capacity folder path tree n grow is = omeg
 
 -- ---- `mv`
 
-moving_counts : (capacity : ℕ) (volume : VolumeState) (from to : List (List ℕ)) (tree : PlainTree) (n : ℕ) (grow : List ℕ) → weight capacity volume tree (command.Mv from to) ≡ cost.Load n grow
+-- to a free place it weighs what three edits and three updates do
+pub free_move_weight : (capacity : ℕ) (free : List Bool) (volume : VolumeState) (tree : PlainTree) (from to : List (List ℕ)) (pair : PlainEntry × Place) → to_mv tree from to ≡ Ok pair → pair.1.found ≡ None
+    → weight_with capacity free volume tree (command.Mv from to) ≡ cost_of (needs_for free volume (edits 0 3 0 3) None) (room_with capacity free volume)
+unfolding weight_with
+free_move_weight capacity free volume tree from to pair is none =
+    (λ i. if moves_onto_itself (is i) then cost.Load 0 (0 ∷ 0 ∷ 0 ∷ []) else cost_of (needs_for free volume (mv_edits tree (is i)) None) (room_with capacity free volume))
+    ∙ (λ i. if is_same_file pair.0 (none i) then cost.Load 0 (0 ∷ 0 ∷ 0 ∷ []) else cost_of (needs_for free volume (place_edits tree (none i)) None) (room_with capacity free volume))
+
+moving_counts : (capacity : ℕ) (volume : VolumeState) (from to : List (List ℕ)) (tree : PlainTree) (pair : PlainEntry × Place) → to_mv tree from to ≡ Ok pair → pair.1.found ≡ None → (n : ℕ) (grow : List ℕ) → weight capacity volume tree (command.Mv from to) ≡ cost.Load n grow
     → 1 + 3 * (volume.catalog_tree.shape.node_size / 512)
     + tree_load catalog_key (cost_of_tree volume.catalog_tree (extents_in_use volume catalog_id volume.head.catalog_fork)) 3
     (growth volume.head.block_size catalog_key (cost_of_tree volume.catalog_tree (extents_in_use volume catalog_id volume.head.catalog_fork)) 3) ≤ n
-unfolding weight_with
-moving_counts capacity volume from to tree n grow is = counts_edits (free_blocks volume) capacity volume (edits 0 3 0 3) n grow is
+moving_counts capacity volume from to tree pair allowed none n grow is = counts_edits (free_blocks volume) capacity volume (edits 0 3 0 3) n grow (sym (free_move_weight capacity (free_blocks volume) volume tree from to pair allowed none) ∙ is)
 
-pub move_load_told : (v : Volume) (content : Content) → IsSettled v content → growth v.header.block_size catalog_key (catalog_cost v) 3 ≡ 0 → (capacity : ℕ) (from to : List (List ℕ)) (tree : PlainTree) (n : ℕ) (grow : List ℕ)
+pub move_load_told : (v : Volume) (content : Content) → IsSettled v content → growth v.header.block_size catalog_key (catalog_cost v) 3 ≡ 0 → (capacity : ℕ) (from to : List (List ℕ)) (tree : PlainTree) (pair : PlainEntry × Place) → to_mv tree from to ≡ Ok pair → pair.1.found ≡ None → (n : ℕ) (grow : List ℕ)
     → weight capacity (volume_of content) tree (command.Mv from to) ≡ cost.Load n grow → move_load v ≤ n
-move_load_told v content settled none capacity from to tree n grow is = omega (arith, moving_counts capacity (volume_of content) from to tree n grow is, ap (λ (l : VolumeState). l.catalog_tree.shape.node_size / 512) settled.lists, load)
+move_load_told v content settled none capacity from to tree pair allowed free n grow is = omega (arith, moving_counts capacity (volume_of content) from to tree pair allowed free n grow is, ap (λ (l : VolumeState). l.catalog_tree.shape.node_size / 512) settled.lists, load)
   where
     extents : ℕ
     extents = extents_in_use (volume_of content) catalog_id (volume_of content).head.catalog_fork

@@ -38,6 +38,7 @@ volume_none v a = record {
     shrunk = refl;
     capacity = refl;
     kept = refl;
+    filling = refl;
   };
   looks = looks_none (λ s. Contains (own_sectors v) s) a;
 }

@@ -1,12 +1,12 @@
 -- What watchers are told of `mkdir`, `create` and `mv`.
 use Rattle.std.proofs.Common.{◌≡◌, ℕ, Bool, true, false, List, refl, sym, ◌∙◌, ap}
-use Rattle.std.specs.Prelude.{◌||◌, is_some, Result, Ok, Err, if◌then◌else◌}
+use Rattle.std.specs.Prelude.{◌||◌, Result, Ok, Err, if◌then◌else◌}
 use Rattle.std.proofs.lemmas.Bool.{true≢false}
 use Rattle.sector_disk.specs.Lists.{Content}
 use Rattle.hfs_language.specs.Written.{FitsPath}
 use Rattle.hfs_language.specs.declared.refusal.Refusal.{Refusal}
 use Rattle.hfs_language.specs.declared.refusal.Refusal.TheVariants as refusal
-use Rattle.hfs_model.specs.Step.{Place, is_below, is_private_path, is_root, place, reached, then_, to_mv, unless}
+use Rattle.hfs_model.specs.Step.{Place, is_below, is_private_path, is_root, place, reached, stands_in_way, then_, to_mv, unless}
 use Rattle.hfs_model.specs.declared.plain.PlainEntry.{PlainEntry}
 use Rattle.hfs_model.specs.declared.plain.PlainTree.{PlainTree}
 use Rattle.hfs_volume.specs.Books.{SoundHasPlainTree}
@@ -35,7 +35,7 @@ not_told r why x err ok = let never : Err why ≡ Ok x = sym err ∙ ok in cc ne
 pub moved_some : (tree : PlainTree) (from to : List (List ℕ)) (pair : PlainEntry × Place) → (is_root from || is_root to) ≡ true → to_mv tree from to ≡ Ok pair → ⊥
 moved_some tree from to pair root is =
     not_told (to_mv tree from to) refusal.Root pair
-    (ap (λ b. then_ (then_ (if b then Err refusal.Root else Ok from) (λ named. then_ (reached tree named) (λ at. then_ (place tree to) (λ goal. Ok (at, goal))))) (λ (p : PlainEntry × Place). then_ (unless (is_some p.1.found) refusal.Exists p) (unless (is_below to from) refusal.Inside))) root) is
+    (ap (λ b. then_ (then_ (if b then Err refusal.Root else Ok from) (λ named. then_ (reached tree named) (λ at. then_ (place tree to) (λ goal. Ok (at, goal))))) (λ (p : PlainEntry × Place). then_ (unless (stands_in_way p.0 p.1.found) refusal.Exists p) (unless (is_below to from) refusal.Inside))) root) is
 
 pub either_root : (x y : Bool) → x ≡ true → (x || y) ≡ true
 either_root true y is = refl

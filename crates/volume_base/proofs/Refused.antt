@@ -11,7 +11,7 @@ use Rattle.hfs_language.specs.declared.reply.Facts.{Facts}
 use Rattle.hfs_language.specs.declared.reply.Reply.{Reply}
 use Rattle.hfs_language.specs.declared.reply.Reply.TheVariants as reply
 use Rattle.hfs_model.specs.Plain.{IsPlainTree, entries_in, entry_at, is_at, is_node, names_of, node_at}
-use Rattle.hfs_model.specs.Step.{Place, Step, child, facts_of, front, is_private_path, is_refusal, is_root, last_name, linked, most_bytes, most_growth, most_links, most_size, new_place, on, place, place_in, reached, refuses, resized, root_entry, size_written, step, step_line, then_, to_make, to_node, to_size, unless, walk, written}
+use Rattle.hfs_model.specs.Step.{Place, Step, child, facts_of, front, is_private_path, is_refusal, is_root, last_name, linked, most_bytes, most_links, most_size, new_place, on, place, place_in, reached, refuses, resized, root_entry, size_written, step, step_line, then_, to_make, to_node, unless, walk, written}
 use Rattle.hfs_model.specs.declared.plain.PlainEntry.{PlainEntry}
 use Rattle.hfs_model.specs.declared.plain.PlainNode.{PlainNode}
 use Rattle.hfs_model.specs.declared.plain.PlainTree.{PlainTree}
@@ -19,7 +19,7 @@ use Rattle.hfs_volume.specs.Content.{VolumeState}
 use Rattle.hfs_volume.specs.Weight.{weight, weight_with}
 use Rattle.hfs_volume.proofs.Flat.{found_some}
 use Rattle.volume_base.specs.Making.{free_place}
-use Rattle.volume_base.specs.Refusing.{against, against_growth, against_link, against_trunc, against_write, facts_or, is_exists, refusal_in}
+use Rattle.volume_base.specs.Refusing.{against, against_link, against_trunc, against_write, facts_or, is_exists, refusal_in}
 use Rattle.volume_base.specs.Weighing.{joined, refused_or, weighed}
 use Rattle.volume_base.specs.declared.weighing.Weight.TheVariants as answer
 use Rattle.volume_base.proofs.Routed.{root_of}
@@ -136,23 +136,18 @@ module _ (tree : PlainTree) (plain : IsPlainTree tree) where
         done : PlainNode → Step
         done file = (reply.Ok, written file from value tree)
 
-        of_growth : (node : PlainNode) (b : Bool) → (if b then Some refusal.GrowLimit else None) ≡ refusal_in (on tree (if b then Err refusal.GrowLimit else Ok node) done).0
-        of_growth node true = refl
-        of_growth node false = refl
-
-        of_size : (node : PlainNode) (b : Bool) → (if b then Some refusal.TooLarge else against_growth (length node.bytes) (size_written (length node.bytes) from (length value)))
-            ≡ refusal_in (on tree (then_ (if b then Err refusal.TooLarge else Ok node) (to_size (size_written (length node.bytes) from (length value)))) done).0
+        of_size : (node : PlainNode) (b : Bool) → (if b then Some refusal.TooLarge else None) ≡ refusal_in (on tree (if b then Err refusal.TooLarge else Ok node) done).0
         of_size node true = refl
-        of_size node false = of_growth node (nat_lt (length node.bytes + most_growth) (size_written (length node.bytes) from (length value)))
+        of_size node false = refl
 
         of_folder : (node : PlainNode) (entries : ℕ) (b : Bool)
-            → (if b then Some refusal.IsFolder else if is_large from value then Some refusal.TooLarge else against_growth (if b then entries else length node.bytes) (size_written (if b then entries else length node.bytes) from (length value)))
-            ≡ refusal_in (on tree (then_ (if b then Err refusal.IsFolder else Ok node) (λ file. then_ (unless (is_large from value) refusal.TooLarge file) (to_size (size_written (length file.bytes) from (length value))))) done).0
+            → (if b then Some refusal.IsFolder else if is_large from value then Some refusal.TooLarge else None)
+            ≡ refusal_in (on tree (then_ (if b then Err refusal.IsFolder else Ok node) (unless (is_large from value) refusal.TooLarge)) done).0
         of_folder node entries true = refl
         of_folder node entries false = of_size node (is_large from value)
 
         by_node : (r : Result PlainNode Refusal) → against (told_of r) (against_write from (length value))
-            ≡ refusal_in (on tree (then_ (then_ r (λ node. unless node.folder refusal.IsFolder node)) (λ file. then_ (unless (is_large from value) refusal.TooLarge file) (to_size (size_written (length file.bytes) from (length value))))) done).0
+            ≡ refusal_in (on tree (then_ (then_ r (λ node. unless node.folder refusal.IsFolder node)) (unless (is_large from value) refusal.TooLarge)) done).0
         by_node (Err why) = refl
         by_node (Ok node) = of_folder node (length (entries_in tree node.id)) node.folder
 
@@ -167,23 +162,18 @@ module _ (tree : PlainTree) (plain : IsPlainTree tree) where
         done : PlainNode → Step
         done file = (reply.Ok, resized file size tree)
 
-        of_growth : (node : PlainNode) (b : Bool) → (if b then Some refusal.GrowLimit else None) ≡ refusal_in (on tree (if b then Err refusal.GrowLimit else Ok node) done).0
-        of_growth node true = refl
-        of_growth node false = refl
-
-        of_size : (node : PlainNode) (b : Bool) → (if b then Some refusal.TooLarge else against_growth (length node.bytes) size)
-            ≡ refusal_in (on tree (then_ (if b then Err refusal.TooLarge else Ok node) (to_size size)) done).0
+        of_size : (node : PlainNode) (b : Bool) → (if b then Some refusal.TooLarge else None) ≡ refusal_in (on tree (if b then Err refusal.TooLarge else Ok node) done).0
         of_size node true = refl
-        of_size node false = of_growth node (nat_lt (length node.bytes + most_growth) size)
+        of_size node false = refl
 
         of_folder : (node : PlainNode) (entries : ℕ) (b : Bool)
-            → (if b then Some refusal.IsFolder else if nat_lt most_size size then Some refusal.TooLarge else against_growth (if b then entries else length node.bytes) size)
-            ≡ refusal_in (on tree (then_ (if b then Err refusal.IsFolder else Ok node) (λ file. then_ (unless (nat_lt most_size size) refusal.TooLarge file) (to_size size))) done).0
+            → (if b then Some refusal.IsFolder else if nat_lt most_size size then Some refusal.TooLarge else None)
+            ≡ refusal_in (on tree (then_ (if b then Err refusal.IsFolder else Ok node) (unless (nat_lt most_size size) refusal.TooLarge)) done).0
         of_folder node entries true = refl
         of_folder node entries false = of_size node (nat_lt most_size size)
 
         by_node : (r : Result PlainNode Refusal) → against (told_of r) (against_trunc size)
-            ≡ refusal_in (on tree (then_ (then_ r (λ node. unless node.folder refusal.IsFolder node)) (λ file. then_ (unless (nat_lt most_size size) refusal.TooLarge file) (to_size size))) done).0
+            ≡ refusal_in (on tree (then_ (then_ r (λ node. unless node.folder refusal.IsFolder node)) (unless (nat_lt most_size size) refusal.TooLarge)) done).0
         by_node (Err why) = refl
         by_node (Ok node) = of_folder node (length (entries_in tree node.id)) node.folder
 

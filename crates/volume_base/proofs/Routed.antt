@@ -14,7 +14,7 @@ use Rattle.hfs_language.specs.declared.refusal.Refusal.{Refusal}
 use Rattle.hfs_language.specs.declared.refusal.Refusal.TheVariants as refusal
 use Rattle.hfs_language.specs.declared.reply.Reply.TheVariants as reply
 use Rattle.hfs_model.specs.Plain.{IsPlainTree, entry_at, is_at, is_node, node_at}
-use Rattle.hfs_model.specs.Step.{Place, child, front, is_below, is_private_path, is_root, last_name, moved, new_place, on, place, reached, root_entry, step, step_line, then_, to_make, to_mv, to_node, unless, walk}
+use Rattle.hfs_model.specs.Step.{Place, child, front, is_below, is_private_path, is_root, last_name, moved_over, new_place, on, place, reached, root_entry, stands_in_way, step, step_line, then_, to_make, to_mv, to_node, unless, walk}
 use Rattle.hfs_model.specs.declared.plain.PlainEntry.{PlainEntry}
 use Rattle.hfs_model.specs.declared.plain.PlainNode.{PlainNode}
 use Rattle.hfs_model.specs.declared.plain.PlainTree.{PlainTree}
@@ -29,14 +29,16 @@ use Rattle.hfs_volume.specs.TreeOf.{tree_of, seen_entry}
 use Rattle.hfs_volume.proofs.Flat.{found_some}
 use Rattle.volume_base.specs.Lists.{lists_of}
 use Rattle.volume_base.specs.Making.{free_place, path_to, site_in, site_under}
-use Rattle.volume_base.specs.Moving.{IsMove, route_in}
+use Rattle.volume_base.specs.Moving.{IsMove, route_in, to_free}
 use Rattle.volume_base.specs.Owning.{id_reached, owner_in}
+use Rattle.volume_base.specs.Refusing.{is_exists}
 use Rattle.volume_base.specs.Reaching.{child_in, folder_in, folder_reached, walk_in}
 use Rattle.volume_base.specs.Standing.{HoldsTrees, IsSettled}
 use Rattle.volume_base.specs.declared.moving.Route.{Route}
 use Rattle.volume_base.specs.declared.reaching.Reached.{Reached}
 use Rattle.volume_base.specs.declared.reaching.Reached.TheVariants as where_reached
 use Rattle.volume_base.specs.declared.volume.Volume.{Volume}
+use Rattle.volume_base.proofs.Freeing.{free_mv, free_refused}
 use Rattle.volume_base.proofs.Listed.{entries_are}
 use Rattle.volume_base.proofs.Rising.{settled_is_plain, settled_sorted}
 use Rattle.volume_base.proofs.Sited.{fits_name, not_root, site_is, some_name}
@@ -46,18 +48,18 @@ use Rattle.volume_base.proofs.Walked.{Agree, IsReached, path_same}
 -- ---- the step of a move, by its parts
 
 module _ (tree : PlainTree) (from to : List (List ℕ)) (some : is_root from ≡ false) (goal_some : is_root to ≡ false) where
-  parted : to_mv tree from to ≡ then_ (then_ (reached tree from) (λ at. then_ (place tree to) (λ goal. Ok (at, goal)))) (λ pair. then_ (unless (is_some pair.1.found) refusal.Exists pair) (unless (is_below to from) refusal.Inside))
+  parted : to_free tree from to ≡ then_ (then_ (reached tree from) (λ at. then_ (place tree to) (λ goal. Ok (at, goal)))) (λ pair. then_ (unless (is_some pair.1.found) refusal.Exists pair) (unless (is_below to from) refusal.Inside))
   parted = λ i. then_ (then_ (if some i || goal_some i then Err refusal.Root else Ok from) (λ named. then_ (reached tree named) (λ at. then_ (place tree to) (λ goal. Ok (at, goal)))))
       (λ pair. then_ (unless (is_some pair.1.found) refusal.Exists pair) (unless (is_below to from) refusal.Inside))
 
   made_parted : to_make tree to ≡ then_ (place tree to) (λ at. unless (is_some at.found) refusal.Exists at)
   made_parted = λ i. then_ (if goal_some i then Err refusal.Root else Ok to) (new_place tree)
 
-  pub mv_unreached : (why : Refusal) → reached tree from ≡ Err why → to_mv tree from to ≡ Err why
+  pub mv_unreached : (why : Refusal) → reached tree from ≡ Err why → to_free tree from to ≡ Err why
   mv_unreached why is = parted ∙ ap (λ r. then_ (then_ r (λ at. then_ (place tree to) (λ goal. Ok (at, goal)))) (λ pair. then_ (unless (is_some pair.1.found) refusal.Exists pair) (unless (is_below to from) refusal.Inside))) is
 
   module _ (at : PlainEntry) (is : reached tree from ≡ Ok at) where
-    behind : to_mv tree from to ≡ then_ (then_ (place tree to) (λ goal. Ok (at, goal))) (λ pair. then_ (unless (is_some pair.1.found) refusal.Exists pair) (unless (is_below to from) refusal.Inside))
+    behind : to_free tree from to ≡ then_ (then_ (place tree to) (λ goal. Ok (at, goal))) (λ pair. then_ (unless (is_some pair.1.found) refusal.Exists pair) (unless (is_below to from) refusal.Inside))
     behind = parted ∙ ap (λ r. then_ (then_ r (λ e. then_ (place tree to) (λ goal. Ok (e, goal)))) (λ pair. then_ (unless (is_some pair.1.found) refusal.Exists pair) (unless (is_below to from) refusal.Inside))) is
 
     abbrev tried : Result Place Refusal → Result (PlainEntry × Place) Refusal
@@ -73,7 +75,7 @@ module _ (tree : PlainTree) (from to : List (List ℕ)) (some : is_root from ≡
         by_found (Some e) found =
             ap (λ b. then_ (if b then Err refusal.Exists else Ok (at, goal)) (unless (is_below to from) refusal.Inside)) (ap is_some found) ∙ sym (ap (λ b. then_ (if b then Err refusal.Exists else Ok goal) (λ g. unless (is_below to from) refusal.Inside (at, g))) (ap is_some found))
 
-    pub mv_after : to_mv tree from to ≡ then_ (to_make tree to) (λ goal. unless (is_below to from) refusal.Inside (at, goal))
+    pub mv_after : to_free tree from to ≡ then_ (to_make tree to) (λ goal. unless (is_below to from) refusal.Inside (at, goal))
     mv_after = behind ∙ by_goal (place tree to) (to_make tree to) (sym made_parted)
 
 -- ---- the way
@@ -94,7 +96,7 @@ pub record IsWay (tree : PlainTree) (from to : List (List ℕ)) (old name : List
 
 abbrev pub Routes : PlainTree → List (List ℕ) → List (List ℕ) → List ℕ → List ℕ → Result Route Refusal → Type 0
 Routes tree from to old name (Ok way) = IsWay tree from to old name way
-Routes tree from to old name (Err why) = to_mv tree from to ≡ Err why
+Routes tree from to old name (Err why) = to_free tree from to ≡ Err why
 
 abbrev entry_or : PlainEntry → Option PlainEntry → PlainEntry
 entry_or other None = other
@@ -224,15 +226,19 @@ module _ (law : SoundHasPlainTree) (v : Volume) (content : Content) (holds : Hol
     pub way_told : (way : Route) → said ≡ Ok way → IsWay (tree_of content) from to old name way
     way_told way ok = subst (λ (r : Result Route Refusal). Routes (tree_of content) from to old name r) ok tells
 
-    pub way_refused : (why : Refusal) → said ≡ Err why → to_mv (tree_of content) from to ≡ Err why
-    way_refused why err = subst (λ (r : Result Route Refusal). Routes (tree_of content) from to old name r) err tells
+    pub way_not_free : (why : Refusal) → said ≡ Err why → to_free (tree_of content) from to ≡ Err why
+    way_not_free why err = subst (λ (r : Result Route Refusal). Routes (tree_of content) from to old name r) err tells
+
+    -- but for a place where something stands, `mv` is refused so too
+    pub way_refused : (why : Refusal) → said ≡ Err why → is_exists why ≡ false → to_mv (tree_of content) from to ≡ Err why
+    way_refused why err other = free_refused (tree_of content) from to why (way_not_free why err) other
 
     module _ (way : Route) (ok : said ≡ Ok way) where
       pub goes_inside : is_below to from ≡ true → to_mv (tree_of content) from to ≡ Err refusal.Inside
       goes_inside inside =
           let it = way_told way ok in
-          mv_after (tree_of content) from to some goal_some it.at it.reaches ∙ ap (λ (r : Result Place Refusal). then_ r (λ goal. unless (is_below to from) refusal.Inside (it.at, goal))) it.can_make
-          ∙ ap (λ b. if b then Err refusal.Inside else Ok (it.at, free_place way.folder name)) inside
+          free_refused (tree_of content) from to refusal.Inside (mv_after (tree_of content) from to some goal_some it.at it.reaches ∙ ap (λ (r : Result Place Refusal). then_ r (λ goal. unless (is_below to from) refusal.Inside (it.at, goal))) it.can_make
+          ∙ ap (λ b. if b then Err refusal.Inside else Ok (it.at, free_place way.folder name)) inside) refl
 
       pub may_go : is_below to from ≡ false → IsMove (tree_of content) from to (way_told way ok).at way.parent old way.id way.folder name
       may_go outside =
@@ -240,8 +246,8 @@ module _ (law : SoundHasPlainTree) (v : Volume) (content : Content) (holds : Hol
           record {
             not_own = not_own;
             goal_not_own = goal_not_own;
-            allowed = mv_after (tree_of content) from to some goal_some it.at it.reaches ∙ ap (λ (r : Result Place Refusal). then_ r (λ goal. unless (is_below to from) refusal.Inside (it.at, goal))) it.can_make
-                ∙ ap (λ b. if b then Err refusal.Inside else Ok (it.at, free_place way.folder name)) outside;
+            allowed = free_mv (tree_of content) from to (it.at, free_place way.folder name) (mv_after (tree_of content) from to some goal_some it.at it.reaches ∙ ap (λ (r : Result Place Refusal). then_ r (λ goal. unless (is_below to from) refusal.Inside (it.at, goal))) it.can_make
+                ∙ ap (λ b. if b then Err refusal.Inside else Ok (it.at, free_place way.folder name)) outside);
             can_make = it.can_make;
             goal_named = ap is_empty goal_last ∙ some_name name (goal_fits_name goal_fits);
             reaches_it = it.reaches;
@@ -273,13 +279,13 @@ module _ (tree : PlainTree) (from to : List (List ℕ)) where
   pub moved_line : (pair : PlainEntry × Place) → is_private_path from ≡ false → is_private_path to ≡ false → to_mv tree from to ≡ Ok pair
       → (reply.Ok ≡ (step_line tree (Ok (command.Mv from to))).0) × ((step tree (command.Mv from to)).1 ≡ (step_line tree (Ok (command.Mv from to))).1)
   moved_line pair not_own goal_not_own is =
-      let same = mv_line not_own goal_not_own ∙ ap (λ r. on tree r (λ (p : PlainEntry × Place). (reply.Ok, moved p.0 p.1 tree))) is in
+      let same = mv_line not_own goal_not_own ∙ ap (λ r. on tree r (λ (p : PlainEntry × Place). (reply.Ok, moved_over p.0 p.1 tree))) is in
       (sym (ap (λ s. s.0) same), sym (ap (λ s. s.1) (mv_line not_own goal_not_own)))
 
   pub mv_refused_line : (why : Refusal) → is_private_path from ≡ false → is_private_path to ≡ false → to_mv tree from to ≡ Err why
       → (reply.No why ≡ (step_line tree (Ok (command.Mv from to))).0) × (tree ≡ (step_line tree (Ok (command.Mv from to))).1)
   mv_refused_line why not_own goal_not_own is =
-      let same = mv_line not_own goal_not_own ∙ ap (λ r. on tree r (λ (p : PlainEntry × Place). (reply.Ok, moved p.0 p.1 tree))) is in
+      let same = mv_line not_own goal_not_own ∙ ap (λ r. on tree r (λ (p : PlainEntry × Place). (reply.Ok, moved_over p.0 p.1 tree))) is in
       (sym (ap (λ s. s.0) same), sym (ap (λ s. s.1) same))
 
   pub mv_private_line : (is_private_path from || (is_private_path to || false)) ≡ true → (reply.No refusal.Private ≡ (step_line tree (Ok (command.Mv from to))).0) × (tree ≡ (step_line tree (Ok (command.Mv from to))).1)
@@ -289,7 +295,7 @@ module _ (tree : PlainTree) (from to : List (List ℕ)) where
   -- the root is neither moved nor a new name
   pub mv_root_line : is_private_path from ≡ false → is_private_path to ≡ false → (is_root from || is_root to) ≡ true → (reply.No refusal.Root ≡ (step_line tree (Ok (command.Mv from to))).0) × (tree ≡ (step_line tree (Ok (command.Mv from to))).1)
   mv_root_line not_own goal_not_own root = mv_refused_line refusal.Root not_own goal_not_own
-      (ap (λ b. then_ (then_ (if b then Err refusal.Root else Ok from) (λ named. then_ (reached tree named) (λ at. then_ (place tree to) (λ goal. Ok (at, goal))))) (λ pair. then_ (unless (is_some pair.1.found) refusal.Exists pair) (unless (is_below to from) refusal.Inside))) root)
+      (ap (λ b. then_ (then_ (if b then Err refusal.Root else Ok from) (λ named. then_ (reached tree named) (λ at. then_ (place tree to) (λ goal. Ok (at, goal))))) (λ pair. then_ (unless (stands_in_way pair.0 pair.1.found) refusal.Exists pair) (unless (is_below to from) refusal.Inside))) root)
 
 pub root_of : (path : List (List ℕ)) → length path ≡ 0 → is_root path ≡ true
 root_of [] none = refl

@@ -178,6 +178,7 @@ catalog_read v file desk before after reads over = record {
     shrunk = refl;
     capacity = refl;
     kept = refl;
+    filling = refl;
   };
   looks = looks_wider (λ s. Contains (sectors_of_tree v.catalog.file) s) (λ s. Contains (own_sectors v) s) before after (λ told s here. in_catalog s here) reads.looks;
 }
@@ -229,6 +230,7 @@ attributes_read v file desk before after has reads over = record {
     shrunk = refl;
     capacity = refl;
     kept = refl;
+    filling = refl;
   };
   looks = looks_wider (λ s. Contains (sectors_of_tree v.attributes.file) s) (λ s. Contains (own_sectors v) s) before after (λ told s here. attributes_own v has s here) reads.looks;
 }
@@ -248,6 +250,7 @@ volume_both a b c old mid new p q =
         shrunk = r.shrunk ∙ p.keeps.shrunk;
         capacity = r.capacity ∙ p.keeps.capacity;
         kept = r.kept ∙ p.keeps.kept;
+        filling = r.filling ∙ p.keeps.filling;
       };
       looks = looks_both (λ s. Contains (own_sectors a) s) old mid new p.looks (looks_wider (λ s. Contains (own_sectors b) s) (λ s. Contains (own_sectors a) s) mid new (λ told s. subst (λ l. Contains l s) (own_still a b old mid p)) q.looks);
     }

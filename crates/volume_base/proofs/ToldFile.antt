@@ -8,12 +8,12 @@ use Rattle.hfs_language.specs.declared.refusal.Refusal.TheVariants as refusal
 use Rattle.hfs_language.specs.declared.reply.Facts.{Facts}
 use Rattle.hfs_language.specs.declared.reply.Reply.TheVariants as reply
 use Rattle.hfs_model.specs.Plain.{entries_in}
-use Rattle.hfs_model.specs.Step.{facts_of, is_private_path, most_bytes, most_growth, most_size, on, resized, size_written, step, step_line, then_, to_file, to_node, to_size, to_trunc, to_write, unless, written}
+use Rattle.hfs_model.specs.Step.{facts_of, is_private_path, most_bytes, most_size, on, resized, size_written, step, step_line, then_, to_file, to_node, to_trunc, to_write, unless, written}
 use Rattle.hfs_model.specs.declared.plain.PlainNode.{PlainNode}
 use Rattle.hfs_model.specs.declared.plain.PlainTree.{PlainTree}
 use Rattle.volume_runs.specs.Run.{is_ok, or_before, shrunk_by}
 use Rattle.hfs_volume.specs.Weight.{Data, data_of, grown_data, written_data}
-use Rattle.volume_base.specs.Refusing.{against_growth, against_trunc, against_write, facts_or}
+use Rattle.volume_base.specs.Refusing.{against_trunc, against_write, facts_or}
 use Rattle.volume_base.specs.Resizing.{shrunk_then}
 
 -- The folder or file of which this was told.
@@ -59,18 +59,14 @@ module _ (tree : PlainTree) (path : List (List ℕ)) (told : Facts) (it : IsTold
   pub trunc_told : (size : ℕ) → None ≡ against_trunc size told → IsAbout tree path told it.node × (to_trunc tree path size ≡ Ok it.node)
   trunc_told size none =
       let both = of_folder it.node (length (entries_in tree it.node.id)) it.node.folder (none ∙ ap (against_trunc size) it.facts) in
-      (about both.0, ap (λ r. then_ (then_ r (λ node. unless node.folder refusal.IsFolder node)) (λ file. then_ (unless (nat_lt most_size size) refusal.TooLarge file) (to_size size))) it.found ∙ both.1)
+      (about both.0, ap (λ r. then_ (then_ r (λ node. unless node.folder refusal.IsFolder node)) (unless (nat_lt most_size size) refusal.TooLarge)) it.found ∙ both.1)
     where
-      of_growth : (node : PlainNode) (b : Bool) → None ≡ (if b then Some refusal.GrowLimit else None) → (if b then Err refusal.GrowLimit else Ok node) ≡ Ok node
-      of_growth node true same = absurd (cc same)
-      of_growth node false same = refl
-
-      of_size : (node : PlainNode) (b : Bool) → None ≡ (if b then Some refusal.TooLarge else against_growth (length node.bytes) size) → then_ (if b then Err refusal.TooLarge else Ok node) (to_size size) ≡ Ok node
+      of_size : (node : PlainNode) (b : Bool) → None ≡ (if b then Some refusal.TooLarge else None) → (if b then Err refusal.TooLarge else Ok node) ≡ Ok node
       of_size node true same = absurd (cc same)
-      of_size node false same = of_growth node (nat_lt (length node.bytes + most_growth) size) same
+      of_size node false same = refl
 
-      of_folder : (node : PlainNode) (entries : ℕ) (b : Bool) → None ≡ (if b then Some refusal.IsFolder else if nat_lt most_size size then Some refusal.TooLarge else against_growth (if b then entries else length node.bytes) size)
-          → (b ≡ false) × (then_ (if b then Err refusal.IsFolder else Ok node) (λ file. then_ (unless (nat_lt most_size size) refusal.TooLarge file) (to_size size)) ≡ Ok node)
+      of_folder : (node : PlainNode) (entries : ℕ) (b : Bool) → None ≡ (if b then Some refusal.IsFolder else if nat_lt most_size size then Some refusal.TooLarge else None)
+          → (b ≡ false) × (then_ (if b then Err refusal.IsFolder else Ok node) (unless (nat_lt most_size size) refusal.TooLarge) ≡ Ok node)
       of_folder node entries true same = absurd (cc same)
       of_folder node entries false same = (refl, of_size node (nat_lt most_size size) same)
 
@@ -81,20 +77,15 @@ module _ (tree : PlainTree) (path : List (List ℕ)) (told : Facts) (it : IsTold
   pub write_told : (from : ℕ) (value : List ℕ) → None ≡ against_write from (length value) told → IsAbout tree path told it.node × (to_write tree path from value ≡ Ok it.node)
   write_told from value none =
       let both = of_folder it.node (length (entries_in tree it.node.id)) it.node.folder (none ∙ ap (against_write from (length value)) it.facts) in
-      (about both.0, ap (λ r. then_ (then_ r (λ node. unless node.folder refusal.IsFolder node)) (λ file. then_ (unless (is_large from value) refusal.TooLarge file) (to_size (size_written (length file.bytes) from (length value))))) it.found ∙ both.1)
+      (about both.0, ap (λ r. then_ (then_ r (λ node. unless node.folder refusal.IsFolder node)) (unless (is_large from value) refusal.TooLarge)) it.found ∙ both.1)
     where
-      of_growth : (node : PlainNode) (b : Bool) → None ≡ (if b then Some refusal.GrowLimit else None) → (if b then Err refusal.GrowLimit else Ok node) ≡ Ok node
-      of_growth node true same = absurd (cc same)
-      of_growth node false same = refl
-
-      of_size : (node : PlainNode) (b : Bool) → None ≡ (if b then Some refusal.TooLarge else against_growth (length node.bytes) (size_written (length node.bytes) from (length value)))
-          → then_ (if b then Err refusal.TooLarge else Ok node) (to_size (size_written (length node.bytes) from (length value))) ≡ Ok node
+      of_size : (node : PlainNode) (b : Bool) → None ≡ (if b then Some refusal.TooLarge else None) → (if b then Err refusal.TooLarge else Ok node) ≡ Ok node
       of_size node true same = absurd (cc same)
-      of_size node false same = of_growth node (nat_lt (length node.bytes + most_growth) (size_written (length node.bytes) from (length value))) same
+      of_size node false same = refl
 
       of_folder : (node : PlainNode) (entries : ℕ) (b : Bool)
-          → None ≡ (if b then Some refusal.IsFolder else if is_large from value then Some refusal.TooLarge else against_growth (if b then entries else length node.bytes) (size_written (if b then entries else length node.bytes) from (length value)))
-          → (b ≡ false) × (then_ (if b then Err refusal.IsFolder else Ok node) (λ file. then_ (unless (is_large from value) refusal.TooLarge file) (to_size (size_written (length file.bytes) from (length value)))) ≡ Ok node)
+          → None ≡ (if b then Some refusal.IsFolder else if is_large from value then Some refusal.TooLarge else None)
+          → (b ≡ false) × (then_ (if b then Err refusal.IsFolder else Ok node) (unless (is_large from value) refusal.TooLarge) ≡ Ok node)
       of_folder node entries true same = absurd (cc same)
       of_folder node entries false same = (refl, of_size node (is_large from value) same)
 

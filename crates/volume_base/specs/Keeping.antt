@@ -1,5 +1,5 @@
 -- What a volume keeps for an undo, and what a commit changes of it.
-use Rattle.std.specs.Prelude.{◌≡◌, ℕ, Option, length}
+use Rattle.std.specs.Prelude.{◌≡◌, ℕ, None, Option, length}
 use Rattle.alloc_bitmap.specs.Map.{none}
 use Rattle.volume_base.specs.declared.volume.Volume.{Volume}
 
@@ -28,16 +28,19 @@ pub record IsKept (volume : Volume) : Type 0 where
   pub private : volume.kept.private ≡ volume.private
   pub shrunk : volume.kept.shrunk ≡ volume.shrunk
 
--- A keep: the volume stands as it did, the same blocks are held, no sector of the bitmap counts as changed, and an undo goes back to this.
+-- A keep: the volume stands as it did, the same blocks are held and the same growth is in hand, no sector of the bitmap counts as changed, and an undo
+-- goes back to this.
 pub record Keeps (old new : Volume) : Type 0 where
   pub same : SameStanding old new
+  pub filling : new.filling ≡ old.filling
   pub held : new.map.held ≡ old.map.held
   pub changed : new.map.changed ≡ none (length old.map.changed)
   pub kept : IsKept new
 
--- A commit: the volume stands as it did, no block is held, and an undo that is to come holds none either.
+-- A commit: the volume stands as it did, no block is held, no growth is in hand, and an undo that is to come holds none either.
 pub record Settles (old new : Volume) : Type 0 where
   pub same : SameStanding old new
+  pub filling : new.filling ≡ None
   pub held : new.map.held ≡ none (length old.map.used)
   pub kept_held : new.map.kept_held ≡ none (length old.map.used)
   pub kept_used : new.map.kept_used ≡ old.map.kept_used

@@ -51,6 +51,7 @@ pub record KeepsVolume (tells : Bool) (old new : Volume) : Type 0 where
   pub shrunk : new.shrunk ≡ old.shrunk
   pub capacity : new.capacity ≡ old.capacity
   pub kept : new.kept ≡ old.kept
+  pub filling : new.filling ≡ old.filling
 
 -- A volume was read over a space: it is as it was, and so is the content; only sectors of its own may have become live.
 pub record ReadsVolume (old new : Volume) (before after : Space) : Type 0 where

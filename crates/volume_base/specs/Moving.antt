@@ -1,9 +1,10 @@
 -- `mv`: what is moved and where to, the room for it, and what it does to a volume.
-use Rattle.std.specs.Prelude.{◌≡◌, ◌≤◌, ℕ, ◌+◌, ◌*◌, true, false, IsTrue, List, Option, Result, Ok}
+use Rattle.std.specs.Prelude.{◌≡◌, ◌≤◌, ℕ, ◌+◌, ◌*◌, true, false, IsTrue, List, Option, is_some, Result, Ok}
 use Rattle.sector_disk.specs.Space.{Space}
 use Rattle.btree_node.specs.Levels.{Pair}
 use Rattle.hfs_language.specs.declared.refusal.Refusal.{Refusal}
-use Rattle.hfs_model.specs.Step.{Place, front, is_private_path, is_root, last_name, reached, then_, to_make, to_mv, to_node}
+use Rattle.hfs_language.specs.declared.refusal.Refusal.TheVariants as refusal
+use Rattle.hfs_model.specs.Step.{Place, front, is_below, is_private_path, is_root, last_name, reached, then_, to_make, to_mv, to_node, to_pair, unless}
 use Rattle.hfs_model.specs.declared.plain.PlainEntry.{PlainEntry}
 use Rattle.hfs_model.specs.declared.plain.PlainNode.{PlainNode}
 use Rattle.hfs_model.specs.declared.plain.PlainTree.{PlainTree}
@@ -22,6 +23,10 @@ use Rattle.volume_base.specs.declared.volume.Volume.{Volume}
 abbrev pub route_in : List Pair → Option ℕ → List (List ℕ) → List (List ℕ) → List (List ℕ) → List ℕ → Result Route Refusal
 route_in pairs private from above under name =
     then_ (owner_in pairs private from) (λ id. then_ (folder_in pairs above) (λ parent. then_ (site_under pairs under name) (λ folder. Ok (record { id = id; parent = parent; folder = folder }))))
+
+-- what `mv` to a free place is about: what the first path stands for, and the place of the second one, where nothing stands yet
+abbrev pub to_free : PlainTree → List (List ℕ) → List (List ℕ) → Result (PlainEntry × Place) Refusal
+to_free tree from to = then_ (to_pair tree from to) (λ pair. then_ (unless (is_some pair.1.found) refusal.Exists pair) (unless (is_below to from) refusal.Inside))
 
 -- on a tree, what the first path stands for may be moved to the place that the second one names
 abbrev pub MayMove : PlainTree → List (List ℕ) → List (List ℕ) → PlainEntry × Place → Type 0

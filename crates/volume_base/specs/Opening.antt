@@ -71,10 +71,12 @@ pub record IsOpened (volume : Volume) (content : Content) : Type 0 where
   pub bits : HoldsBits content (fork_sectors volume.map.fork volume.map.per_block) volume.map.used
   pub private : volume.private ≡ private_id (placed_in (pairs_in (sectors_of_tree volume.catalog.file) content))
 
--- A volume of which nothing was changed since it came into service: no block is held, no file was shrunk, and an undo changes nothing.
+-- A volume of which nothing was changed since it came into service: no block is held, no file was shrunk, no growth is in hand, and an undo changes
+-- nothing.
 pub record IsFresh (capacity : ℕ) (volume : Volume) : Type 0 where
   pub held : volume.map.held ≡ none (length volume.map.used)
   pub changed : volume.map.changed ≡ none (sectors_for (length volume.map.used))
   pub kept : IsKept volume
   pub shrunk : volume.shrunk ≡ None
+  pub filling : volume.filling ≡ None
   pub capacity_is : volume.capacity ≡ capacity

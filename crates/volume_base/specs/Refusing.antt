@@ -5,7 +5,7 @@ use Rattle.hfs_language.specs.declared.refusal.Refusal.TheVariants as refusal
 use Rattle.hfs_language.specs.declared.reply.Facts.{Facts}
 use Rattle.hfs_language.specs.declared.reply.Reply.{Reply}
 use Rattle.hfs_language.specs.declared.reply.Reply.TheVariants as reply
-use Rattle.hfs_model.specs.Step.{most_bytes, most_growth, most_links, most_size, size_written}
+use Rattle.hfs_model.specs.Step.{most_bytes, most_links, most_size}
 
 -- the refusal that a reply tells, if it is one
 abbrev pub refusal_in : Reply → Option Refusal
@@ -30,23 +30,19 @@ abbrev pub against : Result Facts Refusal → (Facts → Option Refusal) → Opt
 against (Ok told) next = next told
 against (Err why) next = Some why
 
--- a file grows by so much at most
-abbrev pub against_growth : ℕ → ℕ → Option Refusal
-against_growth old new = if nat_lt (old + most_growth) new then Some refusal.GrowLimit else None
-
 -- so many bytes from a place on
 abbrev pub against_write : ℕ → ℕ → Facts → Option Refusal
 against_write from long told =
     if told.folder then Some refusal.IsFolder
     else if nat_lt most_size (from + long) || nat_lt most_bytes long then Some refusal.TooLarge
-    else against_growth told.size (size_written told.size from long)
+    else None
 
 -- what speaks against giving a file another size, by what `stat` told of it
 abbrev pub against_trunc : ℕ → Facts → Option Refusal
 against_trunc size told =
     if told.folder then Some refusal.IsFolder
     else if nat_lt most_size size then Some refusal.TooLarge
-    else against_growth told.size size
+    else None
 
 abbrev pub is_exists : Refusal → Bool
 is_exists refusal.Exists = true

@@ -54,6 +54,7 @@ impl Volume {
                 private,
                 shrunk: None,
             },
+            filling: None,
         })
     }
 }

@@ -16,10 +16,11 @@ impl Volume {
         };
     }
 
-    /// The content was committed: no block is held any more.
+    /// The content was committed: no block is held any more, so that a growth may take others than those that were filled for it.
     pub fn settle(&mut self)
         ensures { Settles self.old self.new }
     {
         self.map.settle();
+        self.filling = None;
     }
 }

@@ -1,5 +1,5 @@
 //! `weigh` of `rm`.
-ghost use Rattle.std.specs.Prelude.{◌≡◌, None, Some};
+ghost use Rattle.std.specs.Prelude.{◌≡◌, ◌≤◌, None, Some};
 ghost use Rattle.volume_base.specs.Losing.{lose_edits};
 
 use crate::volume::Volume;
@@ -10,6 +10,7 @@ impl Volume {
     pub fn lose_edits(&self) -> Edits
         ensures same { result ≡ lose_edits self.now.private }
         ensures none { result.attributes ≡ 0 }
+        ensures few { result.catalog ≤ 5 }
     {
         match self.private {
             Some(_private) => Edits {

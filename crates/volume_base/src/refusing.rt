@@ -1,12 +1,12 @@
 //! Why `ln`, `write` and `trunc` are refused.
-ghost use Rattle.std.specs.Prelude.{◌≡◌, ◌≤◌, false, Ok, IsTrue, IfOk};
+ghost use Rattle.std.specs.Prelude.{◌≡◌, false, Ok, IsTrue, IfOk};
 ghost use Rattle.hfs_language.specs.Written.{FitsPath};
 ghost use Rattle.hfs_language.specs.declared.command.Command.TheVariants as command;
-ghost use Rattle.hfs_model.specs.Step.{is_private_path, is_root, size_written, step_line};
+ghost use Rattle.hfs_model.specs.Step.{is_private_path, is_root, step_line};
 ghost use Rattle.hfs_volume.specs.TreeOf.{tree_of};
 ghost use Rattle.volume_base.specs.Frame.{Looked, Serves};
 ghost use Rattle.volume_base.specs.Making.{path_to};
-ghost use Rattle.volume_base.specs.Refusing.{against_growth, against_link, against_trunc, against_write, facts_or, is_exists, refusal_in};
+ghost use Rattle.volume_base.specs.Refusing.{against_link, against_trunc, against_write, facts_or, is_exists, refusal_in};
 
 use crate::names::is_private_path;
 use crate::volume::Volume;
@@ -21,9 +21,6 @@ const MOST_SIZE: u128 = 1 << 40;
 
 /// The most bytes of one `write`.
 const MOST_BYTES: usize = 65_536;
-
-/// The most bytes by which one command makes a file longer.
-const MOST_GROWTH: u128 = 1_048_576;
 
 /// The most names of a file.
 const MOST_LINKS: u32 = 32_767;
@@ -42,26 +39,6 @@ fn facts_or(reply: Reply) -> Result<Facts, Refusal>
     }
 }
 
-/// What stands against a file's growth to a size.
-fn against_growth(old: u128, new: u128) -> Option<Refusal>
-    requires fits { old ≤ 18446744073709551615 }
-    ensures { result ≡ against_growth old new }
-{
-    if new > old + MOST_GROWTH {
-        return Some(Refusal::GrowLimit);
-    }
-    None
-}
-
-/// The size of a file after so many bytes are written from a place on; no byte makes no file longer.
-fn size_written(size: u64, from: u64, long: usize) -> u128
-    ensures { result ≡ size_written size from long }
-{
-    let old = size as u128;
-    let end = from as u128 + long as u128;
-    if long == 0 || end <= old { old } else { end }
-}
-
 /// What stands against `write` of so many bytes from a place on into a file of which this is told.
 pub fn against_write(from: u64, long: usize, told: &Facts) -> Option<Refusal>
     ensures { result ≡ against_write from long told.now }
@@ -72,7 +49,7 @@ pub fn against_write(from: u64, long: usize, told: &Facts) -> Option<Refusal>
     if from as u128 + long as u128 > MOST_SIZE || long > MOST_BYTES {
         return Some(Refusal::TooLarge);
     }
-    against_growth(told.size as u128, size_written(told.size, from, long))
+    None
 }
 
 /// What stands against `trunc` to a size of a file of which this is told.
@@ -85,11 +62,11 @@ pub fn against_trunc(size: u64, told: &Facts) -> Option<Refusal>
     if size as u128 > MOST_SIZE {
         return Some(Refusal::TooLarge);
     }
-    against_growth(told.size as u128, size as u128)
+    None
 }
 
 /// Whether a name is refused because it is taken.
-fn is_exists(why: Refusal) -> bool
+pub fn is_exists(why: Refusal) -> bool
     ensures { result ≡ is_exists why }
 {
     match why {

@@ -1,7 +1,9 @@
 //! The folder above what a command makes, moves or removes.
-ghost use Rattle.std.specs.Prelude.{ℕ, ◌≡◌, ◌≤◌, ◌<◌, ◌+◌, ◌^◌, Some, false, true, IsTrue, length, OnOk};
+ghost use Rattle.std.specs.Prelude.{ℕ, ◌≡◌, ◌≤◌, ◌<◌, ◌+◌, ◌^◌, List, Some, false, true, IsTrue, length, OnOk};
 ghost use Rattle.btree_file.specs.Standing.{numbers_of};
+ghost use Rattle.btree_file.specs.State.{state_of};
 ghost use Rattle.catalog.specs.Pairs.{value_at};
+ghost use Rattle.catalog.specs.Rooms.{TakesUpdates};
 ghost use Rattle.cat_records.specs.Fits.{FitsRecord};
 ghost use Rattle.hfs_volume.specs.Entries.{AreSpelled, AreThreaded};
 ghost use Rattle.hfs_volume.specs.Records.{id_in, is_folder, is_thread, valence_in};
@@ -18,8 +20,9 @@ use sector_disk::SectorSpace;
 use std::alloc::Global;
 
 impl Volume {
-    /// Counts entries of a folder that was found.
-    fn put_touched<P: SectorSpace>(
+    /// Lets a folder that was found count so many entries more, and so many less, at the volume's moment. The volume stands as before, with
+    /// this one change of its catalog.
+    pub fn put_touched<P: SectorSpace>(
         &mut self,
         alloc: Global,
         space: &mut P,
@@ -36,6 +39,8 @@ impl Volume {
         ensures counts { IsTrue (P.SectorView.space space.old).tells → is_folder entry.now.rec ≡ true → valence_in entry.now.rec + up < 2 ^ 32
             → OnOk result (TouchesFolder (id_in entry.now.rec) up down self.old self.new (P.SectorView.space space.old).content (P.SectorView.space space.new).content) }
         ensures edits { Edits P.SectorView.space P.SectorView.follows (catalog_node self.old) self.old self.new space.old space.new result }
+        // It is one update of the catalog's tree.
+        ensures updates { (names : List ℕ) → OnOk result (TakesUpdates 0 1 516 (state_of names self.old.catalog.file (P.SectorView.space space.old)) (state_of names self.new.catalog.file (P.SectorView.space space.new))) }
         // What is left of the room for so many updates suffices for the others.
         ensures room { (many : ℕ) → HasRoomToUpdates (many + 1) self.old (P.SectorView.space space.old) → OnOk result (HasRoomToUpdates many self.new (P.SectorView.space space.new)) }
         ensures size { (numbers_of self.new.catalog.file).node_size ≡ (numbers_of self.old.catalog.file).node_size }

@@ -3,6 +3,7 @@
 use alloc_bitmap::Bitmap;
 use btree_edit::Desk;
 use btree_file::TreeFile;
+use fork_map::ExtentList;
 use volume_header::VolumeHeader;
 
 /// The root folder's CNID (TN1150, "Catalog Node IDs").
@@ -23,6 +24,18 @@ pub struct Kept {
     pub shrunk: Option<u32>,
 }
 
+/// A growth of a file by more zero blocks than one step fills: the sizes before and after it, the blocks that it takes, and which of them hold
+/// zeros by now: `done` of them, from `place` on.
+#[derive(Drop)]
+pub struct Filling {
+    pub id: u32,
+    pub old_size: u64,
+    pub new_size: u64,
+    pub blocks: ExtentList,
+    pub place: u32,
+    pub done: u32,
+}
+
 /// A volume in service: its header, which of its blocks are used, and its three trees.
 #[derive(Drop)]
 pub struct Volume {
@@ -38,4 +51,6 @@ pub struct Volume {
     /// How many sectors one transaction of the journal holds.
     pub capacity: u64,
     pub kept: Kept,
+    /// The growth in hand, where zero blocks were filled for one.
+    pub filling: Option<Filling>,
 }

@@ -86,7 +86,7 @@ fn find_standing<P: SectorSpace>(
 
 impl Volume {
     /// What a path stands for, and the folder that another path reaches; or the first reason against it.
-    fn standing<P: SectorSpace>(
+    pub(crate) fn standing<P: SectorSpace>(
         &mut self,
         alloc: Global,
         space: &mut P,

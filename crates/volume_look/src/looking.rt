@@ -79,5 +79,7 @@ fn look_through<D: SectorDisk, A: Asker>(
     };
     let most = capacity(plan);
     let mut volume = Volume::attach(alloc, &mut space, most)?;
-    answer_all(alloc, &mut volume, &mut space, asker)
+    let answered = answer_all(alloc, &mut volume, &mut space, asker);
+    drop(volume);
+    answered
 }

@@ -4,6 +4,7 @@ use Rattle.std.specs.Prelude.{◌&&◌, ◌||◌, ◌==◌, not, if◌then◌els
 use Rattle.std.proofs.lemmas.Bool.{and_parts, eq-eqb, eqb-true}
 use Rattle.std.proofs.lemmas.Bool.Decides.{leb_tells}
 use Rattle.jnl_format.specs.declared.structures.JnlRefusal.TheVariants.{BadInfo}
+use Rattle.jnl_format.specs.declared.dialect.Dialect.TheVariants.{Plain}
 use Rattle.jnl_format.specs.Header.{header_spelled}
 use Rattle.jnl_format.proofs.ReadBack.{header_back, checksum_fits}
 use Rattle.jnl_format.proofs.InfoBack.{info_back}
@@ -137,7 +138,7 @@ journal_found s b j can =
       inside = past_either (place % 512 == 0) (BadInfo 36) _ (eq-eqb (place % 512) 0 t.from_sector)
           (past (size % 512 == 0 && nat_le 1536 size && nat_le (place + size) (s * 512)) (BadInfo 44) None
           (both (size % 512 == 0 && nat_le 1536 size) (nat_le (place + size) (s * 512)) (both (size % 512 == 0) (nat_le 1536 size) (eq-eqb (size % 512) 0 t.whole) (is_le 1536 size t.long)) (is_le (place + size) (s * 512) t.inside)) refl);
-      journal = header_back head size (replicate 468 0)
+      journal = header_back {dialect = Plain} head size (replicate 468 0)
           (record {
             start_whole = refl;
             start_low = omega arith;

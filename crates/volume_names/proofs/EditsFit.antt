@@ -1,7 +1,7 @@
 -- The load of edits of the catalog, by what they cost.
-use Rattle.std.proofs.Common.{◌≡◌, ◌<◌, ◌≤◌, ℕ, ◌+◌, ◌*◌, ◌^◌, true, false, not, sym, ◌∙◌, ap, arith}
+use Rattle.std.proofs.Common.{◌≡◌, ◌<◌, ◌≤◌, ℕ, ◌+◌, ◌*◌, ◌^◌, true, false, not, sym, ◌∙◌, ap, subst, arith}
 use Rattle.std.specs.Prelude.{◌==◌, ◌&&◌, ◌||◌, nat_le, nat_lt, IsTrue}
-use Rattle.std.proofs.lemmas.Bool.{ltb-false}
+use Rattle.std.proofs.lemmas.Bool.{ltb-false, ne_eqb}
 use Rattle.sector_disk.specs.Space.{Space}
 use Rattle.hfs_volume.specs.Content.{volume_of}
 use Rattle.hfs_volume.specs.Cost.{catalog_key, cost_of, depth_of, is_too_deep, rises}
@@ -41,3 +41,9 @@ module _ (says : LoadSaysEnough) (of_parts : LoadIsOfParts) (v : Volume) (a : Sp
     grown = λ tells. (catalog says of_parts v a (settled tells) asked (ok tells)).none;
     load = λ tells. omega (arith, (catalog says of_parts v a (settled tells) asked (ok tells)).load, fits tells);
   }
+
+  -- the same of three edits more than a number, and six updates
+  pub replace_fits : (asked : Edits) (edits : ℕ) → asked.catalog ≡ edits + 3 → asked.updates ≡ 6 → Meets asked → HasLoadFor (edits + 3) (1 + 6 * catalog_node v) v a
+  replace_fits asked edits same updates ok =
+      subst (λ n. HasLoadFor n (1 + 6 * catalog_node v) v a) same
+      (load_fits asked (1 + 6 * catalog_node v) (ne_eqb asked.catalog 0 (λ none. absurd (omega (arith, same, none)))) (λ tells. omega (arith, ap (λ n. n * catalog_node v) updates)) ok)

@@ -47,10 +47,10 @@ use Rattle.volume_names.specs.EditsLeft.{FirstLinkFits, HasEditsLeft, HasLoadFor
 div_most : (count room per : ℕ) → 0 < per → count ≤ room / per → count * per ≤ room
 div_most count room per some low = (le-div_iff_mul-le some).0 low
 
-div_least : (count room per : ℕ) → 0 < per → count * per ≤ room → count ≤ room / per
+pub div_least : (count room per : ℕ) → 0 < per → count * per ≤ room → count ≤ room / per
 div_least count room per some low = (le-div_iff_mul-le some).1 low
 
-div_grows : (few many per : ℕ) → 0 < per → few ≤ many → few / per ≤ many / per
+pub div_grows : (few many per : ℕ) → 0 < per → few ≤ many → few / per ≤ many / per
 div_grows few many per some more = div_least (few / per) many per some (let it = div_most (few / per) few per some (omega arith) in omega (arith, it, more))
 
 -- so many nodes were written for the first time, of those that edits may write and so many more
@@ -188,6 +188,9 @@ leaves_less edits beside rest file a large less had =
 
 pub left_less : (v : Volume) (a : Space) (edits beside : ℕ) → (IsTrue a.tells → 4096 ≤ v.catalog.file.shape.node_size) → HasEditsLeft edits (catalog_node v + beside) v a → HasEditsLeft edits beside v a
 left_less v a edits beside large had = record { told = λ tells. leaves_less edits (catalog_node v + beside) beside v.catalog.file a (large tells) (omega arith) (had.told tells) }
+
+pub left_fewer : (v : Volume) (a : Space) (edits beside rest : ℕ) → (IsTrue a.tells → 4096 ≤ v.catalog.file.shape.node_size) → rest ≤ beside → HasEditsLeft edits beside v a → HasEditsLeft edits rest v a
+left_fewer v a edits beside rest large less had = record { told = λ tells. leaves_less edits beside rest v.catalog.file a (large tells) less (had.told tells) }
 
 -- it is told where the space tells
 pub left_as : (v : Volume) (a : Space) (edits beside rest : ℕ) → (IsTrue a.tells → beside ≡ rest) → HasEditsLeft edits beside v a → HasEditsLeft edits rest v a

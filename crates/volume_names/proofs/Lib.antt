@@ -32,7 +32,9 @@ pub mod PrivateOpened
 pub mod PrivateRecount
 pub mod PrivateSound
 pub mod Redating
+pub mod ReplaceLoads
 pub mod Righting
 pub mod RoomAfter
 pub mod Shared
+pub mod Taken
 pub mod Unlinked

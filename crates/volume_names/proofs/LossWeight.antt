@@ -47,6 +47,8 @@ use Rattle.volume_base.specs.declared.nodes.Node.TheVariants as node
 use Rattle.volume_base.specs.declared.reaching.Reached.{Reached}
 use Rattle.volume_base.specs.declared.reaching.Reached.TheVariants as reached_as
 use Rattle.volume_base.specs.declared.volume.Volume.{Volume}
+use Rattle.volume_base.specs.declared.weighing.Edits.{Edits as Asked}
+use Rattle.volume_names.specs.Moving.{replace_edits}
 use Rattle.volume_base.proofs.Listed.{entries_are, nodes_are}
 use Rattle.volume_base.proofs.Loads.{counts_edits, growth_any}
 use Rattle.volume_base.proofs.Lost.{is_loss, link_name, lost}
@@ -56,7 +58,7 @@ use Rattle.volume_base.proofs.Rising.{settled_is_plain, settled_sorted}
 use Rattle.volume_base.proofs.Siting.{front_walk}
 use Rattle.volume_base.proofs.Walked.{Agree}
 use Rattle.volume_names.specs.LinkLoads.{PutsItsLoad}
-use Rattle.volume_names.specs.LossLoads.{SpendsFor, SpendsLoss, SpendsName, SpendsShared}
+use Rattle.volume_names.specs.LossLoads.{AsLinkLost, AsLost, AsNameLost, SpendsFor, SpendsLoss, loss_edits}
 use Rattle.volume_names.specs.Unlinking.{links_in}
 use Rattle.volume_names.proofs.LastFile.{other_record}
 
@@ -144,6 +146,20 @@ few_is k low = grind (arith, low)
 private_is : (content : Content) → (tree_of content).has_private ≡ is_some (private_id (records_of (volume_of content)))
 unfolding tree_of tree_in
 private_is content = refl
+
+-- the edits of a `mv` over a file
+abbrev replaced : ℕ → ℕ → Asked
+replaced ids catalog = record { ids = ids; catalog = catalog; attributes = 0; updates = 6 }
+
+-- they are asked for with six updates
+pub replace_updates : (private : Option ℕ) (link : Bool) (links : ℕ) → (replace_edits private link links).updates ≡ 6
+replace_updates private true links = by (nat_lt 1 links)
+  where
+    by : (b : Bool) → (if b then replaced 0 5 else replaced 0 8).updates ≡ 6
+    by true = refl
+    by false = refl
+replace_updates None false links = refl
+replace_updates (Some id) false links = refl
 
 -- ---- the load
 
@@ -236,42 +252,79 @@ module _ (law : SoundHasPlainTree) (v : Volume) (a : Space) (was : IsStanding v 
         let it = here (node.File walk.file false) (own_itself pairs v.private walk.file (sym walk.link ∙ none)) in
         edits_are false false (ap (nat_lt 1) (ap (λ (m : PlainNode). names_of tree m.id) it.is ∙ it.counts)) (ap (λ (m : PlainNode). m.linked) it.is)
 
-    name_load : (b : Space) → at.link ≡ false → SpendsName v a b → PutsItsLoad (command.Rm path) v a b
-    name_load b none spends = elim spends [
-      | inl it ↦ spent_for v a settled path 0 3 b (alone none ∙ ap (λ (t : Bool). edits (if t then 0 else 1) (3 + 2 * (if t then 0 else 1)) 0 4) it.0) it.1
-      | inr it ↦ spent_for v a settled path 1 5 b (alone none ∙ ap (λ (o : Option ℕ). edits (if is_some o then 0 else 1) (3 + 2 * (if is_some o then 0 else 1)) 0 4) it.0) it.1
-    ]
+    -- a name that is a link leads to a file that is shared
+    module _ (linked : at.link ≡ true) where
+      for : Stands pairs v.private walk.file
+      for = stands_for pairs v.private walk.file
 
-    link_load : (b : Space) → at.link ≡ true → SpendsShared entry.id v a b → PutsItsLoad (command.Rm path) v a b
-    link_load b linked spends = by for.linked refl (here (node.File for.own for.linked) for.is)
-      where
-        for : Stands pairs v.private walk.file
-        for = stands_for pairs v.private walk.file
+      link : NamesLink (place_of at name) pairs
+      link = link_name pairs above name at (sym found ∙ is) linked
 
-        link : NamesLink (place_of at name) pairs
-        link = link_name pairs above name at (sym found ∙ is) linked
+      link_value : link.entry.value ≡ File walk.file
+      link_value = ap (record_or link.entry.value) (sym (ap (option_map (λ (p : Placed). p.value)) link.found) ∙ walk.value)
 
-        link_value : link.entry.value ≡ File walk.file
-        link_value = ap (record_or link.entry.value) (sym (ap (option_map (λ (p : Placed). p.value)) link.found) ∙ walk.value)
+      shared : IsIt (node.File for.own true) there.0
+      shared = by for.linked refl (here (node.File for.own for.linked) for.is)
+        where
+          by : (l : Bool) → for.linked ≡ l → IsIt (node.File for.own l) there.0 → IsIt (node.File for.own true) there.0
+          by false kind it =
+              let its : id_of it.entry ≡ for.own.fields.id = ap id_in it.value in
+              absurd (other_record v a settled was path entry (place_of at name) loss link entry.id refl next_fits it.entry it.stands (its ∙ sym (ap (λ (m : PlainNode). m.id) it.is) ∙ number)
+              (its ∙ for.alone kind ∙ sym (ap id_in link_value)))
+          by true kind it = it
 
-        by : (l : Bool) → for.linked ≡ l → IsIt (node.File for.own l) there.0 → PutsItsLoad (command.Rm path) v a b
-        by false kind it =
-            let its : id_of it.entry ≡ for.own.fields.id = ap id_in it.value in
-            absurd (other_record v a settled was path entry (place_of at name) loss link entry.id refl next_fits it.entry it.stands (its ∙ sym (ap (λ (m : PlainNode). m.id) it.is) ∙ number)
-            (its ∙ for.alone kind ∙ sym (ap id_in link_value)))
-        by true kind it =
-            let its : id_of it.entry ≡ entry.id = ap id_in it.value ∙ sym (ap (λ (m : PlainNode). m.id) it.is) ∙ number in
-            let one : spends.file ≡ it.entry = same_entry (volume_of a.content).head.next_catalog_id (entries_of (records_of (volume_of a.content))) settled.sound.entries.ids spends.file it.entry spends.stands it.stands (spends.number ∙ sym its) in
-            let links : links_in spends.file.value ≡ for.own.fields.special = ap (λ (p : Placed). links_in p.value) one ∙ ap links_in it.value in
-            let names : names_of tree there.0.id ≡ links_in spends.file.value = ap (λ (m : PlainNode). names_of tree m.id) it.is ∙ it.counts ∙ sym links in
-            elim spends.spends [
-              | inl two ↦ spent_for v a settled path 0 2 b (edits_are true true (ap (nat_lt 1) names ∙ more_is (links_in spends.file.value) two.0) (ap (λ (m : PlainNode). m.linked) it.is)) two.1
-              | inr five ↦ spent_for v a settled path 0 5 b (edits_are false true (ap (nat_lt 1) names ∙ few_is (links_in spends.file.value) five.0) (ap (λ (m : PlainNode). m.linked) it.is)) five.1
-            ]
+      is_shared : there.0.linked ≡ true
+      is_shared = ap (λ (m : PlainNode). m.linked) shared.is
+
+    module _ (holds : ℕ → Type 0) where
+      name_edits : at.link ≡ false → AsNameLost holds v → (ids made : ℕ) × (edits_of tree (command.Rm path) ≡ edits ids made 0 4) × holds made
+      name_edits none lost = elim lost [
+        | inl it ↦ (0, 3, alone none ∙ ap (λ (t : Bool). edits (if t then 0 else 1) (3 + 2 * (if t then 0 else 1)) 0 4) it.0, it.1)
+        | inr it ↦ (1, 5, alone none ∙ ap (λ (o : Option ℕ). edits (if is_some o then 0 else 1) (3 + 2 * (if is_some o then 0 else 1)) 0 4) it.0, it.1)
+      ]
+
+      link_edits : at.link ≡ true → AsLinkLost holds entry.id a.content → (ids made : ℕ) × (edits_of tree (command.Rm path) ≡ edits ids made 0 4) × holds made
+      link_edits linked lost =
+          let it = shared linked in
+          let its : id_of it.entry ≡ entry.id = ap id_in it.value ∙ sym (ap (λ (m : PlainNode). m.id) it.is) ∙ number in
+          let one : lost.file ≡ it.entry = same_entry (volume_of a.content).head.next_catalog_id (entries_of (records_of (volume_of a.content))) settled.sound.entries.ids lost.file it.entry lost.stands it.stands (lost.number ∙ sym its) in
+          let links : links_in lost.file.value ≡ (for linked).own.fields.special = ap (λ (p : Placed). links_in p.value) one ∙ ap links_in it.value in
+          let names : names_of tree there.0.id ≡ links_in lost.file.value = ap (λ (m : PlainNode). names_of tree m.id) it.is ∙ it.counts ∙ sym links in
+          elim lost.spends [
+            | inl two ↦ (0, 2, edits_are true true (ap (nat_lt 1) names ∙ more_is (links_in lost.file.value) two.0) (is_shared linked), two.1)
+            | inr five ↦ (0, 5, edits_are false true (ap (nat_lt 1) names ∙ few_is (links_in lost.file.value) five.0) (is_shared linked), five.1)
+          ]
+
+      -- what is told of the edits by which the name goes is told of those that its weight counts
+      edits_told : AsLost holds at.link entry.id v a.content → (ids made : ℕ) × (edits_of tree (command.Rm path) ≡ edits ids made 0 4) × holds made
+      edits_told = by at.link refl
+        where
+          by : (l : Bool) → at.link ≡ l → AsLost holds l entry.id v a.content → (ids made : ℕ) × (edits_of tree (command.Rm path) ≡ edits ids made 0 4) × holds made
+          by true linked lost = link_edits linked lost
+          by false none lost = name_edits none lost
+
+      pub loss_counted : AsLost holds at.link entry.id v a.content → holds (loss_edits tree path)
+      loss_counted lost = let it = edits_told lost in subst holds (sym (ap (λ (k : Edits). k.catalog) it.2)) it.3
+
+    -- what a `mv` over it is asked to have room for
+    module _ (links : ℕ) (told : links ≡ names_of tree entry.id) where
+      by_names : (more : Bool) → nat_lt 1 links ≡ more → (replace_edits v.private true links).catalog ≡ (if more then edits 0 2 0 4 else edits 0 5 0 4).catalog + 3
+      by_names true is = ap (λ (b : Bool). (if b then replaced 0 5 else replaced 0 8).catalog) is
+      by_names false is = ap (λ (b : Bool). (if b then replaced 0 5 else replaced 0 8).catalog) is
+
+      by_private : (private : Option ℕ) → (replace_edits private false links).catalog ≡ 3 + 2 * (if is_some private then 0 else 1) + 3
+      by_private None = refl
+      by_private (Some id) = refl
+
+      by_link : (l : Bool) → at.link ≡ l → (replace_edits v.private l links).catalog ≡ loss_edits tree path + 3
+      by_link true linked =
+          by_names (nat_lt 1 links) refl
+          ∙ (λ i. (if nat_lt 1 ((told ∙ ap (names_of tree) (sym number)) i) then edits 0 2 0 4 else edits 0 5 0 4).catalog + 3)
+          ∙ sym (ap (λ (k : Edits). k.catalog + 3) (edits_are (nat_lt 1 (names_of tree there.0.id)) true refl (is_shared linked)))
+      by_link false none = by_private v.private ∙ sym (ap (λ (k : Edits). k.catalog + 3) (alone none))
+
+      pub replaces_counted : (replace_edits v.private at.link links).catalog ≡ loss_edits tree path + 3
+      replaces_counted = by_link at.link refl
 
     pub loss_load : (b : Space) → SpendsLoss at.link entry.id v a b → PutsItsLoad (command.Rm path) v a b
-    loss_load b = by at.link refl
-      where
-        by : (l : Bool) → at.link ≡ l → SpendsLoss l entry.id v a b → PutsItsLoad (command.Rm path) v a b
-        by true linked spends = link_load b linked spends
-        by false none spends = name_load b none spends
+    loss_load b lost = let it = edits_told (λ made. SpendsFor made v a b) lost in spent_for v a settled path it.0 it.1 b it.2 it.3

@@ -1,5 +1,5 @@
 -- `mv`: where the entry was moved, both folders count it, and what was moved is dated, the volume is settled again, and its tree is the step's.
-use Rattle.std.proofs.Common.{◌≡◌, ◌<◌, ◌≤◌, ℕ, ◌+◌, ◌^◌, Bool, true, false, List, [], ◌∷◌, eq-eqb, refl, sym, ◌∙◌, ap, subst, arith, ⊎_elim}
+use Rattle.std.proofs.Common.{◌≡◌, ◌<◌, ◌≤◌, ℕ, ◌+◌, ◌^◌, Bool, true, false, List, [], ◌∷◌, eq-eqb, inl, refl, sym, ◌∙◌, ap, subst, arith, ⊎_elim}
 use Rattle.std.specs.Prelude.{Contains, ◌==◌, ◌&&◌, IsTrue, None, Ok}
 use Rattle.std.specs.Str.{bytes_eq}
 use Rattle.std.proofs.lemmas.Bool.{and_parts, eqb-true, true≢false}
@@ -324,7 +324,7 @@ module _ (v : Volume) (a : Space) (settled : IsSettled v a.content) (was : IsSta
           }
 
           does : IsSoundVolume (lists_then a.content u e.content) × (tree_in (lists_then a.content u e.content) (file_bytes a.content) ≡ (step (tree_in (volume_of a.content) (file_bytes a.content)) (command.Mv from to)).1)
-          does = law from to at (free_place folder name) (volume_of a.content) (lists_then a.content u e.content) (file_bytes a.content) (file_bytes_are a.content) settled.sound move.goal_not_own move.goal_named allowed moves_name
+          does = law from to at (free_place folder name) (volume_of a.content) (lists_then a.content u e.content) (file_bytes a.content) (file_bytes_are a.content) settled.sound move.goal_not_own move.goal_named allowed (inl (refl, moves_name))
 
           changes : ChangesCatalog v u a.content e.content
           changes = changes_both v y u a.content d e.content (changes_both v x y a.content c d (changes_both v w x a.content b c moves.changes first.changes) second.changes) dates.changes

@@ -21,6 +21,15 @@ Leaves edits beside file space = (beside ≤ space.spare) × EditRoom edits 516 
 pub record HasEditsLeft (edits beside : ℕ) (volume : Volume) (space : Space) : Type 0 where
   pub told : IsTrue space.tells → Leaves edits beside volume.catalog.file space
 
+-- Edits that had room beside a node more than some sectors have room beside these still.
+abbrev pub LeavesBeside : Volume → Space → Volume → Space → Type 0
+LeavesBeside from before to after = (edits beside : ℕ) → HasEditsLeft edits (catalog_node from + beside) from before → HasEditsLeft edits beside to after
+
+-- The catalog's nodes are as large, and other edits that had room with so many, beside so many nodes and some sectors more, have room beside these still.
+abbrev pub LeavesBehind : (edits updates : ℕ) → Volume → Space → Volume → Space → Type 0
+LeavesBehind edits updates from before to after =
+    (catalog_node to ≡ catalog_node from) × ((others beside : ℕ) → HasEditsLeft (edits + others) (updates * catalog_node from + beside) from before → HasEditsLeft others beside to after)
+
 -- Where the space tells, the load of so many edits of the catalog has room beside so many sectors for other puts; they make the tree neither too deep nor
 -- too full of records, and it needn't grow before.
 pub record HasLoadFor (edits beside : ℕ) (volume : Volume) (space : Space) : Type 0 where

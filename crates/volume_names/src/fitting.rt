@@ -1,18 +1,30 @@
 //! Whether there is room for a command now, by what its edits cost.
-ghost use Rattle.std.specs.Prelude.{◌≡◌, ◌<◌, ◌+◌, ◌*◌, ◌^◌, ◌==◌, false, None, IsTrue};
+ghost use Rattle.std.specs.Prelude.{◌≡◌, ◌<◌, ◌+◌, ◌*◌, ◌^◌, ◌==◌, false, None, Ok, IfOk, IsTrue};
+ghost use Rattle.hfs_language.specs.Written.{FitsPath};
+ghost use Rattle.hfs_model.specs.Plain.{names_of};
+ghost use Rattle.hfs_model.specs.Step.{is_private_path, reached};
+ghost use Rattle.hfs_model.specs.declared.plain.PlainEntry.{PlainEntry};
 ghost use Rattle.hfs_volume.specs.Content.{has_attributes};
+ghost use Rattle.hfs_volume.specs.TreeOf.{tree_of};
 ghost use Rattle.volume_base.specs.Attributing.{HasRoomToMark};
 ghost use Rattle.volume_base.specs.Fitting.{AreMet, wants};
-ghost use Rattle.volume_base.specs.Frame.{Serves};
+ghost use Rattle.volume_base.specs.Frame.{Looked, Serves};
 ghost use Rattle.volume_base.specs.Losing.{HasRoomToLose};
-ghost use Rattle.volume_base.specs.Making.{HasRoomToMake};
+ghost use Rattle.volume_base.specs.Making.{HasRoomToMake, path_to};
 ghost use Rattle.volume_base.specs.Moving.{HasRoomToMove};
 ghost use Rattle.volume_base.specs.Removing.{HasRoomToBare};
 ghost use Rattle.volume_base.specs.Changing.{catalog_node};
 ghost use Rattle.volume_names.specs.EditsLeft.{FirstLinkFits, HasLoadFor};
+ghost use Rattle.volume_names.specs.LossLoads.{loss_edits};
+ghost use Rattle.volume_names.specs.Moving.{replace_edits};
 ghost use Rattle.volume_base.specs.Unlinking.{HasRoomToUnlinkLast};
 
+use crate::losing::losing;
+use hfs_language::Path;
+use hfs_volume::sound_has_plain_tree;
+use hx_bytes::{Trouble, Units};
 use sector_disk::SectorSpace;
+use std::alloc::Global;
 use tree_weights::{a_load_is_of_parts, a_load_says_enough, edits_have_room};
 use volume_base::{Edits, Volume, has_sector, has_tree};
 
@@ -219,4 +231,74 @@ pub fn fits_setattr<P: SectorSpace>(volume: &Volume, space: &P) -> bool
         updates: 1,
     };
     volume.can_edit(space, edits)
+}
+
+/// The edits of a `mv` over a file with so many names, where the name that goes is a link or isn't: those by which it goes, and those of
+/// the move.
+fn replace_edits(private: Option<u32>, link: bool, links: u32) -> Edits
+    ensures same { result ≡ replace_edits private link links }
+    ensures none { result.attributes ≡ 0 }
+{
+    if link {
+        if links > 1 {
+            return Edits {
+                ids: 0,
+                catalog: 5,
+                attributes: 0,
+                updates: 6,
+            };
+        }
+        return Edits {
+            ids: 0,
+            catalog: 8,
+            attributes: 0,
+            updates: 6,
+        };
+    }
+    match private {
+        Some(_private) => Edits {
+            ids: 0,
+            catalog: 6,
+            attributes: 0,
+            updates: 6,
+        },
+        None => Edits {
+            ids: 1,
+            catalog: 8,
+            attributes: 0,
+            updates: 6,
+        },
+    }
+}
+
+/// Whether there is room for a `mv` over a file that has so many names.
+pub(crate) fn fits_replace<P: SectorSpace>(
+    volume: &mut Volume,
+    alloc: Global,
+    space: &mut P,
+    to: &Path,
+    under: &[Units],
+    name: &Units,
+    links: u32,
+) -> Result<bool, Trouble>
+    requires serves { Serves volume.old (P.SectorView.space space.old) }
+    requires split { to.now ≡ path_to under.now name.now }
+    requires fits { FitsPath to.now }
+    requires not_own { is_private_path to.now ≡ false }
+    requires counted { IsTrue (P.SectorView.space space.old).tells → (entry : PlainEntry) → reached (tree_of (P.SectorView.space space.old).content) to.now ≡ Ok entry → links ≡ names_of (tree_of (P.SectorView.space space.old).content) entry.id }
+    ensures room { IfOk result (λ fits. IsTrue fits → IsTrue (P.SectorView.space space.old).tells
+        → HasLoadFor (loss_edits (tree_of (P.SectorView.space space.old).content) to.now + 3) (1 + 6 * catalog_node volume.new) volume.new (P.SectorView.space space.new)) }
+    ensures looked { Looked P.SectorView.space P.SectorView.follows volume.old volume.new space.old space.new result }
+    ensures serves { Serves volume.new (P.SectorView.space space.new) }
+{
+    sound_has_plain_tree();
+    a_load_says_enough();
+    a_load_is_of_parts();
+    match losing(volume, alloc, space, under, name)? {
+        Ok(at) => {
+            let edits = replace_edits(volume.private, at.link, links);
+            Ok(volume.can_edit(space, edits))
+        }
+        Err(_why) => Ok(false),
+    }
 }

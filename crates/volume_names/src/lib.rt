@@ -24,9 +24,11 @@ mod private_folder;
 mod relocating;
 mod remove_room;
 mod removing;
+mod replacing;
 mod setting;
 mod sharing;
 mod stamping;
+mod touching;
 mod unlinking;
 mod valuing;
 

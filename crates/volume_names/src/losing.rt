@@ -20,9 +20,9 @@ ghost use Rattle.volume_names.specs.Losing.{Buries, HasLost, Hides, Loses, Loses
 ghost use Rattle.volume_base.specs.Losing.{HasRoomToLose, IsLoss, IsOnlyName, losing_under, place_of, to_lose};
 ghost use Rattle.volume_base.specs.Making.{HasRoomToMake, path_to};
 ghost use Rattle.volume_base.specs.Moving.{leave_load};
-ghost use Rattle.volume_names.specs.EditsLeft.{HasEditsLeft};
+ghost use Rattle.volume_names.specs.EditsLeft.{HasEditsLeft, LeavesBehind};
 ghost use Rattle.volume_names.specs.LinkLoads.{PutsItsLoad};
-ghost use Rattle.volume_names.specs.LossLoads.{NoneOr, SpendsFor, SpendsLoss, SpendsShared};
+ghost use Rattle.volume_names.specs.LossLoads.{LeavesLoss, LeavesOthers, LeavesShared, NoneOr, SpendsFor, SpendsLoss, SpendsShared, loss_edits};
 ghost use Rattle.volume_base.specs.Removing.{HasRoomToRemove};
 ghost use Rattle.volume_base.specs.Standing.{IsSettled};
 ghost use Rattle.volume_names.specs.Unlinking.{LosesLink};
@@ -30,6 +30,7 @@ ghost use Rattle.volume_names.specs.Unlinking.{LosesLink};
 use crate::fitting::{fits_aside, fits_move};
 use crate::orphaning::set_aside;
 use crate::private_folder::open_private;
+use crate::touching::touch;
 use crate::unlinking::lose_one;
 use btree_edit::Desk;
 use btree_file::TreeFile;
@@ -112,7 +113,7 @@ fn place_of(alloc: Global, at: Losing, name: &Units) -> Result<EntryAt, OutOfMem
 }
 
 /// The file of this name in the folder that a path reaches, or the first reason against its removal.
-fn losing<P: SectorSpace>(
+pub(crate) fn losing<P: SectorSpace>(
     volume: &mut Volume,
     alloc: Global,
     space: &mut P,
@@ -160,10 +161,11 @@ fn hide<P: SectorSpace>(
     ensures size { OnOk result ((numbers_of volume.new.catalog.file).node_size ≡ (numbers_of volume.old.catalog.file).node_size) }
     // Sectors that its edits have room beside are left, on a fault too, but for those of an update.
     ensures leaves { IsTrue (P.SectorView.space space.old).tells → (beside : ℕ) → HasEditsLeft 3 beside volume.old (P.SectorView.space space.old) → beside ≤ (P.SectorView.space space.new).spare + catalog_node volume.old }
+    ensures left { OnOk result (LeavesBehind 3 1 volume.old (P.SectorView.space space.old) volume.new (P.SectorView.space space.new)) }
 {
     edits_take_their_load();
     set_aside(volume, alloc, space, private, at)?;
-    volume.touch(alloc, space, private, 1, 0)
+    touch(volume, alloc, space, private, 1, 0)
 }
 
 /// Removes the only name of a file, in a volume with a private folder: the file waits there to be removed. The volume is
@@ -189,6 +191,7 @@ fn bury<P: SectorSpace>(
     ensures edits { Edits P.SectorView.space P.SectorView.follows (leave_load volume.old + catalog_node volume.old) volume.old volume.new space.old space.new result }
     // Sectors that its edits have room beside are left, on a fault too, but for those of two updates.
     ensures leaves { IsTrue (P.SectorView.space space.old).tells → (beside : ℕ) → HasEditsLeft 3 beside volume.old (P.SectorView.space space.old) → beside ≤ (P.SectorView.space space.new).spare + 2 * catalog_node volume.old }
+    ensures left { IsTrue (P.SectorView.space space.old).tells → OnOk result (LeavesBehind 3 2 volume.old (P.SectorView.space space.old) volume.new (P.SectorView.space space.new)) }
 {
     rm_does_its_step();
     // The least node size that the format allows the catalog (TN1150, "Catalog File").
@@ -196,7 +199,7 @@ fn bury<P: SectorSpace>(
         return Ok(());
     }
     hide(volume, alloc, space, private, at)?;
-    volume.touch(alloc, space, at.parent, 0, 1)
+    touch(volume, alloc, space, at.parent, 0, 1)
 }
 
 /// Makes the private folder in a volume that has none, and puts a file aside into it that loses its only name. `Memory` is
@@ -219,6 +222,7 @@ fn bury_first<P: SectorSpace>(
         × Loses entry (P.SectorView.space space.old).content (P.SectorView.space space.new).content) }
     ensures edits { Edits P.SectorView.space P.SectorView.follows (P.SectorView.space space.old).spare volume.old volume.new space.old space.new result }
     ensures spends { IsTrue (P.SectorView.space space.old).tells → NoneOr (SpendsFor 5 volume.old (P.SectorView.space space.old) (P.SectorView.space space.new)) (P.SectorView.space space.old) (P.SectorView.space space.new) }
+    ensures leaves { IsTrue (P.SectorView.space space.old).tells → OnOk result (LeavesOthers 5 volume.old (P.SectorView.space space.old) volume.new (P.SectorView.space space.new)) }
 {
     header_may_change();
     rm_does_its_step();
@@ -254,6 +258,7 @@ fn lose_link<P: SectorSpace>(
         × LosesLink entry (P.SectorView.space space.old).content (P.SectorView.space space.new).content) }
     ensures edits { Edits P.SectorView.space P.SectorView.follows (P.SectorView.space space.old).spare volume.old volume.new space.old space.new result }
     ensures spends { IsTrue (P.SectorView.space space.old).tells → (entry : PlainEntry) → IsLoss (tree_of (P.SectorView.space space.old).content) path.now entry (place_of at name.now) → NoneOr (SpendsShared entry.id volume.old (P.SectorView.space space.old) (P.SectorView.space space.new)) (P.SectorView.space space.old) (P.SectorView.space space.new) }
+    ensures leaves { IsTrue (P.SectorView.space space.old).tells → (entry : PlainEntry) → IsLoss (tree_of (P.SectorView.space space.old).content) path.now entry (place_of at name.now) → OnOk result (LeavesShared entry.id volume.old (P.SectorView.space space.old) volume.new (P.SectorView.space space.new)) }
 {
     sound_has_plain_tree();
     match volume.owner(alloc, space, path)? {
@@ -288,6 +293,7 @@ fn lose<P: SectorSpace>(
         × LosesName entry (P.SectorView.space space.old).content (P.SectorView.space space.new).content) }
     ensures edits { Edits P.SectorView.space P.SectorView.follows (P.SectorView.space space.old).spare volume.old volume.new space.old space.new result }
     ensures spends { IsTrue (P.SectorView.space space.old).tells → (entry : PlainEntry) → IsLoss (tree_of (P.SectorView.space space.old).content) path.now entry (place_of at name.now) → NoneOr (SpendsLoss at.link entry.id volume.old (P.SectorView.space space.old) (P.SectorView.space space.new)) (P.SectorView.space space.old) (P.SectorView.space space.new) }
+    ensures leaves { IsTrue (P.SectorView.space space.old).tells → (entry : PlainEntry) → IsLoss (tree_of (P.SectorView.space space.old).content) path.now entry (place_of at name.now) → OnOk result (LeavesLoss at.link entry.id volume.old (P.SectorView.space space.old) volume.new (P.SectorView.space space.new)) }
 {
     edits_have_room();
     if at.link {
@@ -329,6 +335,8 @@ fn rm_under<P: SectorSpace>(
     ensures serves { OnOk result (Serves volume.new (P.SectorView.space space.new)) }
     ensures edits { Edits P.SectorView.space P.SectorView.follows (P.SectorView.space space.old).spare volume.old volume.new space.old space.new result }
     ensures loads { IsTrue (P.SectorView.space space.old).tells → PutsItsLoad (command.Rm (path_to above.now name.now)) volume.old (P.SectorView.space space.old) (P.SectorView.space space.new) }
+    ensures spends { IsTrue (P.SectorView.space space.old).tells → NoneOr (SpendsFor (loss_edits (tree_of (P.SectorView.space space.old).content) (path_to above.now name.now)) volume.old (P.SectorView.space space.old) (P.SectorView.space space.new)) (P.SectorView.space space.old) (P.SectorView.space space.new) }
+    ensures leaves { IsTrue (P.SectorView.space space.old).tells → IfOk result (λ said. said ≡ reply.Ok → LeavesOthers (loss_edits (tree_of (P.SectorView.space space.old).content) (path_to above.now name.now)) volume.old (P.SectorView.space space.old) volume.new (P.SectorView.space space.new)) }
 {
     sound_has_plain_tree();
     match losing(volume, alloc, space, above, name)? {
@@ -365,6 +373,9 @@ pub fn rm<P: SectorSpace>(
     ensures edits { Edits P.SectorView.space P.SectorView.follows (P.SectorView.space space.old).spare volume.old volume.new space.old space.new result }
     // On a fault too, it puts no more sectors than its load names.
     ensures loads { IsTrue (P.SectorView.space space.old).tells → PutsItsLoad (command.Rm path.now) volume.old (P.SectorView.space space.old) (P.SectorView.space space.new) }
+    // Nor more than its edits take, which it names; behind it other edits have the room that they had ahead of it with these.
+    ensures spends { IsTrue (P.SectorView.space space.old).tells → NoneOr (SpendsFor (loss_edits (tree_of (P.SectorView.space space.old).content) path.now) volume.old (P.SectorView.space space.old) (P.SectorView.space space.new)) (P.SectorView.space space.old) (P.SectorView.space space.new) }
+    ensures leaves { IsTrue (P.SectorView.space space.old).tells → IfOk result (λ said. said ≡ reply.Ok → LeavesOthers (loss_edits (tree_of (P.SectorView.space space.old).content) path.now) volume.old (P.SectorView.space space.old) volume.new (P.SectorView.space space.new)) }
 {
     if is_private_path(path) {
         return Ok(Reply::No(Refusal::Private));

@@ -19,8 +19,8 @@ ghost use Rattle.volume_names.specs.Linking.{CountsUp};
 ghost use Rattle.volume_base.specs.Frame.{Edits, Serves};
 ghost use Rattle.volume_base.specs.Lists.{lists_of};
 ghost use Rattle.volume_base.specs.Losing.{IsLoss};
-ghost use Rattle.volume_names.specs.EditsLeft.{HasEditsLeft, HasLoadFor};
-ghost use Rattle.volume_names.specs.LossLoads.{NoneOr, SpendsFor, SpendsShared};
+ghost use Rattle.volume_names.specs.EditsLeft.{HasEditsLeft, HasLoadFor, LeavesBeside};
+ghost use Rattle.volume_names.specs.LossLoads.{LeavesOthers, LeavesShared, NoneOr, SpendsFor, SpendsShared};
 ghost use Rattle.volume_base.specs.Making.{entry_load};
 ghost use Rattle.volume_base.specs.Removing.{HasRoomToRemove};
 ghost use Rattle.volume_base.specs.Standing.{IsSettled, StandsOver};
@@ -29,6 +29,7 @@ ghost use Rattle.volume_base.specs.Unlinking.{HasRoomToUnlinkLast};
 
 use crate::fitting::fits_unlink_last;
 use crate::orphaning::set_aside;
+use crate::touching::touch;
 use cat_records::{CatRecord, EntryFields, FileRecord};
 use hard_links::EntryAt;
 use hfs_volume::rm_does_its_step;
@@ -96,10 +97,10 @@ fn drop_name<P: SectorSpace>(
     ensures size { OnOk result ((numbers_of volume.new.catalog.file).node_size ≡ (numbers_of volume.old.catalog.file).node_size) }
     // What is left of the room for five edits suffices for three.
     ensures more { HasRoomToUnlinkLast volume.old (P.SectorView.space space.old) → OnOk result ((names : List ℕ) → IsTrue (P.SectorView.space space.new).tells → EditRoom 3 516 (state_of names volume.new.catalog.file (P.SectorView.space space.new))) }
-    // Sectors that the load of five edits has room beside are left beside three.
-    ensures leaves { (beside : ℕ) → HasLoadFor 5 (1 + beside) volume.old (P.SectorView.space space.old) → OnOk result (HasEditsLeft 3 beside volume.new (P.SectorView.space space.new)) }
+    // Where the load of two edits more has room beside the header's sector and these sectors, the others have room beside these behind it.
+    ensures leaves { (edits beside : ℕ) → HasLoadFor (2 + edits) (1 + beside) volume.old (P.SectorView.space space.old) → OnOk result (HasEditsLeft edits beside volume.new (P.SectorView.space space.new)) }
     // On a fault too, these sectors are left.
-    ensures beside { (beside : ℕ) → HasLoadFor 5 (1 + beside) volume.old (P.SectorView.space space.old) → IsTrue (P.SectorView.space space.old).tells → beside ≤ (P.SectorView.space space.new).spare }
+    ensures beside { (edits beside : ℕ) → HasLoadFor (2 + edits) (1 + beside) volume.old (P.SectorView.space space.old) → IsTrue (P.SectorView.space space.old).tells → beside ≤ (P.SectorView.space space.new).spare }
     ensures edits { Edits P.SectorView.space P.SectorView.follows (1 + entry_load volume.old) volume.old volume.new space.old space.new result }
 {
     edits_have_room();
@@ -128,6 +129,7 @@ pub(crate) fn put_links<P: SectorSpace>(
     ensures counts { IsTrue (P.SectorView.space space.old).tells → is_file entry.now.rec ≡ true → is_plain entry.now.rec ≡ true
         → OnOk result (SaysLinks (id_in entry.now.rec) links (links_in entry.now.rec) volume.old volume.new (P.SectorView.space space.old).content (P.SectorView.space space.new).content) }
     ensures edits { Edits P.SectorView.space P.SectorView.follows (catalog_node volume.old) volume.old volume.new space.old space.new result }
+    ensures left { OnOk result (LeavesBeside volume.old (P.SectorView.space space.old) volume.new (P.SectorView.space space.new)) }
 {
     let Some(rec) = relinked(volume.header.modify_date, links, &entry.rec) else {
         return Ok(());
@@ -151,6 +153,7 @@ fn put_link_less<P: SectorSpace>(
     ensures counts { IsTrue (P.SectorView.space space.old).tells → is_file entry.now.rec ≡ true → is_plain entry.now.rec ≡ true
         → OnOk result (CountsDown (id_in entry.now.rec) volume.old volume.new (P.SectorView.space space.old).content (P.SectorView.space space.new).content) }
     ensures edits { Edits P.SectorView.space P.SectorView.follows (catalog_node volume.old) volume.old volume.new space.old space.new result }
+    ensures left { OnOk result (LeavesBeside volume.old (P.SectorView.space space.old) volume.new (P.SectorView.space space.new)) }
 {
     let links = links_in(&entry.rec);
     if links < 2 {
@@ -197,6 +200,7 @@ fn count_down<P: SectorSpace>(
     requires room { HasRoomToUpdate volume.old (P.SectorView.space space.old) }
     ensures counts { IsTrue (P.SectorView.space space.old).tells → OnOk result (CountsDown id volume.old volume.new (P.SectorView.space space.old).content (P.SectorView.space space.new).content) }
     ensures edits { Edits P.SectorView.space P.SectorView.follows (catalog_node volume.old) volume.old volume.new space.old space.new result }
+    ensures left { OnOk result (LeavesBeside volume.old (P.SectorView.space space.old) volume.new (P.SectorView.space space.new)) }
 {
     match volume.entry(alloc, space, id)? {
         Some(entry) => put_link_less(volume, alloc, space, &entry),
@@ -223,6 +227,7 @@ fn unlink<P: SectorSpace>(
         → OnOk result (IsSettled volume.new (P.SectorView.space space.new).content × (tree_of (P.SectorView.space space.new).content ≡ (step (tree_of (P.SectorView.space space.old).content) (command.Rm path)).1)
         × Unlinks entry (P.SectorView.space space.old).content (P.SectorView.space space.new).content) }
     ensures edits { Edits P.SectorView.space P.SectorView.follows (1 + entry_load volume.old + 2 * catalog_node volume.old) volume.old volume.new space.old space.new result }
+    ensures leaves { IsTrue (P.SectorView.space space.old).tells → OnOk result (LeavesOthers 2 volume.old (P.SectorView.space space.old) volume.new (P.SectorView.space space.new)) }
 {
     rm_does_its_step();
     // The least node size that the format allows the catalog (TN1150, "Catalog File").
@@ -234,7 +239,7 @@ fn unlink<P: SectorSpace>(
     if !volume.fits_update(space) {
         return Err(Trouble::Memory);
     }
-    volume.touch(alloc, space, at.parent, 0, 1)
+    touch(volume, alloc, space, at.parent, 0, 1)
 }
 
 /// Removes the last link to a file, whose record stands at a place in the private folder: it waits there to be removed. `Memory`
@@ -263,6 +268,7 @@ fn unlink_last<P: SectorSpace>(
         × UnlinksLast entry (P.SectorView.space space.old).content (P.SectorView.space space.new).content) }
     ensures edits { Edits P.SectorView.space P.SectorView.follows (P.SectorView.space space.old).spare volume.old volume.new space.old space.new result }
     ensures spends { IsTrue (P.SectorView.space space.old).tells → NoneOr (SpendsFor 5 volume.old (P.SectorView.space space.old) (P.SectorView.space space.new)) (P.SectorView.space space.old) (P.SectorView.space space.new) }
+    ensures leaves { IsTrue (P.SectorView.space space.old).tells → OnOk result (LeavesOthers 5 volume.old (P.SectorView.space space.old) volume.new (P.SectorView.space space.new)) }
 {
     rm_does_its_step();
     // The least node size that the format allows the catalog (TN1150, "Catalog File").
@@ -277,7 +283,7 @@ fn unlink_last<P: SectorSpace>(
     if !volume.fits_update(space) {
         return Err(Trouble::Memory);
     }
-    volume.touch(alloc, space, at.parent, 0, 1)
+    touch(volume, alloc, space, at.parent, 0, 1)
 }
 
 /// Removes a link to a file that was found by its CNID.
@@ -302,6 +308,7 @@ fn lose_one_of<P: SectorSpace>(
         × LosesLink entry (P.SectorView.space space.old).content (P.SectorView.space space.new).content) }
     ensures edits { Edits P.SectorView.space P.SectorView.follows (P.SectorView.space space.old).spare volume.old volume.new space.old space.new result }
     ensures spends { IsTrue (P.SectorView.space space.old).tells → NoneOr (SpendsShared id volume.old (P.SectorView.space space.old) (P.SectorView.space space.new)) (P.SectorView.space space.old) (P.SectorView.space space.new) }
+    ensures leaves { IsTrue (P.SectorView.space space.old).tells → OnOk result (LeavesShared id volume.old (P.SectorView.space space.old) volume.new (P.SectorView.space space.new)) }
 {
     if links_in(&file.rec) > 1 {
         return unlink(volume, alloc, space, id, at);
@@ -341,6 +348,7 @@ pub(crate) fn lose_one<P: SectorSpace>(
         × LosesLink entry (P.SectorView.space space.old).content (P.SectorView.space space.new).content) }
     ensures edits { Edits P.SectorView.space P.SectorView.follows (P.SectorView.space space.old).spare volume.old volume.new space.old space.new result }
     ensures spends { IsTrue (P.SectorView.space space.old).tells → NoneOr (SpendsShared id volume.old (P.SectorView.space space.old) (P.SectorView.space space.new)) (P.SectorView.space space.old) (P.SectorView.space space.new) }
+    ensures leaves { IsTrue (P.SectorView.space space.old).tells → OnOk result (LeavesShared id volume.old (P.SectorView.space space.old) volume.new (P.SectorView.space space.new)) }
 {
     match volume.entry(alloc, space, id)? {
         Some(file) => lose_one_of(volume, alloc, space, id, at, &file),

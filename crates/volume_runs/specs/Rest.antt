@@ -1,5 +1,5 @@
 -- Housekeeping that comes to rest, and what goes ahead of a command.
-use Rattle.std.specs.Prelude.{◌≡◌, ◌⊎◌, ℕ, ◌+◌, ◌*◌, min, true, false, List, Option, Some, None, Ok}
+use Rattle.std.specs.Prelude.{◌≡◌, ◌⊎◌, ◌<◌, ℕ, ◌+◌, ◌*◌, min, true, false, List, [], ◌∷◌, Option, Some, None, Ok}
 use Rattle.std.proofs.Common.{inl, inr}
 use Rattle.jnl_format.specs.Recovery.{Content}
 use Rattle.hfs_language.specs.declared.command.Command.{Command}
@@ -10,9 +10,9 @@ use Rattle.hfs_volume.specs.Content.{VolumeState, volume_of}
 use Rattle.hfs_volume.specs.Cost.{node_sectors, tree_at}
 use Rattle.hfs_volume.specs.Forks.{parts_for}
 use Rattle.hfs_volume.specs.declared.cost.Room.{Room}
-use Rattle.hfs_volume.specs.Reclaim.{CommandWants, CutsSurplus, GrowsTreeFirst, MarksHeader, Reclaim, Reclaims, StepWants, next_reclaim, reclaim_cost}
+use Rattle.hfs_volume.specs.Reclaim.{CommandWants, CutsSurplus, FillsZeros, GrowsTreeFirst, MarksHeader, Reclaim, Reclaims, StepWants, next_reclaim, reclaim_cost}
 use Rattle.hfs_volume.specs.TreeOf.{tree_of}
-use Rattle.hfs_volume.specs.Weight.{Data, data_of, needs_cut}
+use Rattle.hfs_volume.specs.Weight.{Data, data_of, most_zeros, needs_cut, weight, zero_blocks}
 
 -- ---- rest
 
@@ -57,12 +57,24 @@ pub record CutsFor (capacity : ℕ) (asked : Option Command) (old new : Content)
   pub cuts : CutsSurplus capacity old new
   pub file : file_written (data_of (tree_of old) own) ≡ Some cuts.id
 
+-- Free blocks were filled ahead of this command, which puts more zero blocks into a file than one step fills: its step doesn't refuse it, no blocks
+-- past the size stand in its way, and nothing is missing for the whole of it.
+pub record FillsFor (capacity : ℕ) (asked : Option Command) (old new : Content) : Type 0 where
+  pub own : Command
+  pub is_own : asked ≡ Some own
+  pub no_refusal : refuses (tree_of old) (Ok own) ≡ false
+  pub no_surplus : needs_cut (volume_of old) (data_of (tree_of old) own) ≡ false
+  pub load : ℕ
+  pub affords : weight capacity (volume_of old) (tree_of old) own ≡ cost.Load load (0 ∷ 0 ∷ 0 ∷ [])
+  pub many : most_zeros < zero_blocks (volume_of old).head.block_size (tree_of old) own
+  pub fills : FillsZeros old new
+
 -- one step of housekeeping ahead of this command, if there is one
 abbrev pub IsTidiedFor : ℕ → Option ℕ → Option Command → Content → Content → Type 0
 IsTidiedFor capacity shrunk asked old new =
-    Reclaims capacity shrunk old new ⊎ (CutsFor capacity asked old new ⊎ (GrowsFor capacity shrunk asked old new ⊎ MarksHeader old new))
+    Reclaims capacity shrunk old new ⊎ (CutsFor capacity asked old new ⊎ (GrowsFor capacity shrunk asked old new ⊎ (FillsFor capacity asked old new ⊎ MarksHeader old new)))
 
--- Steps of housekeeping ahead of this command, if there is one: nothing is cut and no tree grows for another command.
+-- Steps of housekeeping ahead of this command, if there is one: nothing is cut or filled and no tree grows for another command.
 pub data TidiesFor (capacity : ℕ) (shrunk : Option ℕ) (asked : Option Command) : Content → Content → Type 0 where
   no_step : (content : Content) → TidiesFor capacity shrunk asked content content
   one_step : (old between new : Content) → IsTidiedFor capacity shrunk asked old between → TidiesFor capacity shrunk asked between new → TidiesFor capacity shrunk asked old new

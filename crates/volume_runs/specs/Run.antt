@@ -1,5 +1,5 @@
 -- Runs: lines, each with its reply and the contents before and after it.
-use Rattle.std.specs.Prelude.{◌≡◌, ◌≢◌, ◌⊎◌, ◌<◌, ◌≤◌, ℕ, ◌+◌, nat_lt, Bool, true, false, List, [], ◌∷◌, ◌++◌, length, map, take, drop, slice_index, All, Option, Some, None, Result, Ok, Err, IsTrue, if◌then◌else◌}
+use Rattle.std.specs.Prelude.{◌≡◌, ◌≢◌, ◌⊎◌, ◌<◌, ◌≤◌, ℕ, ◌+◌, nat_lt, Bool, true, false, List, [], ◌∷◌, ◌++◌, length, map, take, drop, slice_index, All, Option, Some, None, Result, Ok, Err, IsTrue, ◌||◌, if◌then◌else◌}
 use Rattle.jnl_format.specs.Recovery.{Content}
 use Rattle.hfs_language.specs.Language.{command_of}
 use Rattle.hfs_language.specs.Text.{reply_text}
@@ -16,7 +16,7 @@ use Rattle.hfs_model.specs.Step.{step_line, refuses, to_file, only_reads}
 use Rattle.hfs_volume.specs.Content.{VolumeState, volume_of}
 use Rattle.hfs_volume.specs.Sound.{IsSound}
 use Rattle.hfs_volume.specs.TreeOf.{tree_of}
-use Rattle.hfs_volume.specs.Weight.{data_of, weight, gauge, edits_of, needs_cut}
+use Rattle.hfs_volume.specs.Weight.{changes_nothing, data_of, weight, gauge, edits_of, needs_cut}
 use Rattle.hfs_volume.specs.Data.{PutsInFork}
 use Rattle.hfs_volume.specs.Reclaim.{GrowsTrees}
 use Rattle.volume_runs.specs.Rest.{Rests}
@@ -52,7 +52,7 @@ pub record IsDone (capacity : ℕ) (asked : Command) (old new : Content) : Type 
   pub no_surplus : needs_cut (volume_of old) (data_of (tree_of old) asked) ≡ false
   pub grows : GrowsTrees (0 ∷ 0 ∷ 0 ∷ []) (volume_of old) (volume_of new)
   pub forks : PutsInFork (data_of (tree_of old) asked) (volume_of old) (volume_of new)
-  pub reads : IsTrue (only_reads asked) → new ≡ old
+  pub reads : IsTrue (only_reads asked || changes_nothing (tree_of old) asked) → new ≡ old
 
 -- what a line does to a content: nothing where it is refused
 abbrev pub DoesLine : ℕ → Result Command Refusal → Content → Content → Type 0

@@ -8,7 +8,7 @@ use Rattle.hfs_language.specs.declared.reply.ChangeKind.{ChangeKind}
 use Rattle.hfs_language.specs.declared.reply.ChangeKind.TheVariants as change
 use Rattle.hfs_model.specs.declared.plain.PlainEntry.{PlainEntry}
 use Rattle.hfs_model.specs.declared.plain.PlainTree.{PlainTree}
-use Rattle.hfs_model.specs.Step.{Place, to_make, to_rm, to_rmdir, to_mv, to_ln, reached}
+use Rattle.hfs_model.specs.Step.{Place, to_make, to_rm, to_rmdir, to_mv, to_ln, reached, is_same_file}
 use Rattle.volume_runs.specs.Run.{Entry, asked_by, is_ok}
 use Rattle.hfs_volume.specs.TreeOf.{tree_of}
 
@@ -26,10 +26,15 @@ abbrev pub of_made : ℕ → PlainTree → Result Place Refusal → List Change
 of_made line tree (Ok at) = of_place line change.Made tree.next_id at
 of_made line tree (Err why) = []
 
--- what watchers are told of an `mv` or `ln`
+-- what watchers are told of an `ln`, or of an `mv` that changes something
 abbrev pub of_pair : ℕ → ChangeKind → Result (PlainEntry × Place) Refusal → List Change
 of_pair line kind (Ok pair) = of_place line kind pair.0.id pair.1
 of_pair line kind (Err why) = []
+
+-- what watchers are told of an `mv`: nothing where a file is moved onto itself, and no removal of a file that it replaces
+abbrev pub of_moved : ℕ → Result (PlainEntry × Place) Refusal → List Change
+of_moved line (Ok pair) = if is_same_file pair.0 pair.1.found then [] else of_pair line change.Moved (Ok pair)
+of_moved line (Err why) = []
 
 -- what a command changes on a tree, where its step doesn't refuse it; for the root the parent is 1 and the name is empty
 abbrev pub changes_of : ℕ → PlainTree → Command → List Change
@@ -37,7 +42,7 @@ changes_of line tree (command.Mkdir path) = of_made line tree (to_make tree path
 changes_of line tree (command.Create path) = of_made line tree (to_make tree path)
 changes_of line tree (command.Rm path) = of_entry line change.Removed (to_rm tree path)
 changes_of line tree (command.Rmdir path) = of_entry line change.Removed (to_rmdir tree path)
-changes_of line tree (command.Mv from to) = of_pair line change.Moved (to_mv tree from to)
+changes_of line tree (command.Mv from to) = of_moved line (to_mv tree from to)
 changes_of line tree (command.Ln from to) = of_pair line change.Linked (to_ln tree from to)
 changes_of line tree (command.Write path from []) = []
 changes_of line tree (command.Write path from (byte ∷ value)) = of_entry line change.Content (reached tree path)

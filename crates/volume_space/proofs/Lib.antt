@@ -27,6 +27,8 @@ pub mod ExtentsGrownUnchanged
 pub mod ExtentsGrownWhole
 pub mod FewChanges
 pub mod FewerEdits
+pub mod Filled
+pub mod Filling
 mod Freed
 pub mod GivenBack
 pub mod GrownAhead

@@ -8,13 +8,13 @@ use Rattle.hfs_language.specs.declared.refusal.Refusal.TheVariants as refusal
 use Rattle.hfs_language.specs.declared.reply.Facts.{Facts}
 use Rattle.hfs_language.specs.declared.reply.Reply.TheVariants as reply
 use Rattle.hfs_model.specs.Plain.{entries_in}
-use Rattle.hfs_model.specs.Step.{Step, facts_of, is_private_path, is_refusal, most_bytes, most_growth, most_size, on, refuses, size_written, step, step_line, then_, to_file, to_node, to_size, to_write, unless, written}
+use Rattle.hfs_model.specs.Step.{Step, facts_of, is_private_path, is_refusal, most_bytes, most_size, on, refuses, size_written, step, step_line, then_, to_file, to_node, to_write, unless, written}
 use Rattle.hfs_model.specs.declared.plain.PlainNode.{PlainNode}
 use Rattle.hfs_model.specs.declared.plain.PlainTree.{PlainTree}
 use Rattle.hfs_volume.specs.Weight.{Data, data_of, grown_data, written_data}
 use Rattle.hfs_volume.proofs.Flat.{none_or_some, some_same}
 use Rattle.hfs_volume.proofs.Reaching.{then_ok, unless_ok}
-use Rattle.volume_base.specs.Refusing.{against_growth, against_trunc, against_write, facts_or}
+use Rattle.volume_base.specs.Refusing.{against_trunc, against_write, facts_or}
 use Rattle.volume_space.specs.Writing.{IsAt}
 use Rattle.volume_base.proofs.ToldFile.{IsAbout}
 use Rattle.volume_base.proofs.ToNode.{node_there}
@@ -32,7 +32,7 @@ not_more : (most n : ℕ) → nat_lt most n ≡ false → n ≤ most
 not_more most n is = ⊎_elim (λ more. absurd (true≢false (sym (lt-ltb most n more) ∙ is))) (λ less. less) (cases_lt most n)
 
 pub write_small : (from long : ℕ) (told : Facts) → None ≡ against_write from long told → from + long ≤ 2 ^ 40
-write_small from long told none = by told.folder (nat_lt most_size (from + long)) (nat_lt most_bytes long) refl (against_growth told.size (size_written told.size from long)) none
+write_small from long told none = by told.folder (nat_lt most_size (from + long)) (nat_lt most_bytes long) refl None none
   where
     by : (b c d : Bool) → nat_lt most_size (from + long) ≡ c → (rest : Option Refusal) → None ≡ (if b then Some refusal.IsFolder else if c || d then Some refusal.TooLarge else rest) → from + long ≤ 2 ^ 40
     by true c d is rest same = absurd (cc same)
@@ -40,7 +40,7 @@ write_small from long told none = by told.folder (nat_lt most_size (from + long)
     by false false d is rest same = not_more most_size (from + long) is
 
 pub trunc_small : (size : ℕ) (told : Facts) → None ≡ against_trunc size told → size ≤ 2 ^ 40
-trunc_small size told none = by told.folder (nat_lt most_size size) refl (against_growth told.size size) none
+trunc_small size told none = by told.folder (nat_lt most_size size) refl None none
   where
     by : (b c : Bool) → nat_lt most_size size ≡ c → (rest : Option Refusal) → None ≡ (if b then Some refusal.IsFolder else if c then Some refusal.TooLarge else rest) → size ≤ 2 ^ 40
     by true c is rest same = absurd (cc same)
@@ -129,25 +129,20 @@ module _ (tree : PlainTree) (path : List (List ℕ)) (from : ℕ) (value : List 
   done file = (reply.Ok, written file from value tree)
 
   abbrev goes : Result PlainNode Refusal → Step
-  goes r = on tree (then_ (then_ r (λ node. unless node.folder refusal.IsFolder node)) (λ file. then_ (unless (nat_lt most_size (from + length value) || nat_lt most_bytes (length value)) refusal.TooLarge file) (to_size (size_written (length file.bytes) from (length value)))))
+  goes r = on tree (then_ (then_ r (λ node. unless node.folder refusal.IsFolder node)) (unless (nat_lt most_size (from + length value) || nat_lt most_bytes (length value)) refusal.TooLarge))
       (λ (file : PlainNode). (reply.Ok, written file from value tree))
 
   pub write_refused_told : (told : Facts) → Ok told ≡ facts_or (step_line tree (Ok (command.Stat path))).0 → (why : Refusal) → Some why ≡ against_write from (length value) told
       → (reply.No why ≡ (step_line tree (Ok (command.Write path from value))).0) × (tree ≡ (step_line tree (Ok (command.Write path from value))).1)
   write_refused_told told is why stands = by_own (is_private_path path) is
     where
-      of_growth : (n : PlainNode) (b : Bool) → Some why ≡ (if b then Some refusal.GrowLimit else None) → on tree (if b then Err refusal.GrowLimit else Ok n) (λ (file : PlainNode). (reply.Ok, written file from value tree)) ≡ (reply.No why, tree)
-      of_growth n true same = ap (λ (w : Refusal). refused_step tree w) (sym (some_same why refusal.GrowLimit same))
-      of_growth n false same = absurd (none_or_some why (sym same))
-
-      of_size : (n : PlainNode) (b : Bool) → Some why ≡ (if b then Some refusal.TooLarge else against_growth (length n.bytes) (size_written (length n.bytes) from (length value)))
-          → on tree (then_ (if b then Err refusal.TooLarge else Ok n) (to_size (size_written (length n.bytes) from (length value)))) (λ (file : PlainNode). (reply.Ok, written file from value tree)) ≡ (reply.No why, tree)
+      of_size : (n : PlainNode) (b : Bool) → Some why ≡ (if b then Some refusal.TooLarge else None) → on tree (if b then Err refusal.TooLarge else Ok n) (λ (file : PlainNode). (reply.Ok, written file from value tree)) ≡ (reply.No why, tree)
       of_size n true same = ap (λ (w : Refusal). refused_step tree w) (sym (some_same why refusal.TooLarge same))
-      of_size n false same = of_growth n (nat_lt (length n.bytes + most_growth) (size_written (length n.bytes) from (length value))) same
+      of_size n false same = absurd (none_or_some why (sym same))
 
       of_folder : (n : PlainNode) (entries : ℕ) (b : Bool)
-          → Some why ≡ (if b then Some refusal.IsFolder else if nat_lt most_size (from + length value) || nat_lt most_bytes (length value) then Some refusal.TooLarge else against_growth (if b then entries else length n.bytes) (size_written (if b then entries else length n.bytes) from (length value)))
-          → on tree (then_ (if b then Err refusal.IsFolder else Ok n) (λ file. then_ (unless (nat_lt most_size (from + length value) || nat_lt most_bytes (length value)) refusal.TooLarge file) (to_size (size_written (length file.bytes) from (length value))))) (λ (file : PlainNode). (reply.Ok, written file from value tree)) ≡ (reply.No why, tree)
+          → Some why ≡ (if b then Some refusal.IsFolder else if nat_lt most_size (from + length value) || nat_lt most_bytes (length value) then Some refusal.TooLarge else None)
+          → on tree (then_ (if b then Err refusal.IsFolder else Ok n) (unless (nat_lt most_size (from + length value) || nat_lt most_bytes (length value)) refusal.TooLarge)) (λ (file : PlainNode). (reply.Ok, written file from value tree)) ≡ (reply.No why, tree)
       of_folder n entries true same = ap (λ (w : Refusal). refused_step tree w) (sym (some_same why refusal.IsFolder same))
       of_folder n entries false same = of_size n (nat_lt most_size (from + length value) || nat_lt most_bytes (length value)) same
 

@@ -16,7 +16,7 @@ use Rattle.catalog.specs.Entries.{UpdatesEntry}
 use Rattle.catalog.specs.Pairs.{value_at}
 use Rattle.hfs_language.specs.declared.command.Command.TheVariants as command
 use Rattle.hfs_language.specs.declared.refusal.Refusal.TheVariants as refusal
-use Rattle.hfs_model.specs.Step.{most_size, step, then_, to_file, to_node, to_size, to_trunc, unless}
+use Rattle.hfs_model.specs.Step.{most_size, step, to_file, to_node, to_trunc, unless}
 use Rattle.hfs_model.specs.declared.plain.PlainNode.{PlainNode}
 use Rattle.hfs_model.specs.declared.plain.PlainTree.{PlainTree}
 use Rattle.hfs_volume.specs.Changes.{HasSameNodes}
@@ -50,9 +50,8 @@ use Rattle.volume_base.proofs.ToNode.{node_there}
 -- the folder or file of a step that isn't refused
 pub trunc_file : (tree : PlainTree) (path : List (List ℕ)) (size : ℕ) (node : PlainNode) → to_trunc tree path size ≡ Ok node → Contains tree.nodes node × (node.folder ≡ false)
 trunc_file tree path size node allowed =
-    let first = then_ok (to_file tree path) (λ file. then_ (unless (nat_lt most_size size) refusal.TooLarge file) (to_size size)) node allowed in
-    let second = then_ok (unless (nat_lt most_size size) refusal.TooLarge first.0) (to_size size) node first.2 in
-    let same : first.0 ≡ node = (unless_ok _ refusal.TooLarge first.0 second.0 second.1).1 ∙ (unless_ok _ refusal.GrowLimit second.0 node second.2).1 in
+    let first = then_ok (to_file tree path) (unless (nat_lt most_size size) refusal.TooLarge) node allowed in
+    let same : first.0 ≡ node = (unless_ok (nat_lt most_size size) refusal.TooLarge first.0 node first.2).1 in
     let own = then_ok (to_node tree path) (λ n. unless n.folder refusal.IsFolder n) first.0 first.1 in
     let kind = unless_ok own.0.folder refusal.IsFolder own.0 first.0 own.2 in
     subst (λ (n : PlainNode). Contains tree.nodes n × (n.folder ≡ false)) (kind.1 ∙ same) (node_there tree path own.0 own.1, kind.0)

@@ -14,7 +14,7 @@ use Rattle.hfs_language.specs.declared.refusal.Refusal.TheVariants as refusal
 use Rattle.hfs_language.specs.declared.reply.Facts.{Facts}
 use Rattle.hfs_language.specs.declared.reply.Reply.TheVariants as reply
 use Rattle.hfs_model.specs.Plain.{entries_in}
-use Rattle.hfs_model.specs.Step.{Step, facts_of, is_private_path, most_growth, most_size, on, resized, step, step_line, then_, to_node, to_size, to_trunc, unless}
+use Rattle.hfs_model.specs.Step.{Step, facts_of, is_private_path, most_size, on, resized, step, step_line, then_, to_node, to_trunc, unless}
 use Rattle.hfs_model.specs.declared.plain.PlainNode.{PlainNode}
 use Rattle.hfs_model.specs.declared.plain.PlainTree.{PlainTree}
 use Rattle.hfs_volume.specs.Content.{VolumeState, records_of, volume_of}
@@ -28,7 +28,7 @@ use Rattle.hfs_volume.proofs.Members.{each_of}
 use Rattle.hfs_volume.proofs.Sides.{is_entry_of}
 use Rattle.volume_base.specs.Changing.{catalog_node}
 use Rattle.volume_base.specs.Lists.{lists_of}
-use Rattle.volume_base.specs.Refusing.{against_growth, against_trunc, facts_or}
+use Rattle.volume_base.specs.Refusing.{against_trunc, facts_or}
 use Rattle.volume_space.specs.Resizing.{with_size}
 use Rattle.volume_base.specs.Service.{IsInService}
 use Rattle.volume_base.specs.Standing.{IsSettled, IsStanding, StandsOver}
@@ -149,21 +149,17 @@ refused_by : (tree : PlainTree) (path : List (List ℕ)) (size : ℕ) (told : Fa
     → (reply.No why ≡ (step_line tree (Ok (command.Trunc path size))).0) × (tree ≡ (step_line tree (Ok (command.Trunc path size))).1)
 refused_by tree path size told is why stands = by_own (is_private_path path) is
   where
-    of_growth : (n : PlainNode) (b : Bool) → Some why ≡ (if b then Some refusal.GrowLimit else None) → on tree (if b then Err refusal.GrowLimit else Ok n) (λ file. (reply.Ok, resized file size tree)) ≡ (reply.No why, tree)
-    of_growth n true same = ap (λ (w : Refusal). refused_step tree w) (sym (some_same why refusal.GrowLimit same))
-    of_growth n false same = absurd (none_or_some why (sym same))
-
-    of_size : (n : PlainNode) (b : Bool) → Some why ≡ (if b then Some refusal.TooLarge else against_growth (length n.bytes) size) → on tree (then_ (if b then Err refusal.TooLarge else Ok n) (to_size size)) (λ file. (reply.Ok, resized file size tree)) ≡ (reply.No why, tree)
+    of_size : (n : PlainNode) (b : Bool) → Some why ≡ (if b then Some refusal.TooLarge else None) → on tree (if b then Err refusal.TooLarge else Ok n) (λ file. (reply.Ok, resized file size tree)) ≡ (reply.No why, tree)
     of_size n true same = ap (λ (w : Refusal). refused_step tree w) (sym (some_same why refusal.TooLarge same))
-    of_size n false same = of_growth n (nat_lt (length n.bytes + most_growth) size) same
+    of_size n false same = absurd (none_or_some why (sym same))
 
-    of_folder : (n : PlainNode) (entries : ℕ) (b : Bool) → Some why ≡ (if b then Some refusal.IsFolder else if nat_lt most_size size then Some refusal.TooLarge else against_growth (if b then entries else length n.bytes) size)
-        → on tree (then_ (if b then Err refusal.IsFolder else Ok n) (λ file. then_ (unless (nat_lt most_size size) refusal.TooLarge file) (to_size size))) (λ file. (reply.Ok, resized file size tree)) ≡ (reply.No why, tree)
+    of_folder : (n : PlainNode) (entries : ℕ) (b : Bool) → Some why ≡ (if b then Some refusal.IsFolder else if nat_lt most_size size then Some refusal.TooLarge else None)
+        → on tree (then_ (if b then Err refusal.IsFolder else Ok n) (unless (nat_lt most_size size) refusal.TooLarge)) (λ file. (reply.Ok, resized file size tree)) ≡ (reply.No why, tree)
     of_folder n entries true same = ap (λ (w : Refusal). refused_step tree w) (sym (some_same why refusal.IsFolder same))
     of_folder n entries false same = of_size n (nat_lt most_size size) same
 
     by_node : (r : Result PlainNode Refusal) → Ok told ≡ facts_or (on tree r (λ node. (reply.Facts (facts_of tree node), tree))).0
-        → on tree (then_ (then_ r (λ node. unless node.folder refusal.IsFolder node)) (λ file. then_ (unless (nat_lt most_size size) refusal.TooLarge file) (to_size size))) (λ file. (reply.Ok, resized file size tree)) ≡ (reply.No why, tree)
+        → on tree (then_ (then_ r (λ node. unless node.folder refusal.IsFolder node)) (unless (nat_lt most_size size) refusal.TooLarge)) (λ file. (reply.Ok, resized file size tree)) ≡ (reply.No why, tree)
     by_node (Ok n) same = of_folder n (length (entries_in tree n.id)) n.folder (stands ∙ ap (against_trunc size) (ap (facts_in told) same))
     by_node (Err other) same = absurd (cc same)
 
@@ -185,7 +181,7 @@ pub refused_stat : (tree : PlainTree) (path : List (List ℕ)) (size : ℕ) (why
 refused_stat tree path size why is = by_own (is_private_path path) is
   where
     by_node : (r : Result PlainNode Refusal) → Err why ≡ facts_or (on tree r (λ node. (reply.Facts (facts_of tree node), tree))).0
-        → on tree (then_ (then_ r (λ node. unless node.folder refusal.IsFolder node)) (λ file. then_ (unless (nat_lt most_size size) refusal.TooLarge file) (to_size size))) (λ file. (reply.Ok, resized file size tree)) ≡ (reply.No why, tree)
+        → on tree (then_ (then_ r (λ node. unless node.folder refusal.IsFolder node)) (unless (nat_lt most_size size) refusal.TooLarge)) (λ file. (reply.Ok, resized file size tree)) ≡ (reply.No why, tree)
     by_node (Ok n) same = absurd (cc same)
     by_node (Err other) same = ap (λ (w : Refusal). refused_step tree w) (sym (ap (why_in why) same))
 

@@ -85,6 +85,7 @@ module _ (v w : Volume) (keeps : Keeps v w) where
     shrunk = sym keeps.same.shrunk i;
     capacity = sym keeps.same.capacity i;
     kept = w.kept;
+    filling = sym keeps.filling i;
   }
 
   -- its lists

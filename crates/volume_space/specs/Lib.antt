@@ -12,3 +12,4 @@ pub mod SpreadGrowth
 pub mod Spreading
 pub mod Standing
 pub mod Writing
+pub mod Zeroing

@@ -25,6 +25,7 @@ mod tidying;
 mod trimming;
 mod unfiling;
 mod writing;
+mod zeroing;
 
 pub use ahead::{Growth, WhichTree, grow_tree};
 pub use awaiting::{TreeWanted, next_growth};
@@ -36,3 +37,4 @@ pub use growing_extents::grow_extents;
 pub use resizing::shorten;
 pub use tidying::{Tidying, tidy};
 pub use writing::{lengthen, write};
+pub use zeroing::{Growing, Zeros, blocks_for, fill_ahead};

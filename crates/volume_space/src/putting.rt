@@ -1,5 +1,5 @@
 //! Data put into a file of a volume in service.
-ghost use Rattle.std.specs.Prelude.{◌≡◌, ◌⊎◌, ◌<◌, ◌≤◌, ◌+◌, ◌-◌, ◌*◌, ◌/◌, ◌%◌, ◌^◌, ℕ, Some, true, false, max, min, nat_le, IsTrue, IfNone, IfOk, IfSome, OnOk, length};
+ghost use Rattle.std.specs.Prelude.{◌≡◌, ◌⊎◌, ◌<◌, ◌≤◌, ◌+◌, ◌-◌, ◌*◌, ◌/◌, ◌%◌, ◌^◌, ℕ, None, Some, true, false, max, min, nat_le, IsTrue, IfNone, IfOk, IfSome, OnOk, length};
 ghost use Rattle.std.specs.List.{Contains};
 ghost use Rattle.sector_disk.specs.Lists.{Content};
 ghost use Rattle.sector_disk.specs.Space.{SameSpace};
@@ -9,7 +9,8 @@ ghost use Rattle.cat_records.specs.Fits.{FitsFile, FitsRecord};
 ghost use Rattle.cat_records.specs.declared.record.CatRecord.TheVariants.{File};
 ghost use Rattle.cat_records.specs.declared.record.FileRecord.{FileRecord};
 ghost use Rattle.catalog.specs.Pairs.{value_at};
-ghost use Rattle.file_io.specs.Places.{blocks_for, first_block, given, middle, new_blocks, old_end, taken};
+ghost use Rattle.file_io.specs.Bytes.{HoldZeros, sectors_in};
+ghost use Rattle.file_io.specs.Places.{blocks_for, first_block, fresh_of, given, middle, new_blocks, old_end, taken, zero_blocks, zeros_at};
 ghost use Rattle.flag_rows.specs.Bits.{count_set, sectors_for};
 ghost use Rattle.flag_rows.specs.Runs.{fewest_of};
 ghost use Rattle.hfs_model.specs.declared.plain.PlainNode.{PlainNode};
@@ -33,12 +34,14 @@ ghost use Rattle.volume_space.specs.Standing.{HoldsOn};
 ghost use Rattle.volume_base.specs.Standing.{IsSettled, StandsOver, own_sectors};
 ghost use Rattle.volume_base.specs.Touching.{Touches};
 ghost use Rattle.volume_space.specs.Writing.{AreHad, IsAt, IsSureToPut, IsToldFile, PlacesData, PutsAt, PutsValue, are_apart, blocks_put, can_put, cost_to_put, data_load, ends_before, extents_in, fork_with, has_more, is_apart_from, is_data_met, is_put_met, is_put_now, may_overflow, most_extents, needs_of_put, put_load, record_with, records_load, spread_put_load};
+ghost use Rattle.volume_space.specs.Zeroing.{HasFilled};
 
 use crate::growing::first_eight;
 use crate::mapping::put_map;
 use crate::resizing::with_change;
 use crate::spilling::spill;
 use crate::storing::{count_edits, count_records, is_met, store_later};
+use crate::zeroing::{blocks_for, done_within};
 use alloc_bitmap::Bitmap;
 use cat_records::{CatRecord, FileRecord};
 use fork_map::ExtentList;
@@ -72,17 +75,6 @@ struct Counts {
 struct Sums {
     free: u32,
     total: u32,
-}
-
-/// How many blocks so many bytes take.
-fn blocks_for(block: u32, bytes: u64) -> u64
-    requires { 0 < block }
-    ensures { result ≡ blocks_for block bytes }
-{
-    if bytes == 0 {
-        return 0;
-    }
-    (bytes - 1) / u64::from(block) + 1
 }
 
 /// How many blocks so much data takes, and in whose place they come.
@@ -206,14 +198,14 @@ fn are_countable(extents: usize) -> bool
 }
 
 /// Whether a block has whole sectors.
-fn is_whole(block: u32) -> bool
+pub(crate) fn is_whole(block: u32) -> bool
     ensures { IsTrue result → block % 512 ≡ 0 }
 {
     block % 512 == 0
 }
 
 /// Whether so many blocks of so many sectors lie in so many.
-fn is_inside(blocks: u32, per_block: u32, sectors: u64) -> bool
+pub(crate) fn is_inside(blocks: u32, per_block: u32, sectors: u64) -> bool
     ensures { IsTrue result → blocks * per_block ≤ sectors }
 {
     u64::from(blocks) * u64::from(per_block) <= sectors
@@ -499,6 +491,7 @@ fn place_data<P: SectorSpace>(
     list: &ExtentList,
     from: u64,
     value: &[u8],
+    zeroed: u32,
     total: u32,
     free: u32,
     spread: bool,
@@ -507,6 +500,9 @@ fn place_data<P: SectorSpace>(
 ) -> Result<(), Trouble>
     requires stands { StandsOver volume.old (P.SectorView.space space.old) }
     requires settled { IsTrue (P.SectorView.space space.old).tells → IsSettled volume.old (P.SectorView.space space.old).content }
+    requires few_zeros { zeroed ≤ zero_blocks volume.old.header.block_size file.now.data_fork.logical_size (from / volume.old.header.block_size) }
+    requires zeros { IsTrue (P.SectorView.space space.old).tells →
+        HoldZeros (P.SectorView.space space.old).content (sectors_in volume.old.header.block_size (fresh_of volume.old.map (blocks_put volume.old file.now.data_fork.logical_size from (length value.now)))) (zeros_at volume.old.header.block_size file.now.data_fork.logical_size from (from + length value.now) * (volume.old.header.block_size / 512)) (zeroed * (volume.old.header.block_size / 512)) }
     requires closed { IsTrue (P.SectorView.space space.old).tells → (at : ℕ) → (P.SectorView.space space.old).closed at → IsJournalSector (P.SectorView.space space.old).content at }
     requires sure { IsSureToPut list.now file.now.data_fork.logical_size volume.old (P.SectorView.space space.old) }
     requires some { 0 < length value.now }
@@ -519,6 +515,7 @@ fn place_data<P: SectorSpace>(
     requires told { IsTrue (P.SectorView.space space.old).tells → IsToldFile file.now list.now (P.SectorView.space space.old).content }
     requires short { spread ≡ false → length list.now < 8 }
     requires counted { IsTrue (P.SectorView.space space.old).tells → records ≡ records_held (lists_of volume.old (P.SectorView.space space.old).content) file.now.fields.id }
+    ensures growth { OnOk result (volume.new.filling ≡ volume.old.filling) }
     ensures stands { OnOk result (StandsOver volume.new (P.SectorView.space space.new)) }
     ensures service { IsInService volume.new (P.SectorView.space space.new) }
     ensures places { IsTrue (P.SectorView.space space.old).tells → OnOk result (PlacesData entry.now file.now list.now from value.now total free volume.old volume.new (P.SectorView.space space.old).content (P.SectorView.space space.new).content) }
@@ -534,7 +531,7 @@ fn place_data<P: SectorSpace>(
     let moment = volume.header.modify_date;
     let size = file.data_fork.logical_size;
     let long = size.max(from + value.len() as u64);
-    let later = spill(volume, alloc, space, list, size, from, value)?;
+    let later = spill(volume, alloc, space, list, size, from, value, zeroed)?;
     store_later(
         volume,
         alloc,
@@ -555,8 +552,8 @@ fn place_data<P: SectorSpace>(
     Ok(())
 }
 
-/// Puts a value into a file of these extents: its bytes, its record, the bitmap and the header.
-fn put_over<P: SectorSpace>(
+/// Puts a value into a file of these extents: its bytes, its record, the bitmap and the header. The first `zeroed` zero blocks hold zeros already.
+fn put_zeroed<P: SectorSpace>(
     volume: &mut Volume,
     alloc: Global,
     space: &mut P,
@@ -565,11 +562,15 @@ fn put_over<P: SectorSpace>(
     list: &ExtentList,
     from: u64,
     value: &[u8],
+    zeroed: u32,
     spread: bool,
     records: u64,
 ) -> Result<(), Trouble>
     requires stands { StandsOver volume.old (P.SectorView.space space.old) }
     requires settled { IsTrue (P.SectorView.space space.old).tells → IsSettled volume.old (P.SectorView.space space.old).content }
+    requires few_zeros { zeroed ≤ zero_blocks volume.old.header.block_size file.now.data_fork.logical_size (from / volume.old.header.block_size) }
+    requires zeros { IsTrue (P.SectorView.space space.old).tells →
+        HoldZeros (P.SectorView.space space.old).content (sectors_in volume.old.header.block_size (fresh_of volume.old.map (blocks_put volume.old file.now.data_fork.logical_size from (length value.now)))) (zeros_at volume.old.header.block_size file.now.data_fork.logical_size from (from + length value.now) * (volume.old.header.block_size / 512)) (zeroed * (volume.old.header.block_size / 512)) }
     requires closed { IsTrue (P.SectorView.space space.old).tells → (at : ℕ) → (P.SectorView.space space.old).closed at → IsJournalSector (P.SectorView.space space.old).content at }
     requires unchanged { volume.old.map.changed ≡ none (sectors_for (length volume.old.map.used)) }
     requires some { 0 < length value.now }
@@ -584,6 +585,7 @@ fn put_over<P: SectorSpace>(
     requires told { IsTrue (P.SectorView.space space.old).tells → IsToldFile file.now list.now (P.SectorView.space space.old).content }
     requires room { put_load volume.old file.now.data_fork.logical_size from (length value.now) ≤ (P.SectorView.space space.old).spare }
     requires counted { IsTrue (P.SectorView.space space.old).tells → records ≡ records_held (lists_of volume.old (P.SectorView.space space.old).content) file.now.fields.id }
+    ensures growth { OnOk result (volume.new.filling ≡ volume.old.filling) }
     ensures stands { OnOk result (StandsOver volume.new (P.SectorView.space space.new)) }
     ensures service { IsInService volume.new (P.SectorView.space space.new) }
     ensures puts { IsTrue (P.SectorView.space space.old).tells → OnOk result (PutsValue file.now from value.now volume.old volume.new (P.SectorView.space space.old).content (P.SectorView.space space.new).content) }
@@ -613,8 +615,8 @@ fn put_over<P: SectorSpace>(
     let runs = volume.map.fewest(counts.fresh as u32);
     let most = most_extents(list.len(), runs);
     place_data(
-        volume, alloc, space, entry, file, list, from, value, sums.total, sums.free, spread,
-        records, most,
+        volume, alloc, space, entry, file, list, from, value, zeroed, sums.total, sums.free,
+        spread, records, most,
     )?;
     if !has_room(bits, space.spare()) {
         return Err(Trouble::Memory);
@@ -622,6 +624,60 @@ fn put_over<P: SectorSpace>(
     put_map(volume, space);
     volume.put_header(space);
     Ok(())
+}
+
+/// Puts a value into a file of these extents: its bytes, its record, the bitmap and the header. Of its zero blocks it fills those alone that weren't filled
+/// ahead of it; no growth is in hand any more.
+fn put_over<P: SectorSpace>(
+    volume: &mut Volume,
+    alloc: Global,
+    space: &mut P,
+    entry: &Entry,
+    file: &FileRecord,
+    list: &ExtentList,
+    from: u64,
+    value: &[u8],
+    spread: bool,
+    records: u64,
+) -> Result<(), Trouble>
+    requires stands { StandsOver volume.old (P.SectorView.space space.old) }
+    requires settled { IsTrue (P.SectorView.space space.old).tells → IsSettled volume.old (P.SectorView.space space.old).content }
+    requires filled { HasFilled volume.old (P.SectorView.space space.old) }
+    requires closed { IsTrue (P.SectorView.space space.old).tells → (at : ℕ) → (P.SectorView.space space.old).closed at → IsJournalSector (P.SectorView.space space.old).content at }
+    requires unchanged { volume.old.map.changed ≡ none (sectors_for (length volume.old.map.used)) }
+    requires some { 0 < length value.now }
+    requires small { from + length value.now ≤ 2 ^ 40 }
+    requires countable { length list.now < 2 ^ 60 }
+    requires free { blocks_put volume.old file.now.data_fork.logical_size from (length value.now) ≤ count_set (free_of volume.old.map) }
+    requires short { spread ≡ false → length list.now < 8 }
+    requires name { length entry.now.name ≤ 255 }
+    requires there { IsTrue (P.SectorView.space space.old).tells → value_at (lists_of volume.old (P.SectorView.space space.old).content).catalog_pairs entry.now.parent entry.now.name ≡ Some entry.now.rec }
+    requires kind { entry.now.rec ≡ File file.now }
+    requires fits { FitsFile file.now }
+    requires told { IsTrue (P.SectorView.space space.old).tells → IsToldFile file.now list.now (P.SectorView.space space.old).content }
+    requires room { put_load volume.old file.now.data_fork.logical_size from (length value.now) ≤ (P.SectorView.space space.old).spare }
+    requires counted { IsTrue (P.SectorView.space space.old).tells → records ≡ records_held (lists_of volume.old (P.SectorView.space space.old).content) file.now.fields.id }
+    ensures dropped { OnOk result (volume.new.filling ≡ None) }
+    ensures stands { OnOk result (StandsOver volume.new (P.SectorView.space space.new)) }
+    ensures service { IsInService volume.new (P.SectorView.space space.new) }
+    ensures puts { IsTrue (P.SectorView.space space.old).tells → OnOk result (PutsValue file.now from value.now volume.old volume.new (P.SectorView.space space.old).content (P.SectorView.space space.new).content) }
+    ensures same { (volume.new.private ≡ volume.old.private) × (volume.new.shrunk ≡ volume.old.shrunk) × (volume.new.capacity ≡ volume.old.capacity) }
+    ensures commit { (committed : Content) → HoldsOn committed volume.old → IsLaidOutAs committed volume.old → Touches committed (λ s. Contains (own_sectors volume.old) s) (P.SectorView.space space.old) (P.SectorView.space space.new) }
+    ensures holds { (committed : Content) → HoldsOn committed volume.old → OnOk result (HoldsOn committed volume.new) }
+    ensures spent { IsTrue (P.SectorView.space space.old).tells → (P.SectorView.space space.old).spare ≤ (P.SectorView.space space.new).spare + put_load volume.old file.now.data_fork.logical_size from (length value.now) + spread_put_load volume.old records (length list.now) file.now.data_fork.logical_size from (length value.now) }
+    ensures space { SameSpace (P.SectorView.space space.old) (P.SectorView.space space.new) }
+    ensures below { P.SectorView.follows space.old space.new }
+    ensures cause { HasTroubleCause (P.SectorView.space space.old).faults (P.SectorView.space space.new).faults result }
+{
+    let block = volume.header.block_size;
+    let size = file.data_fork.logical_size;
+    let end = from + value.len() as u64;
+    let gap = (from / u64::from(block)).saturating_sub(blocks_for(block, size));
+    let zeroed = done_within(volume, file.fields.id, size, size.max(end), gap);
+    volume.filling = None;
+    put_zeroed(
+        volume, alloc, space, entry, file, list, from, value, zeroed, spread, records,
+    )
 }
 
 /// The extents of a file's data fork.
@@ -688,6 +744,7 @@ fn put_in_file<P: SectorSpace>(
 ) -> Result<bool, Trouble>
     requires stands { StandsOver volume.old (P.SectorView.space space.old) }
     requires settled { IsTrue (P.SectorView.space space.old).tells → IsSettled volume.old (P.SectorView.space space.old).content }
+    requires filled { HasFilled volume.old (P.SectorView.space space.old) }
     requires closed { IsTrue (P.SectorView.space space.old).tells → (at : ℕ) → (P.SectorView.space space.old).closed at → IsJournalSector (P.SectorView.space space.old).content at }
     requires unchanged { volume.old.map.changed ≡ none (sectors_for (length volume.old.map.used)) }
     requires some { 0 < length value.now }
@@ -697,6 +754,7 @@ fn put_in_file<P: SectorSpace>(
     requires kind { entry.now.rec ≡ File file.now }
     requires fits { FitsFile file.now }
     requires told { IsTrue (P.SectorView.space space.old).tells → IsToldFile file.now (extents_in (P.SectorView.space space.old).content file.now) (P.SectorView.space space.old).content }
+    ensures filled { OnOk result (HasFilled volume.new (P.SectorView.space space.new)) }
     ensures stands { OnOk result (StandsOver volume.new (P.SectorView.space space.new)) }
     ensures service { IsInService volume.new (P.SectorView.space space.new) }
     ensures exactly { IsTrue (P.SectorView.space space.old).tells → IfOk result (λ put. put ≡ false → can_put volume.old (P.SectorView.space space.old).spare (length (extents_in (P.SectorView.space space.old).content file.now)) file.now.data_fork.total_blocks file.now.data_fork.logical_size from (length value.now) ≡ false) }
@@ -758,6 +816,7 @@ fn put_in_entry<P: SectorSpace>(
 ) -> Result<bool, Trouble>
     requires stands { StandsOver volume.old (P.SectorView.space space.old) }
     requires settled { IsTrue (P.SectorView.space space.old).tells → IsSettled volume.old (P.SectorView.space space.old).content }
+    requires filled { HasFilled volume.old (P.SectorView.space space.old) }
     requires closed { IsTrue (P.SectorView.space space.old).tells → (at : ℕ) → (P.SectorView.space space.old).closed at → IsJournalSector (P.SectorView.space space.old).content at }
     requires unchanged { volume.old.map.changed ≡ none (sectors_for (length volume.old.map.used)) }
     requires some { 0 < length value.now }
@@ -766,6 +825,7 @@ fn put_in_entry<P: SectorSpace>(
     requires there { IsTrue (P.SectorView.space space.old).tells → value_at (lists_of volume.old (P.SectorView.space space.old).content).catalog_pairs entry.now.parent entry.now.name ≡ Some entry.now.rec }
     requires fits { is_thread entry.now.rec ≡ false → FitsRecord entry.now.rec }
     requires told { IsTrue (P.SectorView.space space.old).tells → (file : FileRecord) → entry.now.rec ≡ File file → IsToldFile file (extents_in (P.SectorView.space space.old).content file) (P.SectorView.space space.old).content }
+    ensures filled { OnOk result (HasFilled volume.new (P.SectorView.space space.new)) }
     ensures stands { OnOk result (StandsOver volume.new (P.SectorView.space space.new)) }
     ensures service { IsInService volume.new (P.SectorView.space space.new) }
     ensures exactly { IsTrue (P.SectorView.space space.old).tells → (file : FileRecord) → entry.now.rec ≡ File file
@@ -802,10 +862,12 @@ pub(crate) fn put_data<P: SectorSpace>(
 ) -> Result<bool, Trouble>
     requires stands { StandsOver volume.old (P.SectorView.space space.old) }
     requires settled { IsTrue (P.SectorView.space space.old).tells → IsSettled volume.old (P.SectorView.space space.old).content }
+    requires filled { HasFilled volume.old (P.SectorView.space space.old) }
     requires closed { IsTrue (P.SectorView.space space.old).tells → (at : ℕ) → (P.SectorView.space space.old).closed at → IsJournalSector (P.SectorView.space space.old).content at }
     requires some { 0 < length value.now }
     requires small { from + length value.now ≤ 2 ^ 40 }
     requires there { IsTrue (P.SectorView.space space.old).tells → (node : PlainNode) × Contains (tree_of (P.SectorView.space space.old).content).nodes node × (node.id ≡ id) × (node.folder ≡ false) }
+    ensures filled { OnOk result (HasFilled volume.new (P.SectorView.space space.new)) }
     ensures stands { OnOk result (StandsOver volume.new (P.SectorView.space space.new)) }
     ensures service { IsInService volume.new (P.SectorView.space space.new) }
     ensures exactly { IsTrue (P.SectorView.space space.old).tells → (node : PlainNode) → Contains (tree_of (P.SectorView.space space.old).content).nodes node → node.id ≡ id → node.folder ≡ false

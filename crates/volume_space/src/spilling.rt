@@ -4,8 +4,8 @@ ghost use Rattle.std.specs.List.{All, Contains};
 ghost use Rattle.alloc_bitmap.specs.Apart.{AreApart};
 ghost use Rattle.alloc_bitmap.specs.Map.{free_of};
 ghost use Rattle.btree_edit.specs.Causes.{HasTroubleCause};
-ghost use Rattle.file_io.specs.Bytes.{IsBlockSize, fork_bytes, sectors_in, written};
-ghost use Rattle.file_io.specs.Places.{AreUsed, KeepsMap, first_block, fresh_of, given, middle, new_blocks, old_end, taken};
+ghost use Rattle.file_io.specs.Bytes.{IsBlockSize, HoldZeros, fork_bytes, sectors_in, written};
+ghost use Rattle.file_io.specs.Places.{AreUsed, KeepsMap, first_block, fresh_of, given, middle, new_blocks, old_end, taken, zero_blocks, zeros_at};
 ghost use Rattle.file_io.specs.Touching.{IsOneOf, MaySpill, SpillsIn};
 ghost use Rattle.flag_rows.specs.Bits.{count_set};
 ghost use Rattle.fork_map.specs.Blocks.{blocks_of};
@@ -26,7 +26,7 @@ use std::alloc::Global;
 use volume_base::Volume;
 
 /// Puts a value into the bytes of a file that has this size in the blocks of these extents: into fresh blocks, which the bitmap in
-/// memory knows as taken; those in whose place they are it knows as given back. The file's record, bitmap and header aren't put.
+/// memory knows as taken; those in whose place they are it knows as given back. The first `zeroed` zero blocks hold zeros already. The file's record, bitmap and header aren't put.
 pub(crate) fn spill<P: SectorSpace>(
     volume: &mut Volume,
     alloc: Global,
@@ -35,6 +35,7 @@ pub(crate) fn spill<P: SectorSpace>(
     size: u64,
     from: u64,
     value: &[u8],
+    zeroed: u32,
 ) -> Result<ExtentList, Trouble>
     requires stands { StandsOver volume.old (P.SectorView.space space.old) }
     requires settled { IsTrue (P.SectorView.space space.old).tells → IsSettled volume.old (P.SectorView.space space.old).content }
@@ -45,6 +46,9 @@ pub(crate) fn spill<P: SectorSpace>(
     requires small { from + length value.now ≤ 2 ^ 40 }
     requires used { AreUsed volume.old.map (blocks_of list.now) }
     requires free { new_blocks volume.old.header.block_size size from (from + length value.now) ≤ count_set (free_of volume.old.map) }
+    requires few_zeros { zeroed ≤ zero_blocks volume.old.header.block_size size (from / volume.old.header.block_size) }
+    requires zeros { IsTrue (P.SectorView.space space.old).tells →
+        HoldZeros (P.SectorView.space space.old).content (sectors_in volume.old.header.block_size (fresh_of volume.old.map (new_blocks volume.old.header.block_size size from (from + length value.now)))) (zeros_at volume.old.header.block_size size from (from + length value.now) * (volume.old.header.block_size / 512)) (zeroed * (volume.old.header.block_size / 512)) }
     requires may_spill { (block : ℕ) (sector : ℕ) → slice_index_or (free_of volume.old.map) block false ≡ true → block * (volume.old.header.block_size / 512) ≤ sector → sector < block * (volume.old.header.block_size / 512) + volume.old.header.block_size / 512 → MaySpill (P.SectorView.space space.old) sector }
     ensures stands { OnOk result (StandsOver volume.new (P.SectorView.space space.new)) }
     ensures service { IsInService volume.new (P.SectorView.space space.new) }
@@ -73,5 +77,6 @@ pub(crate) fn spill<P: SectorSpace>(
         size,
         from,
         value,
+        zeroed,
     )
 }

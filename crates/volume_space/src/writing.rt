@@ -23,6 +23,7 @@ ghost use Rattle.volume_space.specs.Standing.{HoldsOn};
 ghost use Rattle.volume_base.specs.Standing.{IsSettled, StandsOver, own_sectors};
 ghost use Rattle.volume_base.specs.Touching.{Touches};
 ghost use Rattle.volume_space.specs.Writing.{HasData, is_data_met, is_put_now};
+ghost use Rattle.volume_space.specs.Zeroing.{HasFilled};
 
 use crate::putting::put_data;
 use hfs_language::{Facts, Path, Reply};
@@ -66,8 +67,10 @@ fn write_told<P: SectorSpace>(
 ) -> Result<Option<Reply>, Trouble>
     requires stands { StandsOver volume.old (P.SectorView.space space.old) }
     requires settled { IsTrue (P.SectorView.space space.old).tells → IsSettled volume.old (P.SectorView.space space.old).content }
+    requires filled { HasFilled volume.old (P.SectorView.space space.old) }
     requires closed { IsTrue (P.SectorView.space space.old).tells → (at : ℕ) → (P.SectorView.space space.old).closed at → IsJournalSector (P.SectorView.space space.old).content at }
     requires told { IsTrue (P.SectorView.space space.old).tells → Ok told.now ≡ facts_or (step_line (tree_of (P.SectorView.space space.old).content) (Ok (command.Stat _path.now))).0 }
+    ensures filled { OnOk result (HasFilled volume.new (P.SectorView.space space.new)) }
     ensures reply { IsTrue (P.SectorView.space space.old).tells → IfOk result (λ said. IfSome said (λ reply. reply ≡ (step_line (tree_of (P.SectorView.space space.old).content) (Ok (command.Write _path.now from value.now))).0)) }
     ensures tree { IsTrue (P.SectorView.space space.old).tells → IfOk result (λ said. IfSome said (λ reply. tree_of (P.SectorView.space space.new).content ≡ (step_line (tree_of (P.SectorView.space space.old).content) (Ok (command.Write _path.now from value.now))).1)) }
     ensures refused { IsTrue (P.SectorView.space space.old).tells → IfOk result (λ said. IfSome said (λ reply. is_refusal reply ≡ true → (P.SectorView.space space.new).content ≡ (P.SectorView.space space.old).content)) }
@@ -114,8 +117,10 @@ fn lengthen_told<P: SectorSpace>(
 ) -> Result<Option<Reply>, Trouble>
     requires stands { StandsOver volume.old (P.SectorView.space space.old) }
     requires settled { IsTrue (P.SectorView.space space.old).tells → IsSettled volume.old (P.SectorView.space space.old).content }
+    requires filled { HasFilled volume.old (P.SectorView.space space.old) }
     requires closed { IsTrue (P.SectorView.space space.old).tells → (at : ℕ) → (P.SectorView.space space.old).closed at → IsJournalSector (P.SectorView.space space.old).content at }
     requires told { IsTrue (P.SectorView.space space.old).tells → Ok told.now ≡ facts_or (step_line (tree_of (P.SectorView.space space.old).content) (Ok (command.Stat _path.now))).0 }
+    ensures filled { OnOk result (HasFilled volume.new (P.SectorView.space space.new)) }
     ensures reply { IsTrue (P.SectorView.space space.old).tells → IfOk result (λ said. IfSome said (λ reply. reply ≡ (step_line (tree_of (P.SectorView.space space.old).content) (Ok (command.Trunc _path.now size))).0)) }
     ensures tree { IsTrue (P.SectorView.space space.old).tells → IfOk result (λ said. IfSome said (λ reply. tree_of (P.SectorView.space space.new).content ≡ (step_line (tree_of (P.SectorView.space space.old).content) (Ok (command.Trunc _path.now size))).1)) }
     ensures refused { IsTrue (P.SectorView.space space.old).tells → IfOk result (λ said. IfSome said (λ reply. is_refusal reply ≡ true → (P.SectorView.space space.new).content ≡ (P.SectorView.space space.old).content)) }
@@ -165,10 +170,12 @@ pub fn write<P: SectorSpace>(
 ) -> Result<Option<Reply>, Trouble>
     requires stands { StandsOver volume.old (P.SectorView.space space.old) }
     requires settled { IsTrue (P.SectorView.space space.old).tells → IsSettled volume.old (P.SectorView.space space.old).content }
+    requires filled { HasFilled volume.old (P.SectorView.space space.old) }
     requires fits { FitsPath path.now }
     // Only the journal's sectors are closed.
     requires closed { IsTrue (P.SectorView.space space.old).tells → (at : ℕ) → (P.SectorView.space space.old).closed at → IsJournalSector (P.SectorView.space space.old).content at }
     // Told, reply and tree are those of the plain tree's step.
+    ensures filled { OnOk result (HasFilled volume.new (P.SectorView.space space.new)) }
     ensures reply { IsTrue (P.SectorView.space space.old).tells → IfOk result (λ said. IfSome said (λ reply. reply ≡ (step_line (tree_of (P.SectorView.space space.old).content) (Ok (command.Write path.now from value.now))).0)) }
     ensures tree { IsTrue (P.SectorView.space space.old).tells → IfOk result (λ said. IfSome said (λ reply. tree_of (P.SectorView.space space.new).content ≡ (step_line (tree_of (P.SectorView.space space.old).content) (Ok (command.Write path.now from value.now))).1)) }
     ensures refused { IsTrue (P.SectorView.space space.old).tells → IfOk result (λ said. IfSome said (λ reply. is_refusal reply ≡ true → (P.SectorView.space space.new).content ≡ (P.SectorView.space space.old).content)) }
@@ -214,10 +221,12 @@ pub fn lengthen<P: SectorSpace>(
 ) -> Result<Option<Reply>, Trouble>
     requires stands { StandsOver volume.old (P.SectorView.space space.old) }
     requires settled { IsTrue (P.SectorView.space space.old).tells → IsSettled volume.old (P.SectorView.space space.old).content }
+    requires filled { HasFilled volume.old (P.SectorView.space space.old) }
     requires fits { FitsPath path.now }
     // Only the journal's sectors are closed.
     requires closed { IsTrue (P.SectorView.space space.old).tells → (at : ℕ) → (P.SectorView.space space.old).closed at → IsJournalSector (P.SectorView.space space.old).content at }
     // Told, reply and tree are those of the plain tree's step.
+    ensures filled { OnOk result (HasFilled volume.new (P.SectorView.space space.new)) }
     ensures reply { IsTrue (P.SectorView.space space.old).tells → IfOk result (λ said. IfSome said (λ reply. reply ≡ (step_line (tree_of (P.SectorView.space space.old).content) (Ok (command.Trunc path.now size))).0)) }
     ensures tree { IsTrue (P.SectorView.space space.old).tells → IfOk result (λ said. IfSome said (λ reply. tree_of (P.SectorView.space space.new).content ≡ (step_line (tree_of (P.SectorView.space space.old).content) (Ok (command.Trunc path.now size))).1)) }
     ensures refused { IsTrue (P.SectorView.space space.old).tells → IfOk result (λ said. IfSome said (λ reply. is_refusal reply ≡ true → (P.SectorView.space space.new).content ≡ (P.SectorView.space space.old).content)) }

@@ -1,6 +1,6 @@
 -- On a transaction to which nothing was put no commit is wanted by a command for which nothing is missing, and ahead of which no cut goes.
 use Rattle.std.proofs.Common.{◌≡◌, ◌⊎◌, inl, inr, ◌<◌, ◌≤◌, ℕ, zero, suc, ◌+◌, ◌==◌, ◌&&◌, Bool, true, false, not, List, [], ◌∷◌, length, get_or, replicate, refl, sym, ◌∙◌, ap, subst, arith, ⊎_elim}
-use Rattle.std.specs.Prelude.{nat_lt, slice_index, IsTrue, Ok, Option, None, Some, if◌then◌else◌}
+use Rattle.std.specs.Prelude.{◌||◌, nat_lt, slice_index, IsTrue, Ok, Option, None, Some, if◌then◌else◌}
 use Rattle.std.proofs.lemmas.Bool.{cases_lt, eq-eqb, eqb-true, le-leb, le-ltb, ltb-false, true≢false}
 use Rattle.std.proofs.lemmas.List.{get_or-map, get_or-replicate, get_or_past, length-map, length-replicate, same_lists}
 use Rattle.alloc_bitmap.specs.Map.{BlockMap, free_of, none, unused_of}
@@ -14,7 +14,7 @@ use Rattle.hfs_volume.specs.Content.{volume_of}
 use Rattle.hfs_volume.specs.Cost.{attributes_key, catalog_key, cost_of, cost_or, deep_refusal, extents_key, first_refusal, growth, growth_blocks, load_of, load_refusal, plan_of, resource_refusal, tree_at, where_}
 use Rattle.hfs_volume.specs.Reclaim.{first_growth}
 use Rattle.hfs_volume.specs.TreeOf.{tree_of}
-use Rattle.hfs_volume.specs.Weight.{Data, cut_cost, cut_load, data_of, edits_of, free_blocks, needs_cut, room_with, weight, weight_with}
+use Rattle.hfs_volume.specs.Weight.{Data, changes_nothing, cut_cost, cut_load, data_of, edits_of, free_blocks, needs_cut, room_with, weight, weight_with}
 use Rattle.hfs_volume.specs.declared.cost.Cost.{Cost}
 use Rattle.hfs_volume.specs.declared.cost.Cost.TheVariants as cost
 use Rattle.hfs_volume.specs.declared.cost.Needs.{Needs}
@@ -49,6 +49,7 @@ use Rattle.volume_step.specs.Loads.{IsWithinLoad}
 use Rattle.volume_step.specs.Steps.{FitsNow, IsTaken, PutsNow, verdict_of}
 use Rattle.volume_step.specs.declared.judging.Verdict.TheVariants as verdict
 use Rattle.volume_step.proofs.Judged.{three}
+use Rattle.volume_step.proofs.Idle.{idle_load}
 use Rattle.volume_step.proofs.Loaded.{cut_load_is, cut_weighs}
 use Rattle.volume_step.proofs.Ready.{edits_load, now_still, of_cost, there_still, wants_now, wants_load}
 use Rattle.volume_step.proofs.ReadyData.{data_weight, puts_still}
@@ -130,8 +131,8 @@ cut_load_within room n grow is =
     omega (arith, ltb-false room.capacity (cut_load room) fits, cut_load_is room n grow is)
 
 module _ (v : Volume) (a : Space) (asked : Command) (unread : only_reads asked ≡ false) (load : ℕ) (grow : List ℕ) (costs : weight_with (capacity_of v) (takable_of v) (volume_of a.content) (tree_of a.content) asked ≡ cost.Load load grow) where
-  edits_cost : data_of (tree_of a.content) asked ≡ None → cost_of (needs_of (edits_of (tree_of a.content) asked)) (room_with (capacity_of v) (takable_of v) (volume_of a.content)) ≡ cost.Load load grow
-  edits_cost is = edits_load (capacity_of v) (takable_of v) (volume_of a.content) (tree_of a.content) asked unread is load grow costs
+  edits_cost : (only_reads asked || changes_nothing (tree_of a.content) asked) ≡ false → data_of (tree_of a.content) asked ≡ None → cost_of (needs_of (edits_of (tree_of a.content) asked)) (room_with (capacity_of v) (takable_of v) (volume_of a.content)) ≡ cost.Load load grow
+  edits_cost works is = edits_load (capacity_of v) (takable_of v) (volume_of a.content) (tree_of a.content) asked works is load grow costs
 
   data_cost : (put : Data) → data_of (tree_of a.content) asked ≡ Some put → needs_cut (volume_of a.content) (data_of (tree_of a.content) asked) ≡ false → cost_of (needs_data (takable_of v) (volume_of a.content) put) (room_with (capacity_of v) (takable_of v) (volume_of a.content)) ≡ cost.Load load grow
   data_cost put is no_cut = sym (data_weight (capacity_of v) (takable_of v) (volume_of a.content) (tree_of a.content) asked put is (ap (needs_cut (volume_of a.content)) (sym is) ∙ no_cut)) ∙ costs
@@ -143,7 +144,11 @@ module _ (v : Volume) (a : Space) (asked : Command) (unread : only_reads asked �
     where
       by : (b : Bool) → needs_cut (volume_of a.content) (data_of (tree_of a.content) asked) ≡ b → (d : Option Data) → data_of (tree_of a.content) asked ≡ d → load ≤ capacity_of v
       by true needs d is = cut_load_within (room_with (capacity_of v) (takable_of v) (volume_of a.content)) load grow (sym (cut_weighs (capacity_of v) (takable_of v) (volume_of a.content) (tree_of a.content) asked unread needs) ∙ costs)
-      by false none None is = load_within (needs_of (edits_of (tree_of a.content) asked)) (room_with (capacity_of v) (takable_of v) (volume_of a.content)) load grow (edits_cost is)
+      by false none None is = by_idle (only_reads asked || changes_nothing (tree_of a.content) asked) refl
+        where
+          by_idle : (b : Bool) → (only_reads asked || changes_nothing (tree_of a.content) asked) ≡ b → load ≤ capacity_of v
+          by_idle true idle = omega (arith, (idle_load (capacity_of v) (takable_of v) (volume_of a.content) (tree_of a.content) asked idle load grow costs).0)
+          by_idle false works = load_within (needs_of (edits_of (tree_of a.content) asked)) (room_with (capacity_of v) (takable_of v) (volume_of a.content)) load grow (edits_cost works is)
       by false none (Some put) is = load_within (needs_data (takable_of v) (volume_of a.content) put) (room_with (capacity_of v) (takable_of v) (volume_of a.content)) load grow (data_cost put is none)
 
 -- ---- on a transaction to which nothing was put
@@ -154,7 +159,7 @@ module _ (v : Volume) (a : Space) (settled : IsSettled v a.content) (anew : IsAn
       let takable : takable_of v ≡ free_blocks (volume_of a.content) = free_none v.map anew.held ∙ free_content v a.content settled in
       let costs : weight_with (capacity_of v) (takable_of v) (volume_of a.content) (tree_of a.content) asked ≡ cost.Load fits.load fits.grow =
       ap (λ (f : List Bool). weight_with (capacity_of v) f (volume_of a.content) (tree_of a.content) asked) takable ∙ fits.affords in
-      record { load = fits.load; grow = fits.grow; affords = fits.affords; costs = costs; within = omega (arith, load_held v a asked unread fits.load fits.grow costs, anew.whole) }
+      record { load = fits.load; grow = fits.grow; affords = fits.affords; costs = costs; within = omega (arith, load_held v a asked unread fits.load fits.grow costs, anew.whole); whole = anew.whole }
 
 -- ---- the verdict
 
@@ -260,6 +265,7 @@ module _ (asked : Command) (v w : Volume) (a b : Space) (settled : IsSettled v a
       by (Some put) is = inr (puts_still asked v w a b reads tells (record {
         met = ap (is_data_met v a.spare (volume_of a.content)) is ∙ met put is;
         alike = λ n grow weighs. ap (λ l. slice_index l 0) (same_grow n it.load grow it.grow (sym weighs ∙ it.affords) ∙ flat);
+        few = inr it.whole;
       }))
 
   -- a growth puts no more than the load for which it goes first

@@ -14,7 +14,7 @@ use Rattle.hfs_language.specs.declared.reply.ChangeKind.TheVariants as change
 use Rattle.hfs_language.specs.declared.reply.Reply.{Reply}
 use Rattle.hfs_language.specs.declared.reply.Reply.TheVariants as reply
 use Rattle.hfs_model.specs.Plain.{attribute_at, entries_in, node_at}
-use Rattle.hfs_model.specs.Step.{Place, Step, is_private, is_private_path, is_refusal, is_root, only_reads, reached, refuses, step, step_line, then_, to_attribute, to_make, to_mv, to_node, to_rm, to_rmdir, unless}
+use Rattle.hfs_model.specs.Step.{Place, Step, is_private, is_private_path, is_refusal, is_root, is_same_file, moved, moved_over, on, only_reads, reached, refuses, step, step_line, then_, to_attribute, to_make, to_mv, to_node, to_rm, to_rmdir, unless, vacated}
 use Rattle.hfs_model.specs.declared.plain.PlainAttribute.{PlainAttribute}
 use Rattle.hfs_model.specs.declared.plain.PlainEntry.{PlainEntry}
 use Rattle.hfs_model.specs.declared.plain.PlainNode.{PlainNode}
@@ -24,14 +24,14 @@ use Rattle.hfs_volume.specs.Commands.{ChangesMode}
 use Rattle.hfs_volume.specs.Content.{VolumeState, has_attributes, volume_of}
 use Rattle.hfs_volume.specs.Cost.{cost_of}
 use Rattle.volume_runs.specs.Run.{reply_to}
-use Rattle.hfs_volume.specs.Sound.{IsSound}
-use Rattle.volume_runs.specs.Told.{changes_of, of_entry, of_made, of_pair}
+use Rattle.hfs_volume.specs.Sound.{IsSound, IsSoundVolume}
+use Rattle.volume_runs.specs.Told.{changes_of, of_entry, of_made, of_moved, of_pair}
 use Rattle.hfs_volume.specs.TreeOf.{tree_of}
-use Rattle.hfs_volume.specs.Weight.{data_of, edits, free_blocks, needs_for, room_with, weight_with}
+use Rattle.hfs_volume.specs.Weight.{changes_nothing, data_of, edits, free_blocks, needs_for, moves_onto_itself, room_with, weight_with}
 use Rattle.hfs_volume.specs.declared.cost.Cost.TheVariants as cost
 use Rattle.volume_base.specs.Attributing.{set_answer}
 use Rattle.volume_names.specs.Making.{Makes}
-use Rattle.volume_names.specs.Moving.{HasMoved}
+use Rattle.volume_names.specs.Moving.{HasMoved, TakesPlace}
 use Rattle.volume_names.specs.Losing.{HasLost, LosesName}
 use Rattle.volume_names.specs.Removing.{HasRemoved}
 use Rattle.volume_space.specs.Standing.{HoldsOn}
@@ -43,6 +43,7 @@ use Rattle.volume_step.specs.declared.outcome.Outcome.{Outcome}
 use Rattle.volume_step.specs.declared.outcome.Outcome.TheVariants as outcome
 use Rattle.volume_step.proofs.Kept.{Keeps, attributes_keep, delete_keeps, keeps_both, keeps_none, mode_keeps, moment_keeps, set_keeps}
 use Rattle.volume_step.proofs.KeptEntries.{last_keeps, link_keeps, lost_keeps, made_keeps, moved_keeps, opened_keeps, removed_keeps}
+use Rattle.volume_step.proofs.Idle.{works_unread}
 use Rattle.volume_step.proofs.Served.{changes_told, done_as, journal_kept, line_is, quiet, refused, steps, tells}
 
 -- ---- a volume whose bits are as they were
@@ -69,6 +70,14 @@ line_free tree asked is = by (is_private asked) is
     by true same = absurd (true≢false same)
     by false same = refl
 
+-- nor does the step itself refuse it
+pub step_fine : (tree : PlainTree) (asked : Command) → refuses tree (Ok asked) ≡ false → is_refusal (step tree asked).0 ≡ false
+step_fine tree asked is = by (is_private asked) is
+  where
+    by : (b : Bool) → is_refusal (if b then (reply.No refusal.Private, tree) else step tree asked).0 ≡ false → is_refusal (step tree asked).0 ≡ false
+    by true same = absurd (true≢false same)
+    by false same = same
+
 pub or_none : (b : Bool) → (b || false) ≡ false → b ≡ false
 or_none true is = is
 or_none false is = refl
@@ -90,7 +99,7 @@ module _ (capacity number moment : ℕ) (before after : Content) (sound_before :
     at_keeps = subst (λ (l : VolumeState). Keeps (volume_of before) l) (sym lists) (moment_keeps moment (volume_of before))
 
     pub at_steps : (changes : List Change) → changes ≡ [] → StepsTo (outcome.Answered said changes) capacity number (command.At moment) before after
-    at_steps changes none = steps capacity number (command.At moment) said before after (done_as capacity (command.At moment) said before after sound_before sound_after refl refl affords reply_is tree at_keeps) changes
+    at_steps changes none = steps capacity number (command.At moment) said before after (done_as capacity (command.At moment) said before after sound_before sound_after refl (λ rests. absurd (true≢false (sym rests))) refl affords reply_is tree at_keeps) changes
         (none ∙ ap (λ r. changes_told number (tree_of before) (command.At moment) r) (sym reply_is))
 
     pub at_place : KeepsJournal before after
@@ -113,7 +122,7 @@ module _ (capacity number : ℕ) (path : List (List ℕ)) (rights : ℕ) (before
     chmod_steps changes told =
         let it = lists is_fine in
         let at = reached_node (tree_of before) path it.0 it.1 in
-        steps capacity number (command.Chmod path rights) said before after (done_as capacity (command.Chmod path rights) said before after sound_before sound_after refl refl affords reply_is tree chmod_keeps) changes
+        steps capacity number (command.Chmod path rights) said before after (done_as capacity (command.Chmod path rights) said before after sound_before sound_after refl (λ rests. absurd (true≢false (sym rests))) refl affords reply_is tree chmod_keeps) changes
         (told (or_none (is_private_path path) (line_free (tree_of before) (command.Chmod path rights) affords.no_refusal)) at.0 at.1 ∙ ap (of_entry number change.Mode) (sym at.1) ∙ ap (λ r. changes_told number (tree_of before) (command.Chmod path rights) r) (sym is_fine))
 
     pub chmod_place : KeepsJournal before after
@@ -139,15 +148,15 @@ same_place before after same = subst (KeepsJournal before) (sym same) (journal_k
 
 -- ---- a command that was done, whichever it is
 
-module _ (capacity number : ℕ) (asked : Command) (before after : Content) (sound_before : IsSound before) (sound_after : IsSound after) (affords : Affords capacity asked before) (said : Reply) (unread : only_reads asked ≡ false) (no_put : data_of (tree_of before) asked ≡ None)
+module _ (capacity number : ℕ) (asked : Command) (before after : Content) (sound_before : IsSound before) (sound_after : IsSound after) (affords : Affords capacity asked before) (said : Reply) (works : (only_reads asked || changes_nothing (tree_of before) asked) ≡ false) (no_put : data_of (tree_of before) asked ≡ None)
     (reply_is : said ≡ (step_line (tree_of before) (Ok asked)).0) (tree : tree_of after ≡ (step_line (tree_of before) (Ok asked)).1)
   where
     pub said_ok : said ≡ reply.Ok
-    said_ok = reply_is ∙ line_ok (tree_of before) asked unread affords.no_refusal
+    said_ok = reply_is ∙ line_ok (tree_of before) asked (works_unread (tree_of before) asked works) affords.no_refusal
 
     pub done_steps : Keeps (volume_of before) (volume_of after) → (changes : List Change) → changes ≡ changes_of number (tree_of before) asked → StepsTo (outcome.Answered said changes) capacity number asked before after
     done_steps keeps changes told =
-        steps capacity number asked said before after (done_as capacity asked said before after sound_before sound_after unread no_put affords reply_is tree keeps) changes
+        steps capacity number asked said before after (done_as capacity asked said before after sound_before sound_after (works_unread (tree_of before) asked works) (λ rests. absurd (true≢false (sym rests ∙ works))) no_put affords reply_is tree keeps) changes
         (told ∙ ap (λ r. changes_told number (tree_of before) asked r) (sym said_ok))
 
 pub free_path : (path : List (List ℕ)) → (is_private_path path || false) ≡ false → is_private_path path ≡ false
@@ -229,7 +238,7 @@ module _ (capacity number : ℕ) (path : List (List ℕ)) (name : List ℕ) (bef
     pub delete_place : KeepsJournal before after
     delete_place = journal_kept before after keeps_delete
 
--- ---- `mkdir`, `create` and `mv`
+-- ---- `mkdir` and `create`
 
 module _ (capacity number : ℕ) (path : List (List ℕ)) (before after : Content) (sound_before : IsSound before) (sound_after : IsSound after) (said : Reply) where
   module _ (affords : Affords capacity (command.Mkdir path) before) (reply_is : said ≡ (step_line (tree_of before) (Ok (command.Mkdir path))).0) (tree : tree_of after ≡ (step_line (tree_of before) (Ok (command.Mkdir path))).1)
@@ -269,26 +278,6 @@ module _ (capacity number : ℕ) (path : List (List ℕ)) (before after : Conten
 
       pub create_place : KeepsJournal before after
       create_place = journal_kept before after keeps_file
-
-module _ (capacity number : ℕ) (from to : List (List ℕ)) (before after : Content) (sound_before : IsSound before) (sound_after : IsSound after) (affords : Affords capacity (command.Mv from to) before)
-    (said : Reply) (reply_is : said ≡ (step_line (tree_of before) (Ok (command.Mv from to))).0) (tree : tree_of after ≡ (step_line (tree_of before) (Ok (command.Mv from to))).1) (lists : said ≡ reply.Ok → HasMoved from to before after)
-  where
-    fine_move : said ≡ reply.Ok
-    fine_move = said_ok capacity number (command.Mv from to) before after sound_before sound_after affords said refl refl reply_is tree
-
-    keeps_move : Keeps (volume_of before) (volume_of after)
-    keeps_move = let it = lists fine_move in moved_keeps it.entry it.place (volume_of before) (volume_of after) sound_before.volume it.named it.moves
-
-    pub move_steps : (changes : List Change) → (is_private_path from ≡ false → is_private_path to ≡ false → (pair : PlainEntry × Place) → to_mv (tree_of before) from to ≡ Ok pair → changes ≡ of_pair number change.Moved (Ok pair))
-        → StepsTo (outcome.Answered said changes) capacity number (command.Mv from to) before after
-    move_steps changes told =
-        let it = lists fine_move in
-        let free = first_free (is_private_path from) (is_private_path to) (line_free (tree_of before) (command.Mv from to) affords.no_refusal) in
-        done_steps capacity number (command.Mv from to) before after sound_before sound_after affords said refl refl reply_is tree keeps_move changes
-        (told free.0 free.1 (it.entry, it.place) it.allowed ∙ ap (of_pair number change.Moved) (sym it.allowed))
-
-    pub move_place : KeepsJournal before after
-    move_place = journal_kept before after keeps_move
 
 -- ---- `rmdir`
 
@@ -358,20 +347,21 @@ reached_rm tree path entry is = by_root (is_root path) is
     by_root true same = absurd (let none : Err refusal.Root ≡ Ok entry = same in cc none)
     by_root false same = by_reached (reached tree path) refl same
 
+-- a file that lost a name keeps what it has
+keeps_name : (before after : Content) → IsSound before → (entry : PlainEntry) → LosesName entry before after → Keeps (volume_of before) (volume_of after)
+keeps_name before after sound entry (inl loses) =
+    keeps_both (volume_of before) loses.opened (volume_of after) (opened_keeps (volume_of before) loses.opened loses.opens) (lost_keeps entry loses.opened (volume_of after) loses.sound loses.there loses.removes)
+keeps_name before after sound entry (inr (inl unlinks)) = link_keeps entry (volume_of before) (volume_of after) sound.volume unlinks.removes
+keeps_name before after sound entry (inr (inr last)) = last_keeps entry (volume_of before) (volume_of after) sound.volume last.removes
+
 module _ (capacity number : ℕ) (path : List (List ℕ)) (before after : Content) (sound_before : IsSound before) (sound_after : IsSound after) (affords : Affords capacity (command.Rm path) before)
     (said : Reply) (reply_is : said ≡ (step_line (tree_of before) (Ok (command.Rm path))).0) (tree : tree_of after ≡ (step_line (tree_of before) (Ok (command.Rm path))).1) (lists : said ≡ reply.Ok → HasLost path before after)
   where
     fine_lost : said ≡ reply.Ok
     fine_lost = said_ok capacity number (command.Rm path) before after sound_before sound_after affords said refl refl reply_is tree
 
-    keeps_name : (entry : PlainEntry) → LosesName entry before after → Keeps (volume_of before) (volume_of after)
-    keeps_name entry (inl loses) =
-        keeps_both (volume_of before) loses.opened (volume_of after) (opened_keeps (volume_of before) loses.opened loses.opens) (lost_keeps entry loses.opened (volume_of after) loses.sound loses.there loses.removes)
-    keeps_name entry (inr (inl unlinks)) = link_keeps entry (volume_of before) (volume_of after) sound_before.volume unlinks.removes
-    keeps_name entry (inr (inr last)) = last_keeps entry (volume_of before) (volume_of after) sound_before.volume last.removes
-
     keeps_lost : Keeps (volume_of before) (volume_of after)
-    keeps_lost = let it = lists fine_lost in keeps_name it.entry it.loses
+    keeps_lost = let it = lists fine_lost in keeps_name before after sound_before it.entry it.loses
 
     pub lose_steps : (changes : List Change) → (is_private_path path ≡ false → (entry : PlainEntry) → reached (tree_of before) path ≡ Ok entry → changes ≡ of_entry number change.Removed (Ok entry))
         → StepsTo (outcome.Answered said changes) capacity number (command.Rm path) before after
@@ -382,3 +372,90 @@ module _ (capacity number : ℕ) (path : List (List ℕ)) (before after : Conten
 
     pub lose_place : KeepsJournal before after
     lose_place = journal_kept before after keeps_lost
+
+-- ---- `mv`
+
+-- what may be moved, where the step doesn't refuse it
+pub moves_one : (tree : PlainTree) (from to : List (List ℕ)) → refuses tree (Ok (command.Mv from to)) ≡ false → (pair : PlainEntry × Place) × (to_mv tree from to ≡ Ok pair)
+moves_one tree from to is = by (to_mv tree from to) refl (step_fine tree (command.Mv from to) is)
+  where
+    by : (r : Result (PlainEntry × Place) Refusal) → to_mv tree from to ≡ r → is_refusal (on tree r (λ pair. (reply.Ok, moved_over pair.0 pair.1 tree))).0 ≡ false → (pair : PlainEntry × Place) × (to_mv tree from to ≡ Ok pair)
+    by (Ok pair) found fine = (pair, found)
+    by (Err why) found fine = absurd (true≢false fine)
+
+module _ (capacity number : ℕ) (from to : List (List ℕ)) (before after : Content) (sound_before : IsSound before) (sound_after : IsSound after) (affords : Affords capacity (command.Mv from to) before)
+    (moves : changes_nothing (tree_of before) (command.Mv from to) ≡ false)
+    (said : Reply) (reply_is : said ≡ (step_line (tree_of before) (Ok (command.Mv from to))).0) (tree : tree_of after ≡ (step_line (tree_of before) (Ok (command.Mv from to))).1) (lists : said ≡ reply.Ok → HasMoved from to before after)
+  where
+    fine_move : said ≡ reply.Ok
+    fine_move = said_ok capacity number (command.Mv from to) before after sound_before sound_after affords said moves refl reply_is tree
+
+    keeps_place : (old new : Content) → IsSoundVolume (volume_of old) → TakesPlace from to old new → Keeps (volume_of old) (volume_of new)
+    keeps_place old new sound it = moved_keeps it.entry it.place (volume_of old) (volume_of new) sound it.named it.moves
+
+    keeps_moved : HasMoved from to before after → Keeps (volume_of before) (volume_of after)
+    keeps_moved (inl takes) = keeps_place before after sound_before.volume takes
+    keeps_moved (inr (inl over)) =
+        keeps_both (volume_of before) (volume_of over.between) (volume_of after) (keeps_name before over.between sound_before over.loses.entry over.loses.loses) (keeps_place over.between after over.sound over.takes)
+    keeps_moved (inr (inr stays)) = subst (λ (c : Content). Keeps (volume_of before) (volume_of c)) (sym stays.same) (keeps_none (volume_of before))
+
+    keeps_move : Keeps (volume_of before) (volume_of after)
+    keeps_move = keeps_moved (lists fine_move)
+
+    pub move_steps : (changes : List Change) → (is_private_path from ≡ false → is_private_path to ≡ false → (pair : PlainEntry × Place) → to_mv (tree_of before) from to ≡ Ok pair → changes ≡ of_moved number (Ok pair))
+        → StepsTo (outcome.Answered said changes) capacity number (command.Mv from to) before after
+    move_steps changes told =
+        let it = moves_one (tree_of before) from to affords.no_refusal in
+        let free = first_free (is_private_path from) (is_private_path to) (line_free (tree_of before) (command.Mv from to) affords.no_refusal) in
+        done_steps capacity number (command.Mv from to) before after sound_before sound_after affords said moves refl reply_is tree keeps_move changes
+        (told free.0 free.1 it.0 it.1 ∙ ap (of_moved number) (sym it.1))
+
+    pub move_place : KeepsJournal before after
+    move_place = journal_kept before after keeps_move
+
+-- ---- `mv` of a file onto itself
+
+module _ (number : ℕ) (from to : List (List ℕ)) (before : Content) (fine : refuses (tree_of before) (Ok (command.Mv from to)) ≡ false) (changes : List Change)
+    (told : is_private_path from ≡ false → is_private_path to ≡ false → (pair : PlainEntry × Place) → to_mv (tree_of before) from to ≡ Ok pair → changes ≡ of_moved number (Ok pair))
+  where
+    itself_is : (pair : PlainEntry × Place) × ((to_mv (tree_of before) from to ≡ Ok pair) × (changes ≡ of_moved number (Ok pair)))
+    itself_is =
+        let it = moves_one (tree_of before) from to fine in
+        let free = first_free (is_private_path from) (is_private_path to) (line_free (tree_of before) (command.Mv from to) fine) in
+        (it.0, (it.1, told free.0 free.1 it.0 it.1))
+
+    same_is : changes_nothing (tree_of before) (command.Mv from to) ≡ is_same_file itself_is.0.0 itself_is.0.1.found
+    same_is = ap moves_onto_itself itself_is.1.0
+
+    count_is : (length (if is_same_file itself_is.0.0 itself_is.0.1.found then [] else of_pair number change.Moved (Ok itself_is.0)) == 0) ≡ (length changes == 0)
+    count_is = ap (λ (l : List Change). length l == 0) (sym itself_is.1.1)
+
+    -- it is one exactly where watchers are told nothing
+    pub quiet_still : (length changes == 0) ≡ true → changes_nothing (tree_of before) (command.Mv from to) ≡ true
+    quiet_still none = same_is ∙ by (is_same_file itself_is.0.0 itself_is.0.1.found) (count_is ∙ none)
+      where
+        by : (b : Bool) → (length (if b then [] else of_pair number change.Moved (Ok itself_is.0)) == 0) ≡ true → b ≡ true
+        by true is = refl
+        by false is = absurd (true≢false (sym is))
+
+    pub told_moves : (length changes == 0) ≡ false → changes_nothing (tree_of before) (command.Mv from to) ≡ false
+    told_moves some = same_is ∙ by (is_same_file itself_is.0.0 itself_is.0.1.found) (count_is ∙ some)
+      where
+        by : (b : Bool) → (length (if b then [] else of_pair number change.Moved (Ok itself_is.0)) == 0) ≡ false → b ≡ false
+        by true is = absurd (true≢false is)
+        by false is = refl
+
+    module _ (capacity : ℕ) (sound : IsSound before) (affords : Affords capacity (command.Mv from to) before) (still : changes_nothing (tree_of before) (command.Mv from to) ≡ true) where
+      tree_still : tree_of before ≡ (step_line (tree_of before) (Ok (command.Mv from to))).1
+      tree_still = sym (
+          ap (λ b. (if b then (reply.No refusal.Private, tree_of before) else step (tree_of before) (command.Mv from to)).1) (line_free (tree_of before) (command.Mv from to) fine)
+          ∙ ap (λ r. (on (tree_of before) r (λ (pair : PlainEntry × Place). (reply.Ok, moved_over pair.0 pair.1 (tree_of before)))).1) itself_is.1.0
+          ∙ ap (λ b. if b then tree_of before else moved itself_is.0.0 itself_is.0.1 (vacated itself_is.0.1.found (tree_of before))) (sym same_is ∙ still)
+          )
+
+      -- it is answered with ok, and nothing is done
+      pub still_steps : StepsTo (outcome.Answered reply.Ok changes) capacity number (command.Mv from to) before before
+      still_steps =
+          steps capacity number (command.Mv from to) reply.Ok before before
+          (done_as capacity (command.Mv from to) reply.Ok before before sound sound refl (λ rests. refl) refl affords (sym (line_ok (tree_of before) (command.Mv from to) refl fine)) tree_still (keeps_none (volume_of before)))
+          changes (itself_is.1.1 ∙ ap (of_moved number) (sym itself_is.1.0))

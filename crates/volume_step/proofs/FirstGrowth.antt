@@ -1,6 +1,6 @@
 -- The tree that grows ahead of a command is the first of those that its load of the blocks that may be taken counts.
 use Rattle.std.proofs.Common.{◌≡◌, ℕ, ◌==◌, Bool, true, false, not, List, [], ◌∷◌, refl, sym, ◌∙◌, ap, subst}
-use Rattle.std.specs.Prelude.{nat_lt, slice_index, Ok, Option, None, Some, if◌then◌else◌}
+use Rattle.std.specs.Prelude.{◌||◌, nat_lt, slice_index, Ok, Option, None, Some, if◌then◌else◌}
 use Rattle.std.proofs.lemmas.Bool.{eqb-true}
 use Rattle.jnl_format.specs.Recovery.{Content}
 use Rattle.hfs_language.specs.declared.command.Command.{Command}
@@ -11,7 +11,7 @@ use Rattle.hfs_model.specs.declared.plain.PlainTree.{PlainTree}
 use Rattle.hfs_volume.specs.Content.{VolumeState, volume_of}
 use Rattle.hfs_volume.specs.Cost.{load_refusal}
 use Rattle.hfs_volume.specs.TreeOf.{tree_of}
-use Rattle.hfs_volume.specs.Weight.{Data, cut_load, data_of, edits_of, free_blocks, needs_cut, room_with, weight_with}
+use Rattle.hfs_volume.specs.Weight.{Data, changes_nothing, cut_load, data_of, edits_of, free_blocks, needs_cut, room_with, weight_with}
 use Rattle.hfs_volume.specs.declared.cost.Cost.{Cost}
 use Rattle.hfs_volume.specs.declared.cost.Cost.TheVariants as cost
 use Rattle.volume_base.specs.Fitting.{needs_of}
@@ -22,6 +22,7 @@ use Rattle.volume_space.specs.declared.ahead.WhichTree.TheVariants as which
 use Rattle.volume_step.specs.Steps.{GrowsTheFirst, IsTaken, IsTakenAlike, verdict_of}
 use Rattle.volume_step.specs.declared.judging.Verdict.{Verdict}
 use Rattle.volume_step.specs.declared.judging.Verdict.TheVariants as verdict
+use Rattle.volume_step.proofs.Idle.{idle_load}
 use Rattle.volume_step.proofs.Judged.{first_attributes, first_catalog, first_extents, none, some}
 use Rattle.volume_step.proofs.Loaded.{cut_none, cut_weighs}
 use Rattle.volume_step.proofs.Ready.{edits_load, of_cost, plan_same}
@@ -37,10 +38,14 @@ module _ (capacity : ℕ) (one other : List Bool) (volume : VolumeState) (tree :
         cut_none (load_refusal (cut_load (room_with capacity free volume)) (room_with capacity free volume).capacity) (cut_load (room_with capacity free volume)) s list (sym (cut_weighs capacity free volume tree asked unread needs) ∙ costs)
 
     edits_alike : data_of tree asked ≡ None → grow ≡ more
-    edits_alike no_data =
-        (of_cost (needs_of (edits_of tree asked)) (room_with capacity one volume) n grow (edits_load capacity one volume tree asked unread no_data n grow is)).1
-        ∙ plan_same (needs_of (edits_of tree asked)) capacity one other volume
-        ∙ sym (of_cost (needs_of (edits_of tree asked)) (room_with capacity other volume) m more (edits_load capacity other volume tree asked unread no_data m more also)).1
+    edits_alike no_data = by (only_reads asked || changes_nothing tree asked) refl
+      where
+        by : (b : Bool) → (only_reads asked || changes_nothing tree asked) ≡ b → grow ≡ more
+        by true idle = (idle_load capacity one volume tree asked idle n grow is).1 ∙ sym (idle_load capacity other volume tree asked idle m more also).1
+        by false works =
+            (of_cost (needs_of (edits_of tree asked)) (room_with capacity one volume) n grow (edits_load capacity one volume tree asked works no_data n grow is)).1
+            ∙ plan_same (needs_of (edits_of tree asked)) capacity one other volume
+            ∙ sym (of_cost (needs_of (edits_of tree asked)) (room_with capacity other volume) m more (edits_load capacity other volume tree asked works no_data m more also)).1
 
     data_alike : (put : Data) → data_of tree asked ≡ Some put → needs_cut volume (data_of tree asked) ≡ false → slice_index grow 0 ≡ slice_index more 0 → grow ≡ more
     data_alike put puts uncut same =

@@ -60,7 +60,7 @@ module _ (tree : WhichTree) (more capacity number : ℕ) (asked : Command) (befo
   }
 
   by_growth : (went : Growth) → GoesAhead went tree more before after → StepsTo (grown went) capacity number asked before after
-  by_growth growing.Grown ahead = inr (grown_first ahead)
+  by_growth growing.Grown ahead = inr (inl (grown_first ahead))
   by_growth growing.CommitFirst ahead = ahead
 
   pub growth_steps : (went : Growth) → GoesAhead went tree more before after → (it : Outcome) → it ≡ grown went → StepsTo it capacity number asked before after

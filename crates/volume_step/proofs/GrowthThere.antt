@@ -11,7 +11,7 @@ use Rattle.hfs_language.specs.declared.refusal.Refusal.{Refusal}
 use Rattle.hfs_language.specs.declared.refusal.Refusal.TheVariants as refusal
 use Rattle.hfs_language.specs.declared.reply.Reply.TheVariants as reply
 use Rattle.hfs_model.specs.Plain.{attribute_at, is_named, is_node, node_at, with_changed, without_attribute}
-use Rattle.hfs_model.specs.Step.{Step, is_refusal, marked, on, only_reads, reached, refuses, step, then_, to_attribute, to_link, to_rm, to_rmdir}
+use Rattle.hfs_model.specs.Step.{Place, Step, is_refusal, marked, on, only_reads, reached, refuses, step, then_, to_attribute, to_link, to_mv, to_rm, to_rmdir}
 use Rattle.hfs_model.specs.declared.plain.PlainAttribute.{PlainAttribute}
 use Rattle.hfs_model.specs.declared.plain.PlainEntry.{PlainEntry}
 use Rattle.hfs_model.specs.declared.plain.PlainNode.{PlainNode}
@@ -21,7 +21,7 @@ use Rattle.hfs_volume.specs.Cost.{attributes_key, growth, tree_at}
 use Rattle.hfs_volume.specs.Reclaim.{first_growth}
 use Rattle.hfs_volume.specs.Records.{attribute_of}
 use Rattle.hfs_volume.specs.TreeOf.{file_bytes, plain_attributes, tree_in, tree_of}
-use Rattle.hfs_volume.specs.Weight.{Edits, attribute_count, data_of, edits_of, lacks_tree, ln_edits, rm_edits, rm_edits_at, rmdir_edits, room_with, weight_with}
+use Rattle.hfs_volume.specs.Weight.{Edits, attribute_count, data_of, edits_of, lacks_tree, ln_edits, mv_edits, over_edits, place_edits, rm_edits, rm_edits_at, rmdir_edits, room_with, weight_with}
 use Rattle.hfs_volume.specs.declared.cost.Cost.TheVariants as cost
 use Rattle.hfs_volume.proofs.Flat.{found_some}
 use Rattle.btree_file.specs.Standing.{pairs_in}
@@ -34,7 +34,8 @@ use Rattle.volume_space.specs.Growing.{IsThere, alone}
 use Rattle.volume_space.specs.declared.ahead.WhichTree.{WhichTree}
 use Rattle.volume_space.specs.declared.ahead.WhichTree.TheVariants as which
 use Rattle.volume_space.proofs.FewerEdits.{none_lacks}
-use Rattle.volume_step.proofs.MetNow.{step_fine}
+use Rattle.volume_step.proofs.Done.{step_fine}
+use Rattle.volume_step.proofs.Idle.{grows_works}
 use Rattle.volume_step.proofs.Ready.{edits_load, not_lacking, of_cost}
 
 -- ---- trees without attributes
@@ -82,6 +83,23 @@ no_loss tree (Ok entry) = by (node_at tree entry.id)
     by (Some file) = last _ file.linked _ _ _ refl refl refl
 no_loss tree (Err why) = refl
 
+no_move : (tree : PlainTree) (r : Result (PlainEntry × Place) Refusal) → (mv_edits tree r).attributes ≡ 0
+no_move tree (Ok pair) = by_place pair.1.found
+  where
+    last : (b c : Bool) (one other more : Edits) → one.attributes ≡ 0 → other.attributes ≡ 0 → more.attributes ≡ 0 → (if b then one else if c then other else more).attributes ≡ 0
+    last true c one other more x y z = x
+    last false true one other more x y z = y
+    last false false one other more x y z = z
+
+    by_file : (found : Option PlainNode) → (over_edits tree found).attributes ≡ 0
+    by_file None = refl
+    by_file (Some file) = last _ file.linked _ _ _ refl refl refl
+
+    by_place : (found : Option PlainEntry) → (place_edits tree found).attributes ≡ 0
+    by_place None = refl
+    by_place (Some other) = by_file (node_at tree other.id)
+no_move tree (Err why) = refl
+
 no_link : {X : Type 0} (tree : PlainTree) (r : Result (PlainNode × X) Refusal) → (ln_edits tree r).attributes ≡ 0
 no_link tree (Ok pair) = by pair.0.linked _ _ refl refl
   where
@@ -96,7 +114,7 @@ no_edits volume tree without bare (command.Mkdir path) fine has = refl
 no_edits volume tree without bare (command.Create path) fine has = refl
 no_edits volume tree without bare (command.Rm path) fine has = no_loss tree (to_rm tree path)
 no_edits volume tree without bare (command.Rmdir path) fine has = no_removal tree bare (to_rmdir tree path)
-no_edits volume tree without bare (command.Mv from to) fine has = refl
+no_edits volume tree without bare (command.Mv from to) fine has = no_move tree (to_mv tree from to)
 no_edits volume tree without bare (command.Ln from to) fine has = no_link tree (to_link tree from to)
 no_edits volume tree without bare (command.Write path from value) fine has = refl
 no_edits volume tree without bare (command.Read path from long) fine has = refl
@@ -149,8 +167,9 @@ growth_there v content settled asked unread no_data fine capacity free n grow co
     by true is = is
     by false without =
         let head : has_attributes (volume_of content).head ≡ false = ap (λ (l : VolumeState). has_attributes l.head) settled.lists ∙ without in
-        let none = no_edits (volume_of content) (tree_of content) head (are_bare v content settled without) asked (step_fine (tree_of content) asked fine) (not_lacking capacity free (volume_of content) (tree_of content) asked unread no_data n grow costs) in
-        let plan = (of_cost (needs_of (edits_of (tree_of content) asked)) (room_with capacity free (volume_of content)) n grow (edits_load capacity free (volume_of content) (tree_of content) asked unread no_data n grow costs)).1 in
+        let works = grows_works capacity free (volume_of content) (tree_of content) asked n grow costs which.Attributes more some first in
+        let none = no_edits (volume_of content) (tree_of content) head (are_bare v content settled without) asked (step_fine (tree_of content) asked fine) (not_lacking capacity free (volume_of content) (tree_of content) asked works no_data n grow costs) in
+        let plan = (of_cost (needs_of (edits_of (tree_of content) asked)) (room_with capacity free (volume_of content)) n grow (edits_load capacity free (volume_of content) (tree_of content) asked works no_data n grow costs)).1 in
         let third : slice_index grow 2 ≡ 0 =
         ap (λ (l : List ℕ). slice_index l 2) plan
         ∙ ap (λ k. growth (room_with capacity free (volume_of content)).block attributes_key (tree_at (room_with capacity free (volume_of content)) 2) k) none

@@ -2,11 +2,14 @@ pub mod AnewReady
 pub mod CutSteps
 pub mod Done
 pub mod Fewer
+pub mod FilledFirst
+pub mod FilledFor
 pub mod FirstGrowth
 pub mod Forks
 pub mod GrownFor
 pub mod GrowthSteps
 pub mod GrowthThere
+pub mod Idle
 pub mod Judged
 pub mod Kept
 pub mod KeptEntries
@@ -22,4 +25,5 @@ pub mod Reclaimed
 pub mod Served
 pub mod Shortened
 pub mod StepGrowth
+pub mod Unfilled
 pub mod Widening

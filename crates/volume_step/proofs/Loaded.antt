@@ -3,10 +3,8 @@ use Rattle.std.proofs.Common.{◌≡◌, ◌≤◌, ℕ, ◌+◌, Bool, true, fa
 use Rattle.volume_step.specs.Tidying.{TakesStepLoad}
 use Rattle.volume_space.specs.declared.ahead.WhichTree.TheVariants as which
 use Rattle.volume_space.specs.declared.ahead.WhichTree.{WhichTree}
-use Rattle.volume_space.specs.Growing.{alone}
-use Rattle.hfs_volume.specs.Reclaim.{first_growth}
 use Rattle.sector_disk.specs.Lists.{Content}
-use Rattle.std.specs.Prelude.{IsTrue, Option, None, Some, if◌then◌else◌, slice_index}
+use Rattle.std.specs.Prelude.{◌||◌, IsTrue, Option, None, Some, if◌then◌else◌}
 use Rattle.sector_disk.specs.Space.{Space}
 use Rattle.hfs_language.specs.declared.command.Command.{Command}
 use Rattle.hfs_language.specs.declared.command.Command.TheVariants as command
@@ -17,7 +15,7 @@ use Rattle.hfs_model.specs.declared.plain.PlainTree.{PlainTree}
 use Rattle.hfs_volume.specs.Content.{VolumeState, volume_of}
 use Rattle.hfs_volume.specs.Cost.{cost_of, cost_or, load_of, load_refusal, node_sectors, plan_of, tree_at}
 use Rattle.hfs_volume.specs.TreeOf.{tree_of}
-use Rattle.hfs_volume.specs.Weight.{Data, cut_cost, cut_load, data_of, edits, edits_of, free_blocks, lacks_tree, needs_cut, needs_for, room_with, weight, weight_with}
+use Rattle.hfs_volume.specs.Weight.{Data, changes_nothing, cut_cost, cut_load, data_of, edits, edits_of, free_blocks, lacks_tree, needs_cut, needs_for, room_with, weight, weight_with}
 use Rattle.hfs_volume.specs.declared.cost.Cost.{Cost}
 use Rattle.hfs_volume.specs.declared.cost.Cost.TheVariants as cost
 use Rattle.hfs_volume.specs.declared.cost.Needs.{Needs}
@@ -34,6 +32,7 @@ use Rattle.volume_runs.specs.Rest.{cut_puts}
 use Rattle.volume_step.specs.Anew.{FitsAlike}
 use Rattle.volume_step.specs.Loads.{IsWithinLoad}
 use Rattle.volume_step.specs.Steps.{Affords, LacksCutRoom, WaitsForGrowth}
+use Rattle.volume_step.proofs.Idle.{alone_none, cut_works, idle_load}
 use Rattle.volume_step.proofs.Ready.{catalog_node as catalog_is, edits_load, load_low, of_cost}
 
 -- ---- one load, whichever blocks count as free
@@ -44,12 +43,16 @@ unfolding load_of room_with
 load_same needs capacity one other volume = refl
 
 -- what a command weighs that puts no data
-same_load : (capacity : ℕ) (one other : List Bool) (volume : VolumeState) (tree : PlainTree) (asked : Command) → only_reads asked ≡ false → data_of tree asked ≡ None → (n m : ℕ) (grow more : List ℕ)
+same_load : (capacity : ℕ) (one other : List Bool) (volume : VolumeState) (tree : PlainTree) (asked : Command) → data_of tree asked ≡ None → (n m : ℕ) (grow more : List ℕ)
     → weight_with capacity one volume tree asked ≡ cost.Load n grow → weight_with capacity other volume tree asked ≡ cost.Load m more → n ≡ m
-same_load capacity one other volume tree asked unread no_data n m grow more is also =
-    (of_cost (needs_of (edits_of tree asked)) (room_with capacity one volume) n grow (edits_load capacity one volume tree asked unread no_data n grow is)).0
-    ∙ load_same (needs_of (edits_of tree asked)) capacity one other volume
-    ∙ sym (of_cost (needs_of (edits_of tree asked)) (room_with capacity other volume) m more (edits_load capacity other volume tree asked unread no_data m more also)).0
+same_load capacity one other volume tree asked no_data n m grow more is also = by (only_reads asked || changes_nothing tree asked) refl
+  where
+    by : (b : Bool) → (only_reads asked || changes_nothing tree asked) ≡ b → n ≡ m
+    by true idle = (idle_load capacity one volume tree asked idle n grow is).0 ∙ sym (idle_load capacity other volume tree asked idle m more also).0
+    by false works =
+        (of_cost (needs_of (edits_of tree asked)) (room_with capacity one volume) n grow (edits_load capacity one volume tree asked works no_data n grow is)).0
+        ∙ load_same (needs_of (edits_of tree asked)) capacity one other volume
+        ∙ sym (of_cost (needs_of (edits_of tree asked)) (room_with capacity other volume) m more (edits_load capacity other volume tree asked works no_data m more also)).0
 
 -- ---- a command that puts no data
 
@@ -58,7 +61,7 @@ pub within_now : (asked : Command) (v : Volume) (a c : Space) → only_reads ask
 within_now asked v a c unread no_data affords loads load grow is = omega (
   arith,
   loads affords.load (0 ∷ 0 ∷ 0 ∷ []) affords.affords,
-  same_load (capacity_of v) (takable_of v) (free_blocks (volume_of a.content)) (volume_of a.content) (tree_of a.content) asked unread no_data load affords.load grow (0 ∷ 0 ∷ 0 ∷ []) is affords.affords,
+  same_load (capacity_of v) (takable_of v) (free_blocks (volume_of a.content)) (volume_of a.content) (tree_of a.content) asked no_data load affords.load grow (0 ∷ 0 ∷ 0 ∷ []) is affords.affords,
 )
 
 -- behind reads
@@ -125,7 +128,7 @@ trunc_within v a b path size settled spent load grow is = omega (
 pub cut_weighs : (capacity : ℕ) (free : List Bool) (volume : VolumeState) (tree : PlainTree) (asked : Command) → only_reads asked ≡ false → needs_cut volume (data_of tree asked) ≡ true → weight_with capacity free volume tree asked ≡ cut_cost (room_with capacity free volume)
 unfolding weight_with
 cut_weighs capacity free volume tree asked changes cuts =
-    λ i. if changes i then cost.Load 0 (0 ∷ 0 ∷ 0 ∷ [])
+    λ i. if cut_works volume tree asked cuts i then cost.Load 0 (0 ∷ 0 ∷ 0 ∷ [])
     else if cuts i then cut_cost (room_with capacity free volume)
     else if lacks_tree volume asked then cost.Refused refusal.NoTree
     else cost_of (needs_for free volume (edits_of tree asked) (data_of tree asked)) (room_with capacity free volume)
@@ -141,12 +144,6 @@ cut_none None counted n grow is = sym (ap (grown_in grow) is)
     grown_in other (cost.Load load grow) = grow
     grown_in other (cost.Refused why) = other
 cut_none (Some why) counted n grow is = absurd (let no : cost.Refused why ≡ cost.Load n grow = is in cc no)
-
--- no tree grows for such a load
-pub alone_none : (tree : WhichTree) (more : ℕ) (grow : List ℕ) → grow ≡ 0 ∷ 0 ∷ 0 ∷ [] → 0 < more → first_growth grow ≡ alone tree more → ⊥
-alone_none which.Extents more grow none some first = let it : 0 ≡ more = ap (λ (l : List ℕ). slice_index (first_growth l) 0) (sym none) ∙ ap (λ (l : List ℕ). slice_index l 0) first in absurd (omega (arith, it, some))
-alone_none which.Catalog more grow none some first = let it : 0 ≡ more = ap (λ (l : List ℕ). slice_index (first_growth l) 1) (sym none) ∙ ap (λ (l : List ℕ). slice_index l 1) first in absurd (omega (arith, it, some))
-alone_none which.Attributes more grow none some first = let it : 0 ≡ more = ap (λ (l : List ℕ). slice_index (first_growth l) 2) (sym none) ∙ ap (λ (l : List ℕ). slice_index l 2) first in absurd (omega (arith, it, some))
 
 -- what a cut puts at most is a part of its load
 cut_room : (room : Room) (n : ℕ) (grow : List ℕ) → cut_cost room ≡ cost.Load n grow → cut_puts room ≤ n

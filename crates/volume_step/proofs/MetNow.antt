@@ -1,6 +1,6 @@
 -- A command whose edits can be made now is done.
 use Rattle.std.proofs.Common.{◌≡◌, ◌⊎◌, ◌≤◌, ℕ, ◌+◌, ◌*◌, Bool, true, false, List, inl, inr, refl, sym, ◌∙◌, ap, subst, arith}
-use Rattle.std.specs.Prelude.{IsTrue, nat_lt, Option, Result, Ok, Err, if◌then◌else◌}
+use Rattle.std.specs.Prelude.{IsTrue, nat_lt, None, Option, Result, Some, Ok, Err, if◌then◌else◌}
 use Rattle.std.proofs.lemmas.Bool.{true≢false}
 use Rattle.alloc_bitmap.specs.declared.bitmap.Bitmap.{Bitmap}
 use Rattle.jnl_format.specs.Recovery.{Content}
@@ -13,7 +13,7 @@ use Rattle.hfs_language.specs.declared.reply.Reply.TheVariants as reply
 use Rattle.hfs_language.specs.declared.refusal.Refusal.{Refusal}
 use Rattle.hfs_language.specs.declared.refusal.Refusal.TheVariants as refusal
 use Rattle.hfs_model.specs.Plain.{IsPlainTree, names_of}
-use Rattle.hfs_model.specs.Step.{Place, is_private, is_refusal, is_root, linked, on, only_reads, reached, refuses, removed, removed_folder, step, step_line, then_, to_link, to_rm, to_rmdir, unless}
+use Rattle.hfs_model.specs.Step.{Place, is_private, is_refusal, is_root, linked, on, only_reads, reached, refuses, removed, removed_folder, step, step_line, then_, to_link, to_mv, to_rm, to_rmdir, unless}
 use Rattle.hfs_model.specs.declared.plain.PlainEntry.{PlainEntry}
 use Rattle.hfs_model.specs.declared.plain.PlainNode.{PlainNode}
 use Rattle.hfs_model.specs.declared.plain.PlainTree.{PlainTree}
@@ -21,7 +21,7 @@ use Rattle.hfs_volume.specs.Content.{VolumeState, has_attributes, volume_of}
 use Rattle.hfs_volume.specs.Cost.{cost_of}
 use Rattle.hfs_volume.specs.Sound.{IsSound}
 use Rattle.hfs_volume.specs.TreeOf.{tree_of}
-use Rattle.hfs_volume.specs.Weight.{Edits, edits, edits_of, folders_made, ln_edits, rm_edits, rm_edits_at, rmdir_edits, room_with}
+use Rattle.hfs_volume.specs.Weight.{Edits, edits, edits_of, folders_made, ln_edits, mv_edits, over_edits, place_edits, rm_edits, rm_edits_at, rmdir_edits, room_with}
 use Rattle.volume_runs.specs.Run.{attribute_edits}
 use Rattle.tree_weights.specs.Cutting.{TreesHoldThree}
 use Rattle.tree_weights.specs.Weights.{GrowsByEnough, LoadIsOfParts, LoadSaysEnough}
@@ -31,10 +31,12 @@ use Rattle.volume_base.specs.Looking.{ReadsVolume}
 use Rattle.volume_base.specs.Room.{capacity_of}
 use Rattle.volume_base.specs.Standing.{IsSettled}
 use Rattle.volume_base.specs.declared.volume.Volume.{Volume}
+use Rattle.hfs_volume.proofs.Vacating.{moving_is}
+use Rattle.volume_base.proofs.MovedOver.{stands}
 use Rattle.volume_base.proofs.Refused.{reached_kind}
 use Rattle.volume_step.specs.Steps.{Affords, IsDoneOk}
 use Rattle.volume_step.specs.declared.outcome.Outcome.TheVariants as outcome
-use Rattle.volume_step.proofs.Done.{has_tree, line_ok, reached_rm, reply_set}
+use Rattle.volume_step.proofs.Done.{has_tree, line_ok, moves_one, reached_rm, reply_set, step_fine}
 use Rattle.volume_step.proofs.Fewer.{fewer_met}
 
 -- ---- what is answered
@@ -75,13 +77,6 @@ fewer_are says of_parts enough three v a sound few many fewer met =
     (three a.content (capacity_of v) 1 (takable_in v.map) sound.trees (omega arith) (λ two. absurd (omega (arith, two)))) fewer.ids fewer.catalog fewer.attributes fewer.updates met
 
 -- ---- the edits of commands that their step doesn't refuse
-
-pub step_fine : (tree : PlainTree) (asked : Command) → refuses tree (Ok asked) ≡ false → is_refusal (step tree asked).0 ≡ false
-step_fine tree asked is = by (is_private asked) is
-  where
-    by : (b : Bool) → is_refusal (if b then (reply.No refusal.Private, tree) else step tree asked).0 ≡ false → is_refusal (step tree asked).0 ≡ false
-    by true same = absurd (true≢false same)
-    by false same = same
 
 -- `rmdir`: a folder, and its attributes
 pub removes_one : (tree : PlainTree) (path : List (List ℕ)) → refuses tree (Ok (command.Rmdir path)) ≡ false → (entry : PlainEntry) × (to_rmdir tree path ≡ Ok entry)
@@ -135,6 +130,24 @@ loss_fewer tree plain path entry is =
     let kind = reached_kind tree plain path entry (reached_rm tree path entry is) in
     subst (λ (r : Result PlainEntry Refusal). AreFewer (edits 0 2 0 1) (rm_edits_at tree r)) (sym is)
     (subst (λ (o : Option PlainNode). AreFewer (edits 0 2 0 1) (rm_edits tree o)) (sym kind.1) (loss_kinds tree (nat_lt 1 (names_of tree kind.0.id)) kind.0.linked))
+
+-- `mv`: those of a name that moves, and more where a file stands there
+over_kinds : (tree : PlainTree) (b c : Bool) → AreFewer (edits 0 3 0 3) (if b then edits 0 5 0 6 else if c then edits 0 8 0 6 else edits (folders_made tree) (6 + 2 * folders_made tree) 0 6)
+over_kinds tree true c = record { ids = omega arith; catalog = omega arith; attributes = inl refl; updates = omega arith }
+over_kinds tree false true = record { ids = omega arith; catalog = omega arith; attributes = inl refl; updates = omega arith }
+over_kinds tree false false = record { ids = omega arith; catalog = omega arith; attributes = inl refl; updates = omega arith }
+
+pub move_fewer : (tree : PlainTree) (plain : IsPlainTree tree) (from to : List (List ℕ)) → refuses tree (Ok (command.Mv from to)) ≡ false → AreFewer (edits 0 3 0 3) (edits_of tree (command.Mv from to))
+move_fewer tree plain from to fine =
+    let it = moves_one tree from to fine in
+    subst (λ (r : Result (PlainEntry × Place) Refusal). AreFewer (edits 0 3 0 3) (mv_edits tree r)) (sym it.1) (by it.0 it.1 it.0.1.found refl)
+  where
+    by : (pair : PlainEntry × Place) → to_mv tree from to ≡ Ok pair → (o : Option PlainEntry) → pair.1.found ≡ o → AreFewer (edits 0 3 0 3) (place_edits tree pair.1.found)
+    by pair allowed None free = subst (λ (o : Option PlainEntry). AreFewer (edits 0 3 0 3) (place_edits tree o)) (sym free) (record { ids = omega arith; catalog = omega arith; attributes = inl refl; updates = omega arith })
+    by pair allowed (Some other) stood =
+        let kind = reached_kind tree plain to other (stands tree from to pair (moving_is tree from to pair allowed).is_pair other stood) in
+        subst (λ (o : Option PlainEntry). AreFewer (edits 0 3 0 3) (place_edits tree o)) (sym stood)
+        (subst (λ (o : Option PlainNode). AreFewer (edits 0 3 0 3) (over_edits tree o)) (sym kind.1) (over_kinds tree (nat_lt 1 (names_of tree kind.0.id)) kind.0.linked))
 
 pub opens_fewer : AreFewer (edits 1 2 0 1) (edits 1 5 0 4)
 opens_fewer = record { ids = omega arith; catalog = omega arith; attributes = inl refl; updates = omega arith }

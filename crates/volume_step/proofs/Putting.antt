@@ -1,6 +1,6 @@
 -- `write` of bytes and `trunc` to a larger size: what they answer, and what watchers are told.
 use Rattle.std.proofs.Common.{◌≡◌, ◌≢◌, ◌<◌, ◌≤◌, ℕ, ◌*◌, ◌/◌, inl, Bool, true, false, List, [], ◌∷◌, length, take, refl, sym, ◌∙◌, ap, subst, arith}
-use Rattle.std.specs.Prelude.{nat_lt, is_some, not, Option, Some, None, Result, Ok, Err, if◌then◌else◌}
+use Rattle.std.specs.Prelude.{◌||◌, nat_lt, is_some, not, Option, Some, None, Result, Ok, Err, if◌then◌else◌}
 use Rattle.std.proofs.Math.Nat.{div-le_self}
 use Rattle.std.proofs.lemmas.Bool.{le-ltb, ltb-true, true≢false}
 use Rattle.std.proofs.lemmas.List.{take_all}
@@ -29,7 +29,7 @@ use Rattle.hfs_volume.specs.Forks.{all_forks, attributes_id, blocks_owned, catal
 use Rattle.hfs_volume.specs.Reclaim.{GrowsBy, GrowsTrees, blocks_at}
 use Rattle.hfs_volume.specs.Sound.{IsSound}
 use Rattle.hfs_volume.specs.TreeOf.{tree_of}
-use Rattle.hfs_volume.specs.Weight.{Data, data_of, grown_data, needs_cut, written_data}
+use Rattle.hfs_volume.specs.Weight.{Data, changes_nothing, data_of, grown_data, needs_cut, written_data}
 use Rattle.hfs_volume.specs.Writing.{RewritesFile, with_free}
 use Rattle.hfs_volume.proofs.Reaching.{then_ok, unless_ok}
 use Rattle.volume_runs.specs.Run.{DoesLine, reply_to, shrunk_by}
@@ -39,6 +39,7 @@ use Rattle.volume_space.proofs.SpreadForks.{extents_alike}
 use Rattle.volume_step.specs.Steps.{Affords, KeepsJournal, StepsTo}
 use Rattle.volume_step.specs.declared.outcome.Outcome.TheVariants as outcome
 use Rattle.volume_step.proofs.Done.{line_free, line_ok, or_none, reached_node}
+use Rattle.volume_step.proofs.Idle.{works_unread}
 use Rattle.volume_step.proofs.Served.{Comes, changes_told, reply_step, steps}
 
 -- ---- the lists
@@ -109,11 +110,11 @@ module _ (id from count : ℕ) (fresh : List ℕ) (old new : VolumeState) (does 
 
 -- ---- a command that put data
 
-module _ (capacity number : ℕ) (asked : Command) (before after : Content) (sound_before : IsSound before) (sound_after : IsSound after) (affords : Affords capacity asked before) (said : Reply) (unread : only_reads asked ≡ false)
+module _ (capacity number : ℕ) (asked : Command) (before after : Content) (sound_before : IsSound before) (sound_after : IsSound after) (affords : Affords capacity asked before) (said : Reply) (works : (only_reads asked || changes_nothing (tree_of before) asked) ≡ false)
     (reply_is : said ≡ (step_line (tree_of before) (Ok asked)).0) (tree : tree_of after ≡ (step_line (tree_of before) (Ok asked)).1) (lists : said ≡ reply.Ok → HasData asked before after)
   where
     fine : said ≡ reply.Ok
-    fine = reply_is ∙ line_ok (tree_of before) asked unread affords.no_refusal
+    fine = reply_is ∙ line_ok (tree_of before) asked (works_unread (tree_of before) asked works) affords.no_refusal
 
     comes : Comes capacity asked said before after
     comes =
@@ -123,7 +124,7 @@ module _ (capacity number : ℕ) (asked : Command) (before after : Content) (sou
             sound_before = sound_before;
             sound_after = sound_after;
             is = inl (record {
-              reply_is = reply_is ∙ sym (reply_step capacity before asked unread) ∙ sym (ap (reply_to capacity before) spells);
+              reply_is = reply_is ∙ sym (reply_step capacity before asked (works_unread (tree_of before) asked works)) ∙ sym (ap (reply_to capacity before) spells);
               tree = tree ∙ sym (ap (λ r. (step_line (tree_of before) r).1) spells);
               does = subst (λ r. DoesLine capacity r before after) (sym spells) (
                 λ refused_it. absurd (true≢false (sym refused_it ∙ affords.no_refusal)),
@@ -133,7 +134,7 @@ module _ (capacity number : ℕ) (asked : Command) (before after : Content) (sou
                   no_surplus = ap (needs_cut (volume_of before)) it.is_asked ∙ it.no_cut;
                   grows = trees_stay it.put.id _ _ it.fresh (volume_of before) (volume_of after) it.rewrites it.user;
                   forks = subst (λ d. PutsInFork d (volume_of before) (volume_of after)) (sym it.is_asked) it.forks;
-                  reads = λ does_read. absurd (true≢false (sym does_read ∙ unread));
+                  reads = λ rests. absurd (true≢false (sym rests ∙ works));
                 },
               );
             });

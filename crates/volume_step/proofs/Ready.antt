@@ -21,14 +21,14 @@ use Rattle.hfs_language.specs.declared.refusal.Refusal.TheVariants as refusal
 use Rattle.hfs_language.specs.declared.reply.Change.{Change}
 use Rattle.hfs_language.specs.declared.reply.Reply.{Reply}
 use Rattle.hfs_language.specs.declared.reply.Reply.TheVariants as reply
-use Rattle.hfs_model.specs.Step.{is_refusal, most_bytes, most_size, on, only_reads, size_written, step_line, then_, to_file, to_size, unless, written}
+use Rattle.hfs_model.specs.Step.{is_refusal, most_bytes, most_size, on, only_reads, size_written, step_line, then_, to_file, unless, written}
 use Rattle.hfs_model.specs.declared.plain.PlainNode.{PlainNode}
 use Rattle.hfs_model.specs.declared.plain.PlainTree.{PlainTree}
 use Rattle.hfs_volume.specs.Content.{VolumeState, has_attributes, volume_of}
 use Rattle.hfs_volume.specs.Cost.{cost_of, cost_or, load_of, node_sectors, plan_of, resource_refusal, tree_at}
 use Rattle.hfs_volume.specs.Reclaim.{first_growth}
 use Rattle.hfs_volume.specs.TreeOf.{tree_of}
-use Rattle.hfs_volume.specs.Weight.{Data, cut_cost, data_of, edits_of, free_blocks, lacks_tree, needs_cut, needs_for, room_with, weight, weight_with, written_data}
+use Rattle.hfs_volume.specs.Weight.{Data, changes_nothing, cut_cost, data_of, edits_of, free_blocks, lacks_tree, needs_cut, needs_for, room_with, weight, weight_with, written_data}
 use Rattle.hfs_volume.specs.declared.cost.Cost.{Cost}
 use Rattle.hfs_volume.specs.declared.cost.Cost.TheVariants as cost
 use Rattle.hfs_volume.specs.declared.cost.Needs.{Needs}
@@ -52,7 +52,8 @@ use Rattle.volume_step.specs.declared.judging.Verdict.TheVariants as verdict
 use Rattle.volume_step.specs.declared.outcome.Outcome.{Outcome}
 use Rattle.volume_step.specs.declared.outcome.Outcome.TheVariants as outcome
 use Rattle.volume_step.proofs.Fewer.{met_load}
-use Rattle.volume_step.proofs.MetNow.{step_fine}
+use Rattle.volume_step.proofs.Done.{step_fine}
+use Rattle.volume_step.proofs.Idle.{both_work, grows_works, idle_load}
 use Rattle.volume_step.proofs.Judged.{first_attributes, first_catalog, first_extents, none, some, three_of}
 
 -- ---- outcomes
@@ -131,13 +132,13 @@ update_fits asked v w a b reads tells settled one met =
 
 -- ---- what a command that puts no data weighs
 
-module _ (capacity : ℕ) (free : List Bool) (volume : VolumeState) (tree : PlainTree) (asked : Command) (unread : only_reads asked ≡ false) (no_data : data_of tree asked ≡ None) where
+module _ (capacity : ℕ) (free : List Bool) (volume : VolumeState) (tree : PlainTree) (asked : Command) (works : (only_reads asked || changes_nothing tree asked) ≡ false) (no_data : data_of tree asked ≡ None) where
   abbrev room : Room
   room = room_with capacity free volume
 
   edits_weigh : weight_with capacity free volume tree asked ≡ (if lacks_tree volume asked then cost.Refused refusal.NoTree else cost_of (needs_of (edits_of tree asked)) room)
   unfolding weight_with
-  edits_weigh = λ i. if unread i then cost.Load 0 (0 ∷ 0 ∷ 0 ∷ []) else (if needs_cut volume (no_data i) then cut_cost room else if lacks_tree volume asked then cost.Refused refusal.NoTree else cost_of (needs_for free volume (edits_of tree asked) (no_data i)) room)
+  edits_weigh = λ i. if works i then cost.Load 0 (0 ∷ 0 ∷ 0 ∷ []) else (if needs_cut volume (no_data i) then cut_cost room else if lacks_tree volume asked then cost.Refused refusal.NoTree else cost_of (needs_for free volume (edits_of tree asked) (no_data i)) room)
 
   pub edits_load : (n : ℕ) (grow : List ℕ) → weight_with capacity free volume tree asked ≡ cost.Load n grow → cost_of (needs_of (edits_of tree asked)) room ≡ cost.Load n grow
   edits_load n grow is = by (lacks_tree volume asked) (sym edits_weigh ∙ is)
@@ -155,10 +156,19 @@ module _ (capacity : ℕ) (free : List Bool) (volume : VolumeState) (tree : Plai
       by false has same = has
 
 -- where no tree grows its edits are met
-pub met_now : (asked : Command) (v : Volume) (a : Space) → only_reads asked ≡ false → (now : FitsNow asked v a) → now.grow ≡ 0 ∷ 0 ∷ 0 ∷ [] → IsMet asked v a
-met_now asked v a unread now none_grow =
+pub met_now : (asked : Command) (v : Volume) (a : Space) → (only_reads asked || changes_nothing (tree_of a.content) asked) ≡ false → (now : FitsNow asked v a) → now.grow ≡ 0 ∷ 0 ∷ 0 ∷ [] → IsMet asked v a
+met_now asked v a works now none_grow =
     met_load (cost_of (needs_of (edits_of (tree_of a.content) asked)) (room_with (capacity_of v) (takable_of v) (volume_of a.content))) now.load a.spare
-    (edits_load (capacity_of v) (takable_of v) (volume_of a.content) (tree_of a.content) asked unread now.no_data now.load now.grow now.costs ∙ ap (cost.Load now.load) none_grow) now.within
+    (edits_load (capacity_of v) (takable_of v) (volume_of a.content) (tree_of a.content) asked works now.no_data now.load now.grow now.costs ∙ ap (cost.Load now.load) none_grow) now.within
+
+-- so a command is done that fits now, or changes nothing
+pub ready_done : (asked : Command) (v : Volume) (a : Space) → only_reads asked ≡ false → (now : FitsNow asked v a) → now.grow ≡ 0 ∷ 0 ∷ 0 ∷ [] → (r : Result Outcome Trouble)
+    → (IsMet asked v a → IfOk r IsDoneOk) → (changes_nothing (tree_of a.content) asked ≡ true → IfOk r IsDoneOk) → IfOk r (λ (o : Outcome). o ≢ outcome.CommitFirst)
+ready_done asked v a unread now none_grow r done still = by (changes_nothing (tree_of a.content) asked) refl
+  where
+    by : (b : Bool) → changes_nothing (tree_of a.content) asked ≡ b → IfOk r (λ (o : Outcome). o ≢ outcome.CommitFirst)
+    by true rests = done_now r (still rests)
+    by false moves = done_now r (done (met_now asked v a (both_work (tree_of a.content) asked unread moves) now none_grow))
 
 -- ---- the verdict
 
@@ -173,8 +183,19 @@ module _ (capacity : ℕ) (takable : List Bool) (content : Content) (asked : Com
     abbrev needs : Needs
     needs = needs_of (edits_of (tree_of content) asked)
 
-    taken_costs : cost_of needs (room_with capacity takable (volume_of content)) ≡ cost.Load n grow
-    taken_costs = edits_load capacity takable (volume_of content) (tree_of content) asked unread no_data n grow costs
+    abbrev idle : Bool
+    idle = only_reads asked || changes_nothing (tree_of content) asked
+
+    taken_costs : idle ≡ false → cost_of needs (room_with capacity takable (volume_of content)) ≡ cost.Load n grow
+    taken_costs works = edits_load capacity takable (volume_of content) (tree_of content) asked works no_data n grow costs
+
+    -- three trees grow, or none
+    three_here : grow ≡ slice_index grow 0 ∷ slice_index grow 1 ∷ slice_index grow 2 ∷ []
+    three_here = by idle refl
+      where
+        by : (b : Bool) → idle ≡ b → grow ≡ slice_index grow 0 ∷ slice_index grow 1 ∷ slice_index grow 2 ∷ []
+        by true rests = subst (λ (l : List ℕ). l ≡ slice_index l 0 ∷ slice_index l 1 ∷ slice_index l 2 ∷ []) (sym (idle_load capacity takable (volume_of content) (tree_of content) asked rests n grow costs).1) refl
+        by false works = three_of needs (room_with capacity takable (volume_of content)) n grow (taken_costs works)
 
     by_grow : IsTaken (verdict_of (answer.Load n grow) spare) grow
     by_grow = by (slice_index grow 0 == 0) (slice_index grow 1 == 0) (slice_index grow 2 == 0) refl refl refl
@@ -188,12 +209,16 @@ module _ (capacity : ℕ) (takable : List Bool) (content : Content) (asked : Com
         by true false z one two three_ = (some (slice_index grow 1) two, first_catalog grow (none (slice_index grow 0) one) (some (slice_index grow 1) two))
         by true true false one two three_ = (some (slice_index grow 2) three_, first_attributes grow (none (slice_index grow 0) one) (none (slice_index grow 1) two))
         by true true true one two three_ =
-            by_spare (three_of needs (room_with capacity takable (volume_of content)) n grow taken_costs ∙ (λ i. none (slice_index grow 0) one i ∷ none (slice_index grow 1) two i ∷ none (slice_index grow 2) three_ i ∷ []))
+            by_spare (three_here ∙ (λ i. none (slice_index grow 0) one i ∷ none (slice_index grow 1) two i ∷ none (slice_index grow 2) three_ i ∷ []))
 
     same_grow : (m : ℕ) (other : List ℕ) → weight capacity (volume_of content) (tree_of content) asked ≡ cost.Load m other → other ≡ grow
-    same_grow m other is =
-        (of_cost needs (room_with capacity (free_blocks (volume_of content)) (volume_of content)) m other (edits_load capacity (free_blocks (volume_of content)) (volume_of content) (tree_of content) asked unread no_data m other is)).1
-        ∙ plan_same needs capacity (free_blocks (volume_of content)) takable (volume_of content) ∙ sym (of_cost needs (room_with capacity takable (volume_of content)) n grow taken_costs).1
+    same_grow m other is = by idle refl
+      where
+        by : (b : Bool) → idle ≡ b → other ≡ grow
+        by true rests = (idle_load capacity (free_blocks (volume_of content)) (volume_of content) (tree_of content) asked rests m other is).1 ∙ sym (idle_load capacity takable (volume_of content) (tree_of content) asked rests n grow costs).1
+        by false works =
+            (of_cost needs (room_with capacity (free_blocks (volume_of content)) (volume_of content)) m other (edits_load capacity (free_blocks (volume_of content)) (volume_of content) (tree_of content) asked works no_data m other is)).1
+            ∙ plan_same needs capacity (free_blocks (volume_of content)) takable (volume_of content) ∙ sym (of_cost needs (room_with capacity takable (volume_of content)) n grow (taken_costs works)).1
 
     of_costs : (one : Cost) → weight capacity (volume_of content) (tree_of content) asked ≡ one → IsTaken (verdict_of (joined one (cost.Load n grow)) spare) grow
     of_costs (cost.Refused why) is = tt
@@ -278,7 +303,8 @@ wants_now asked v w a b reads tells unread now tree more some first there =
       capacity = capacity_of w;
       load = still.0.load;
       grow = still.0.grow;
-      costs = edits_load (capacity_of w) (takable_of w) (volume_of b.content) (tree_of b.content) asked unread still.0.no_data still.0.load still.0.grow still.0.costs;
+      costs = edits_load (capacity_of w) (takable_of w) (volume_of b.content) (tree_of b.content) asked
+          (grows_works (capacity_of w) (takable_of w) (volume_of b.content) (tree_of b.content) asked still.0.load still.0.grow still.0.costs tree more some (ap first_growth still.1 ∙ first)) still.0.no_data still.0.load still.0.grow still.0.costs;
       within = still.0.within;
       some = some;
       first = ap first_growth still.1 ∙ first;
@@ -302,7 +328,7 @@ written_none capacity path from value content affords no_data = by (to_file (tre
     empty false file is = absurd (cc is)
 
     by : (r : Result PlainNode Refusal)
-        → is_refusal (on (tree_of content) (then_ r (λ file. then_ (unless (nat_lt most_size (from + length value) || nat_lt most_bytes (length value)) refusal.TooLarge file) (to_size (size_written (length file.bytes) from (length value))))) (λ file. (reply.Ok, written file from value (tree_of content)))).0 ≡ false
+        → is_refusal (on (tree_of content) (then_ r (unless (nat_lt most_size (from + length value) || nat_lt most_bytes (length value)) refusal.TooLarge)) (λ file. (reply.Ok, written file from value (tree_of content)))).0 ≡ false
         → written_data from (length value) r ≡ None → (length value == 0) ≡ true
     by (Ok file) fine none_put = empty (length value == 0) file none_put
     by (Err why) fine none_put = absurd (true≢false fine)

@@ -1,5 +1,5 @@
 -- A command whose data is met wants no commit.
-use Rattle.std.proofs.Common.{◌≡◌, ◌≢◌, ◌≤◌, ℕ, ◌/◌, Bool, true, false, List, [], ◌∷◌, refl, sym, ◌∙◌, ap, subst, arith}
+use Rattle.std.proofs.Common.{◌≡◌, ◌≢◌, ◌≤◌, ℕ, ◌/◌, Bool, true, false, List, [], ◌∷◌, inl, inr, refl, sym, ◌∙◌, ap, subst, arith}
 use Rattle.std.specs.Prelude.{◌==◌, ◌&&◌, nat_le, not, slice_index, IfOk, OnOk, IfNone, IsTrue, Option, None, Some, Result, Ok, Err, if◌then◌else◌}
 use Rattle.std.proofs.lemmas.Bool.{and_parts, eqb-true, le-ltb, leb-true, true≢false}
 use Rattle.hx_bytes.specs.declared.faults.Trouble.{Trouble}
@@ -17,7 +17,7 @@ use Rattle.hfs_model.specs.declared.plain.PlainTree.{PlainTree}
 use Rattle.hfs_volume.specs.Content.{VolumeState, volume_of}
 use Rattle.hfs_volume.specs.Cost.{attributes_key, catalog_key, cost_of, tree_at}
 use Rattle.hfs_volume.specs.TreeOf.{tree_of}
-use Rattle.hfs_volume.specs.Weight.{Data, cut_cost, data_of, edits, edits_of, free_blocks, lacks_tree, needs_cut, needs_for, room_with, weight, weight_with}
+use Rattle.hfs_volume.specs.Weight.{Data, cut_cost, data_of, edits, edits_of, free_blocks, lacks_tree, needs_cut, needs_for, room_with, weight, weight_with, most_zeros, zero_blocks}
 use Rattle.hfs_volume.specs.declared.cost.Cost.{Cost}
 use Rattle.hfs_volume.specs.declared.cost.Cost.TheVariants as cost
 use Rattle.volume_base.specs.DataWeighing.{needs_data}
@@ -35,6 +35,7 @@ use Rattle.volume_step.specs.declared.judging.Verdict.TheVariants as verdict
 use Rattle.volume_step.specs.declared.outcome.Outcome.{Outcome}
 use Rattle.volume_step.specs.declared.outcome.Outcome.TheVariants as outcome
 use Rattle.volume_space.proofs.FewerEdits.{none_lacks}
+use Rattle.volume_step.proofs.Idle.{data_edits}
 use Rattle.volume_step.proofs.Judged.{three_of}
 use Rattle.volume_step.proofs.Ready.{catalog_node, load_low, of_cost}
 
@@ -100,28 +101,6 @@ data_update_fits asked v w a b reads tells settled met =
 
 -- ---- the verdict
 
--- a command that puts data edits no tree
-data_edits : (tree : PlainTree) (asked : Command) (put : Data) → data_of tree asked ≡ Some put → (edits_of tree asked ≡ edits 0 0 0 1) × (only_reads asked ≡ false) × ((volume : VolumeState) → lacks_tree volume asked ≡ false)
-data_edits tree (command.Write path from value) put is = (refl, refl, λ volume. refl)
-data_edits tree (command.Trunc path size) put is = (refl, refl, λ volume. refl)
-data_edits tree (command.Mkdir p) put is = absurd (let no : None ≡ Some put = is in cc no)
-data_edits tree (command.Create p) put is = absurd (let no : None ≡ Some put = is in cc no)
-data_edits tree (command.Rm p) put is = absurd (let no : None ≡ Some put = is in cc no)
-data_edits tree (command.Rmdir p) put is = absurd (let no : None ≡ Some put = is in cc no)
-data_edits tree (command.Mv p q) put is = absurd (let no : None ≡ Some put = is in cc no)
-data_edits tree (command.Ln p q) put is = absurd (let no : None ≡ Some put = is in cc no)
-data_edits tree (command.Read p n m) put is = absurd (let no : None ≡ Some put = is in cc no)
-data_edits tree (command.Ls p) put is = absurd (let no : None ≡ Some put = is in cc no)
-data_edits tree (command.Stat p) put is = absurd (let no : None ≡ Some put = is in cc no)
-data_edits tree (command.Chmod p m) put is = absurd (let no : None ≡ Some put = is in cc no)
-data_edits tree (command.SetAttr p n v) put is = absurd (let no : None ≡ Some put = is in cc no)
-data_edits tree (command.GetAttr p n) put is = absurd (let no : None ≡ Some put = is in cc no)
-data_edits tree (command.DelAttr p n) put is = absurd (let no : None ≡ Some put = is in cc no)
-data_edits tree (command.LsAttr p) put is = absurd (let no : None ≡ Some put = is in cc no)
-data_edits tree (command.At n) put is = absurd (let no : None ≡ Some put = is in cc no)
-data_edits tree command.Df put is = absurd (let no : None ≡ Some put = is in cc no)
-data_edits tree command.Sync put is = absurd (let no : None ≡ Some put = is in cc no)
-
 pub data_weight : (capacity : ℕ) (free : List Bool) (volume : VolumeState) (tree : PlainTree) (asked : Command) (put : Data) → data_of tree asked ≡ Some put → needs_cut volume (Some put) ≡ false
     → weight_with capacity free volume tree asked ≡ cost_of (needs_data free volume put) (room_with capacity free volume)
 unfolding weight_with
@@ -178,15 +157,19 @@ module _ (v : Volume) (a : Space) (asked : Command) (puts : PutsNow asked v a) w
   pub uncut_now : needs_cut (volume_of a.content) (data_of (tree_of a.content) asked) ≡ false
   uncut_now = ap (needs_cut (volume_of a.content)) it.is ∙ it.uncut
 
-  -- and it isn't one that puts none
-  pub puts_data_now : (r : Result Outcome Trouble) → OnOk r ((tree : PlainTree) → data_of tree asked ≡ None) → IfOk r (λ (o : Outcome). o ≢ outcome.CommitFirst)
-  puts_data_now (Ok o) plain = absurd (let both : None ≡ Some it.put = sym (plain (tree_of a.content)) ∙ it.is in cc both)
-  puts_data_now (Err why) plain = tt
+-- and it isn't one that puts none
+pub no_data_now : (v : Volume) (a : Space) (asked : Command) → is_data_met v a.spare (volume_of a.content) (data_of (tree_of a.content) asked) ≡ true → (r : Result Outcome Trouble) → OnOk r ((tree : PlainTree) → data_of tree asked ≡ None) → IfOk r (λ (o : Outcome). o ≢ outcome.CommitFirst)
+no_data_now v a asked met (Ok o) plain = let it = met_data v a.spare (volume_of a.content) (data_of (tree_of a.content) asked) met in absurd (let both : None ≡ Some it.put = sym (plain (tree_of a.content)) ∙ it.is in cc both)
+no_data_now v a asked met (Err why) plain = tt
 
 pub puts_still : (asked : Command) (v w : Volume) (a b : Space) → ReadsVolume v w a b → IsTrue a.tells → PutsNow asked v a → PutsNow asked w b
 puts_still asked v w a b reads tells puts = record {
   met = data_still asked v w a b reads tells puts.met;
   alike = λ n grow is. puts.alike n grow (subst (λ (k : ℕ × Content). weight k.0 (volume_of k.1) (tree_of k.1) asked ≡ cost.Load n grow) {x = (capacity_of w, b.content)} {y = (capacity_of v, a.content)} (λ i. (reads.keeps.capacity i, reads.looks.content tells i)) is);
+  few = elim puts.few [
+    | inl zeros ↦ inl (subst (λ (c : Content). zero_blocks (volume_of c).head.block_size (tree_of c) asked ≤ most_zeros) (sym (reads.looks.content tells)) zeros)
+    | inr whole ↦ inr (omega (arith, whole, reads.keeps.capacity, reads.looks.spare))
+  ];
 }
 
 -- ---- what a call didn't put

@@ -1,6 +1,6 @@
 -- What a command came to, as the entry of whichever line spells it.
 use Rattle.std.proofs.Common.{◌≡◌, ◌⊎◌, ⊎_elim, ℕ, Bool, true, false, List, [], ◌∷◌, inl, inr, refl, sym, ◌∙◌, ap, subst}
-use Rattle.std.specs.Prelude.{None, Result, Ok, Err, drop, map, take, if◌then◌else◌}
+use Rattle.std.specs.Prelude.{◌||◌, IsTrue, None, Result, Ok, Err, drop, map, take, if◌then◌else◌}
 use Rattle.std.proofs.lemmas.Bool.{true≢false}
 use Rattle.jnl_format.specs.Recovery.{Content}
 use Rattle.volume_header.specs.Refusal.{is_locked}
@@ -12,7 +12,7 @@ use Rattle.hfs_language.specs.declared.refusal.Refusal.TheVariants as refusal
 use Rattle.hfs_language.specs.declared.reply.Change.{Change}
 use Rattle.hfs_language.specs.declared.reply.Reply.{Reply}
 use Rattle.hfs_language.specs.declared.reply.Reply.TheVariants as reply
-use Rattle.hfs_model.specs.Step.{Place, Step, facts_of, is_private, is_refusal, linked, listed, listed_attribute, made, marked, moved, on, only_reads, refuses, removed, removed_folder, resized, step, step_line, to_attribute, to_folder, to_link, to_make, to_mv, to_node, to_read, to_rm, to_rmdir, to_set, to_trunc, to_write, written}
+use Rattle.hfs_model.specs.Step.{Place, Step, facts_of, is_private, is_refusal, linked, listed, listed_attribute, made, marked, moved_over, on, only_reads, refuses, removed, removed_folder, resized, step, step_line, to_attribute, to_folder, to_link, to_make, to_mv, to_node, to_read, to_rm, to_rmdir, to_set, to_trunc, to_write, written}
 use Rattle.hfs_model.specs.Plain.{entries_in, with_attribute, with_changed, without_attribute}
 use Rattle.hfs_model.specs.declared.plain.PlainAttribute.{PlainAttribute}
 use Rattle.hfs_model.specs.declared.plain.PlainEntry.{PlainEntry}
@@ -25,7 +25,7 @@ use Rattle.volume_runs.specs.Run.{DoesLine, Entry, IsAnswered, IsDone, LacksReso
 use Rattle.hfs_volume.specs.Sound.{IsSound}
 use Rattle.volume_runs.specs.Told.{changes_of}
 use Rattle.hfs_volume.specs.TreeOf.{tree_of}
-use Rattle.hfs_volume.specs.Weight.{cut_cost, data_of, edits_of, free_blocks, lacks_tree, needs_cut, needs_for, room_with, weight, weight_with}
+use Rattle.hfs_volume.specs.Weight.{changes_nothing, cut_cost, data_of, edits_of, free_blocks, lacks_tree, needs_cut, needs_for, room_with, weight, weight_with}
 use Rattle.hfs_volume.specs.declared.cost.Cost.TheVariants as cost
 use Rattle.volume_step.specs.Steps.{Affords, IsJudged, KeepsJournal, StepsTo}
 use Rattle.volume_step.specs.declared.judging.Verdict.TheVariants as verdict
@@ -69,7 +69,7 @@ step_is tree (command.Mkdir path) unread = on_is tree (λ (at : Place). made tru
 step_is tree (command.Create path) unread = on_is tree (λ (at : Place). made false at tree) (to_make tree path)
 step_is tree (command.Rm path) unread = on_is tree (λ (at : PlainEntry). removed at tree) (to_rm tree path)
 step_is tree (command.Rmdir path) unread = on_is tree (λ (at : PlainEntry). removed_folder at tree) (to_rmdir tree path)
-step_is tree (command.Mv from to) unread = on_is tree (λ (pair : PlainEntry × Place). moved pair.0 pair.1 tree) (to_mv tree from to)
+step_is tree (command.Mv from to) unread = on_is tree (λ (pair : PlainEntry × Place). moved_over pair.0 pair.1 tree) (to_mv tree from to)
 step_is tree (command.Ln from to) unread = on_is tree (λ (pair : PlainNode × Place). linked pair.0 pair.1 tree) (to_link tree from to)
 step_is tree (command.Write path from value) unread = on_is tree (λ (file : PlainNode). written file from value tree) (to_write tree path from value)
 step_is tree (command.Trunc path size) unread = on_is tree (λ (file : PlainNode). resized file size tree) (to_trunc tree path size)
@@ -132,7 +132,7 @@ read_line_kept tree asked reads = by (is_private asked)
     by false = reads_kept tree asked reads
 
 -- they put no data, and tell watchers nothing
-no_data : (tree : PlainTree) (asked : Command) → only_reads asked ≡ true → data_of tree asked ≡ None
+pub no_data : (tree : PlainTree) (asked : Command) → only_reads asked ≡ true → data_of tree asked ≡ None
 no_data tree (command.Read path from long) is = refl
 no_data tree (command.Ls path) is = refl
 no_data tree (command.Stat path) is = refl
@@ -210,7 +210,7 @@ module _ (capacity number : ℕ) (asked : Command) (said : Reply) (before after 
 -- a command that reads weighs nothing
 weighs_nothing : (capacity : ℕ) (content : Content) (asked : Command) → only_reads asked ≡ true → weight capacity (volume_of content) (tree_of content) asked ≡ cost.Load 0 (0 ∷ 0 ∷ 0 ∷ [])
 unfolding weight_with
-weighs_nothing capacity content asked reads = ap (λ b. if b then cost.Load 0 (0 ∷ 0 ∷ 0 ∷ []) else (if needs_cut (volume_of content) (data_of (tree_of content) asked) then cut_cost (room_with capacity (free_blocks (volume_of content)) (volume_of content))
+weighs_nothing capacity content asked reads = ap (λ b. if b || changes_nothing (tree_of content) asked then cost.Load 0 (0 ∷ 0 ∷ 0 ∷ []) else (if needs_cut (volume_of content) (data_of (tree_of content) asked) then cut_cost (room_with capacity (free_blocks (volume_of content)) (volume_of content))
     else if lacks_tree (volume_of content) asked then cost.Refused refusal.NoTree
     else cost_of (needs_for (free_blocks (volume_of content)) (volume_of content) (edits_of (tree_of content) asked) (data_of (tree_of content) asked)) (room_with capacity (free_blocks (volume_of content)) (volume_of content)))) reads
 
@@ -268,9 +268,9 @@ module _ (capacity : ℕ) (asked : Command) (before : Content) (sound : IsSound 
       by false = refl
 
 -- a command that was done, and puts no data
-pub done_as : (capacity : ℕ) (asked : Command) (said : Reply) (before after : Content) → IsSound before → IsSound after → only_reads asked ≡ false → data_of (tree_of before) asked ≡ None → Affords capacity asked before
+pub done_as : (capacity : ℕ) (asked : Command) (said : Reply) (before after : Content) → IsSound before → IsSound after → only_reads asked ≡ false → (IsTrue (only_reads asked || changes_nothing (tree_of before) asked) → after ≡ before) → data_of (tree_of before) asked ≡ None → Affords capacity asked before
     → said ≡ (step_line (tree_of before) (Ok asked)).0 → tree_of after ≡ (step_line (tree_of before) (Ok asked)).1 → Keeps (volume_of before) (volume_of after) → Comes capacity asked said before after
-done_as capacity asked said before after sound_before sound_after no_read no_put affords reply_is tree keeps = record {
+done_as capacity asked said before after sound_before sound_after no_read still no_put affords reply_is tree keeps = record {
   is = λ line spells. record {
     sound_before = sound_before;
     sound_after = sound_after;
@@ -285,7 +285,7 @@ done_as capacity asked said before after sound_before sound_after no_read no_put
           no_surplus = ap (needs_cut (volume_of before)) no_put;
           grows = grows_none (volume_of before) (volume_of after) keeps;
           forks = subst (λ d. PutsInFork d (volume_of before) (volume_of after)) (sym no_put) (λ id kind other. keeps.blocks id kind);
-          reads = λ does_read. absurd (true≢false (sym does_read ∙ no_read));
+          reads = still;
         },
       );
     });

@@ -12,7 +12,7 @@ use Rattle.hfs_language.specs.declared.reply.Change.{Change}
 use Rattle.hfs_language.specs.declared.reply.ChangeKind.TheVariants as change
 use Rattle.hfs_language.specs.declared.reply.Reply.{Reply}
 use Rattle.hfs_language.specs.declared.reply.Reply.TheVariants as reply
-use Rattle.hfs_model.specs.Step.{is_private_path, most_size, on, reached, step, step_line, then_, to_file, to_node, to_size, to_trunc, to_write, unless, written}
+use Rattle.hfs_model.specs.Step.{is_private_path, most_size, on, reached, step, step_line, then_, to_file, to_node, to_trunc, to_write, unless, written}
 use Rattle.hfs_model.specs.declared.plain.PlainEntry.{PlainEntry}
 use Rattle.hfs_model.specs.declared.plain.PlainNode.{PlainNode}
 use Rattle.hfs_model.specs.declared.plain.PlainTree.{PlainTree}
@@ -33,9 +33,8 @@ use Rattle.volume_step.proofs.Served.{journal_kept}
 -- the file of a step that isn't refused
 about : (tree : PlainTree) (path : List (List ℕ)) (size : ℕ) (file : PlainNode) → to_trunc tree path size ≡ Ok file → (to_file tree path ≡ Ok file) × (to_node tree path ≡ Ok file)
 about tree path size file allowed =
-    let first = then_ok (to_file tree path) (λ f. then_ (unless (nat_lt most_size size) refusal.TooLarge f) (to_size size)) file allowed in
-    let second = then_ok (unless (nat_lt most_size size) refusal.TooLarge first.0) (to_size size) file first.2 in
-    let same : first.0 ≡ file = (unless_ok _ refusal.TooLarge first.0 second.0 second.1).1 ∙ (unless_ok _ refusal.GrowLimit second.0 file second.2).1 in
+    let first = then_ok (to_file tree path) (unless (nat_lt most_size size) refusal.TooLarge) file allowed in
+    let same : first.0 ≡ file = (unless_ok (nat_lt most_size size) refusal.TooLarge first.0 file first.2).1 in
     let own = then_ok (to_node tree path) (λ n. unless n.folder refusal.IsFolder n) first.0 first.1 in
     (first.1 ∙ ap Ok same, own.1 ∙ ap Ok ((unless_ok own.0.folder refusal.IsFolder own.0 first.0 own.2).1 ∙ same))
 

@@ -35,7 +35,8 @@ use Rattle.volume_space.proofs.GrowthFitted.{wanted_loads}
 use Rattle.volume_step.specs.Tidying.{TakesStepLoad}
 use Rattle.volume_step.proofs.AnewReady.{free_none}
 use Rattle.volume_step.proofs.GrowthThere.{third_first}
-use Rattle.volume_step.proofs.Loaded.{alone_none, cut_none}
+use Rattle.volume_step.proofs.Idle.{alone_none}
+use Rattle.volume_step.proofs.Loaded.{cut_none}
 use Rattle.volume_step.proofs.Ready.{of_cost}
 
 -- ---- a volume without an attributes file

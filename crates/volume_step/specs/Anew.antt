@@ -23,10 +23,11 @@ pub record FitsAnew (asked : Command) (volume : Volume) (content : Content) : Ty
   pub grow : List ℕ
   pub affords : weight (capacity_of volume) (volume_of content) (tree_of content) asked ≡ cost.Load load grow
 
--- What the command costs of all free blocks it costs of those that may be taken, a load that the room suffices for.
+-- What the command costs of all free blocks it costs of those that may be taken, a load that the room suffices for; and nothing was put yet.
 pub record FitsAlike (asked : Command) (volume : Volume) (space : Space) : Type 0 where
   pub load : ℕ
   pub grow : List ℕ
   pub affords : weight (capacity_of volume) (volume_of space.content) (tree_of space.content) asked ≡ cost.Load load grow
   pub costs : weight_with (capacity_of volume) (takable_of volume) (volume_of space.content) (tree_of space.content) asked ≡ cost.Load load grow
   pub within : load ≤ space.spare
+  pub whole : capacity_of volume ≤ space.spare

@@ -1,5 +1,5 @@
 -- What a command on a volume in service came to.
-use Rattle.std.specs.Prelude.{◌≡◌, ◌⊎◌, ◌<◌, ◌≤◌, ℕ, ◌+◌, ◌==◌, nat_lt, not, slice_index, true, false, List, [], ◌∷◌, length, Ok, Option, None, Some, if◌then◌else◌}
+use Rattle.std.specs.Prelude.{◌≡◌, ◌⊎◌, ◌<◌, ◌≤◌, ℕ, ◌+◌, ◌==◌, nat_lt, not, slice_index, Bool, true, false, List, [], ◌∷◌, length, Ok, Option, None, Some, if◌then◌else◌}
 use Rattle.std.specs.List.{Contains}
 use Rattle.jnl_format.specs.Keeping.{IsSame}
 use Rattle.jnl_format.specs.Recovery.{Content, header_of_volume}
@@ -11,12 +11,12 @@ use Rattle.hfs_language.specs.declared.reply.Change.{Change}
 use Rattle.hfs_language.specs.declared.reply.Reply.TheVariants as reply
 use Rattle.hfs_model.specs.Step.{refuses, step_line}
 use Rattle.hfs_volume.specs.Content.{volume_of}
-use Rattle.hfs_volume.specs.Reclaim.{CutsSurplus, GrowsTrees, KeepsTree, SameFiles, first_growth}
+use Rattle.hfs_volume.specs.Reclaim.{CutsSurplus, FillsZeros, GrowsTrees, KeepsTree, SameFiles, first_growth}
 use Rattle.volume_runs.specs.Rest.{cut_puts, file_written}
 use Rattle.volume_runs.specs.Run.{Entry, IsAnswered, IsServed, LacksResource, is_ok, or_before, shrunk_by}
 use Rattle.volume_runs.specs.Told.{changes_by}
 use Rattle.hfs_volume.specs.TreeOf.{tree_of}
-use Rattle.hfs_volume.specs.Weight.{data_of, edits_of, free_blocks, needs_cut, room_with, weight, weight_with}
+use Rattle.hfs_volume.specs.Weight.{Data, data_of, edits_of, free_blocks, most_zeros, needs_cut, room_with, weight, weight_with, zero_blocks}
 use Rattle.hfs_volume.specs.declared.cost.Cost.TheVariants as cost
 use Rattle.sector_disk.specs.Space.{Space}
 use Rattle.volume_weights.specs.DataWeighing.{WaitsForCut}
@@ -31,7 +31,9 @@ use Rattle.volume_space.specs.declared.ahead.WhichTree.{WhichTree}
 use Rattle.volume_space.specs.declared.ahead.WhichTree.TheVariants as which
 use Rattle.volume_space.specs.declared.cutting_ahead.CutAhead.{CutAhead}
 use Rattle.volume_space.specs.declared.cutting_ahead.CutAhead.TheVariants as ahead
+use Rattle.volume_base.specs.declared.volume.Filling.{Filling}
 use Rattle.volume_base.specs.declared.volume.Volume.{Volume}
+use Rattle.volume_space.specs.Zeroing.{done_of}
 use Rattle.volume_base.specs.declared.weighing.Weight.{Weight}
 use Rattle.volume_base.specs.declared.weighing.Weight.TheVariants as answer
 use Rattle.volume_step.specs.declared.outcome.Outcome.{Outcome}
@@ -74,12 +76,38 @@ pub record GrowsFirst (capacity : ℕ) (asked : Command) (before after : Content
   pub files : SameFiles (volume_of before) (volume_of after)
   pub keeps : KeepsTree before after
 
--- what a command came to: the entry of each line that spells it is one of a run; or nothing was changed; or a cut or the growth of a tree went first
+-- The step doesn't refuse the command, no blocks past the size stand in its way, and nothing is missing for the whole of it; but it puts more zero
+-- blocks into a file than one step fills, and some of the blocks that it will take were filled.
+pub record FillsFirst (capacity : ℕ) (asked : Command) (before after : Content) : Type 0 where
+  pub no_refusal : refuses (tree_of before) (Ok asked) ≡ false
+  pub no_surplus : needs_cut (volume_of before) (data_of (tree_of before) asked) ≡ false
+  pub load : ℕ
+  pub affords : weight capacity (volume_of before) (tree_of before) asked ≡ cost.Load load (0 ∷ 0 ∷ 0 ∷ [])
+  pub many : most_zeros < zero_blocks (volume_of before).head.block_size (tree_of before) asked
+  pub fills : FillsZeros before after
+
+-- what a command came to: the entry of each line that spells it is one of a run; or nothing was changed; or a cut, the growth of a tree or zero blocks went first
 abbrev pub StepsTo : Outcome → ℕ → ℕ → Command → Content → Content → Type 0
 StepsTo (outcome.Answered reply changes) capacity number asked before after =
     (line : List ℕ) → command_of line ≡ Ok asked → IsSteppedAs capacity number changes (record { line = line; reply = reply; before = before; after = after })
 StepsTo outcome.CommitFirst capacity number asked before after = after ≡ before
-StepsTo outcome.Again capacity number asked before after = CutsFirst capacity asked before after ⊎ GrowsFirst capacity asked before after
+StepsTo outcome.Again capacity number asked before after = CutsFirst capacity asked before after ⊎ (GrowsFirst capacity asked before after ⊎ FillsFirst capacity asked before after)
+
+-- what a command comes to ahead of which nothing goes: it was answered, or nothing was changed
+abbrev pub StepsNow : Outcome → ℕ → ℕ → Command → Content → Content → Type 0
+StepsNow (outcome.Answered reply changes) capacity number asked before after =
+    (line : List ℕ) → command_of line ≡ Ok asked → IsSteppedAs capacity number changes (record { line = line; reply = reply; before = before; after = after })
+StepsNow outcome.CommitFirst capacity number asked before after = after ≡ before
+StepsNow outcome.Again capacity number asked before after = ⊥
+
+-- of the growth of the file that data is put into, as many more zero blocks are filled as one step fills
+abbrev pub FillsMore : Option Data → Option Filling → Option Filling → Type 0
+FillsMore None old new = ⊥
+FillsMore (Some put) old new = (size : ℕ) × (done_of new put.id put.old_size size ≡ done_of old put.id put.old_size size + most_zeros)
+
+-- where a command is to be tried again, a cut or the growth of a tree went ahead of it, or more zero blocks are filled
+abbrev pub GoesFurther : ℕ → Command → Option Filling → Option Filling → Content → Content → Type 0
+GoesFurther capacity asked old new before after = CutsFirst capacity asked before after ⊎ (GrowsFirst capacity asked before after ⊎ FillsMore (data_of (tree_of before) asked) old new)
 
 -- the file that was shrunk last, behind a command: the one that it shrank, where it was done and shrank one
 abbrev pub ShrinksAs : Outcome → Command → Content → Option ℕ → Option ℕ → Type 0
@@ -157,6 +185,12 @@ outcome_of (ahead.Refused why) = outcome.Answered (reply.No why) []
 abbrev pub LacksCutRoom : Volume → Space → Type 0
 LacksCutRoom volume space = space.spare < cut_puts (room_with (capacity_of volume) (free_blocks (volume_of space.content)) (volume_of space.content))
 
+-- whether a command may put data into a file
+abbrev pub may_put : Command → Bool
+may_put (command.Write path from value) = true
+may_put (command.Trunc path size) = true
+may_put asked = false
+
 -- ---- a growth that goes first
 
 -- what a growth comes to for its command
@@ -183,11 +217,16 @@ pub record FitsNow (asked : Command) (volume : Volume) (space : Space) : Type 0 
   pub costs : weight_with (capacity_of volume) (takable_of volume) (volume_of space.content) (tree_of space.content) asked ≡ cost.Load load grow
   pub within : load ≤ space.spare
 
+-- A command has no more zero blocks than one step fills, or nothing was put since the last commit.
+abbrev pub HasFewZeros : Command → Volume → Space → Type 0
+HasFewZeros asked volume space = (zero_blocks (volume_of space.content).head.block_size (tree_of space.content) asked ≤ most_zeros) ⊎ (capacity_of volume ≤ space.spare)
+
 -- The command puts data into a file, what it costs of the blocks that may be taken is met, and of all that are free it costs no growth of the extents
--- overflow file either.
+-- overflow file either; and it has no more zero blocks than one step fills, or nothing was put since the last commit.
 pub record PutsNow (asked : Command) (volume : Volume) (space : Space) : Type 0 where
   pub met : is_data_met volume space.spare (volume_of space.content) (data_of (tree_of space.content) asked) ≡ true
   pub alike : (load : ℕ) (grow : List ℕ) → weight (capacity_of volume) (volume_of space.content) (tree_of space.content) asked ≡ cost.Load load grow → slice_index grow 0 ≡ 0
+  pub few : HasFewZeros asked volume space
 
 -- the verdict lets nothing go ahead of the command
 abbrev pub IsDirect : Verdict → Type 0

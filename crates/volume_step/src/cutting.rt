@@ -14,6 +14,7 @@ ghost use Rattle.volume_base.specs.Room.{capacity_of};
 ghost use Rattle.volume_base.specs.Service.{IsInService};
 ghost use Rattle.volume_space.specs.Standing.{HoldsOn};
 ghost use Rattle.volume_space.specs.Reclaiming.{Frees};
+ghost use Rattle.volume_space.specs.Zeroing.{HasFilled};
 ghost use Rattle.volume_base.specs.Standing.{IsSettled, StandsOver, own_sectors};
 ghost use Rattle.volume_base.specs.Touching.{Touches};
 ghost use Rattle.volume_step.specs.Loads.{IsWithinLoad};
@@ -97,6 +98,7 @@ fn cut_up_to<P: SectorSpace>(
     ensures place { IsTrue (P.SectorView.space space.old).tells → OnOk result (KeepsJournal (P.SectorView.space space.old).content (P.SectorView.space space.new).content) }
     ensures stands { OnOk result (StandsOver volume.new (P.SectorView.space space.new)) }
     ensures settled { IsTrue (P.SectorView.space space.old).tells → OnOk result (IsSettled volume.new (P.SectorView.space space.new).content) }
+    ensures filled { OnOk result (HasFilled volume.new (P.SectorView.space space.new)) }
     ensures service { IsInService volume.new (P.SectorView.space space.new) }
     ensures holds { (committed : Content) → HoldsOn committed volume.old → OnOk result (HoldsOn committed volume.new) }
     ensures capacity { capacity_of volume.new ≡ capacity_of volume.old }
@@ -109,6 +111,7 @@ fn cut_up_to<P: SectorSpace>(
 {
     soundness_has_two_halves();
     let came = cut_for(alloc, volume, space, command, end)?;
+    volume.filling = None;
     Ok(outcome_of(alloc, came))
 }
 
@@ -141,6 +144,7 @@ pub(crate) fn cut_first<P: SectorSpace>(
     ensures place { IsTrue (P.SectorView.space space.old).tells → OnOk result (KeepsJournal (P.SectorView.space space.old).content (P.SectorView.space space.new).content) }
     ensures stands { OnOk result (StandsOver volume.new (P.SectorView.space space.new)) }
     ensures settled { IsTrue (P.SectorView.space space.old).tells → OnOk result (IsSettled volume.new (P.SectorView.space space.new).content) }
+    ensures filled { OnOk result (HasFilled volume.new (P.SectorView.space space.new)) }
     ensures service { IsInService volume.new (P.SectorView.space space.new) }
     ensures holds { (committed : Content) → HoldsOn committed volume.old → OnOk result (HoldsOn committed volume.new) }
     ensures capacity { capacity_of volume.new ≡ capacity_of volume.old }
@@ -156,6 +160,9 @@ pub(crate) fn cut_first<P: SectorSpace>(
     match data_end(command) {
         Some(end) => cut_up_to(alloc, volume, space, number, command, end),
         // Where the space tells, the command puts data.
-        None => Ok(Outcome::CommitFirst),
+        None => {
+            volume.filling = None;
+            Ok(Outcome::CommitFirst)
+        }
     }
 }

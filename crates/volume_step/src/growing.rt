@@ -10,6 +10,7 @@ ghost use Rattle.volume_space.specs.Standing.{HoldsOn};
 ghost use Rattle.volume_base.specs.Standing.{IsSettled, StandsOver};
 ghost use Rattle.volume_base.specs.Touching.{Touches};
 ghost use Rattle.volume_space.specs.Growing.{WantsFirst};
+ghost use Rattle.volume_space.specs.Zeroing.{HasFilled};
 ghost use Rattle.volume_step.specs.Steps.{KeepsJournal, OwnOf, ShrinksAs, StepsTo, WaitsForGrowth, grown};
 ghost use Rattle.volume_step.specs.declared.outcome.Outcome.TheVariants as outcome;
 
@@ -42,6 +43,7 @@ pub(crate) fn grow_first<P: SectorSpace>(
     ensures place { IsTrue (P.SectorView.space space.old).tells → OnOk result (KeepsJournal (P.SectorView.space space.old).content (P.SectorView.space space.new).content) }
     ensures stands { OnOk result (StandsOver volume.new (P.SectorView.space space.new)) }
     ensures settled { IsTrue (P.SectorView.space space.old).tells → OnOk result (IsSettled volume.new (P.SectorView.space space.new).content) }
+    ensures filled { OnOk result (HasFilled volume.new (P.SectorView.space space.new)) }
     ensures service { IsInService volume.new (P.SectorView.space space.new) }
     ensures holds { (committed : Content) → HoldsOn committed volume.old → OnOk result (HoldsOn committed volume.new) }
     ensures capacity { capacity_of volume.new ≡ capacity_of volume.old }
@@ -53,6 +55,7 @@ pub(crate) fn grow_first<P: SectorSpace>(
     ensures cause { HasTroubleCause (P.SectorView.space space.old).faults (P.SectorView.space space.new).faults result }
 {
     let went = grow_tree(volume, alloc, space, tree, more)?;
+    volume.filling = None;
     Ok(grown(went))
 }
 

@@ -3,6 +3,7 @@
 
 mod answering;
 mod cutting;
+mod filling;
 mod growing;
 mod judging;
 mod linking;

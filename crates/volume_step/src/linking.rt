@@ -5,7 +5,7 @@ ghost use Rattle.hfs_language.specs.declared.command.Command.TheVariants as comm
 ghost use Rattle.volume_base.specs.Frame.{Edits, Serves};
 ghost use Rattle.volume_base.specs.Room.{capacity_of};
 ghost use Rattle.volume_step.specs.Loads.{IsWithinLoad};
-ghost use Rattle.volume_step.specs.Steps.{Affords, IsDoneOk, IsMet, KeepsJournal, StepsTo};
+ghost use Rattle.volume_step.specs.Steps.{Affords, IsDoneOk, IsMet, KeepsJournal, StepsNow};
 
 use crate::outcome::Outcome;
 use hfs_language::Path;
@@ -31,7 +31,7 @@ pub(crate) fn link_file<P: SectorSpace>(
     requires from_fits { FitsPath from.now }
     requires to_fits { FitsPath to.now }
     requires affords { IsTrue (P.SectorView.space space.old).tells → Affords (capacity_of volume.old) (command.Ln from.now to.now) (P.SectorView.space space.old).content }
-    ensures answered { IsTrue (P.SectorView.space space.old).tells → IfOk result (λ outcome. StepsTo outcome (capacity_of volume.old) number (command.Ln from.now to.now) (P.SectorView.space space.old).content (P.SectorView.space space.new).content) }
+    ensures answered { IsTrue (P.SectorView.space space.old).tells → IfOk result (λ outcome. StepsNow outcome (capacity_of volume.old) number (command.Ln from.now to.now) (P.SectorView.space space.old).content (P.SectorView.space space.new).content) }
     ensures done { IsTrue (P.SectorView.space space.old).tells → IsMet (command.Ln from.now to.now) volume.old (P.SectorView.space space.old) → IfOk result IsDoneOk }
     ensures place { IsTrue (P.SectorView.space space.old).tells → OnOk result (KeepsJournal (P.SectorView.space space.old).content (P.SectorView.space space.new).content) }
     ensures serves { OnOk result (Serves volume.new (P.SectorView.space space.new)) }

@@ -5,7 +5,7 @@ ghost use Rattle.hfs_language.specs.declared.command.Command.TheVariants as comm
 ghost use Rattle.volume_base.specs.Frame.{Edits, Serves};
 ghost use Rattle.volume_base.specs.Room.{capacity_of};
 ghost use Rattle.volume_step.specs.Loads.{IsWithinLoad};
-ghost use Rattle.volume_step.specs.Steps.{Affords, IsDoneOk, IsMet, KeepsJournal, StepsTo};
+ghost use Rattle.volume_step.specs.Steps.{Affords, IsDoneOk, IsMet, KeepsJournal, StepsNow};
 
 use crate::outcome::Outcome;
 use hfs_language::{ChangeKind, Changes, Path};
@@ -25,7 +25,7 @@ pub(crate) fn date<P: SectorSpace>(
 ) -> Result<Outcome, Trouble>
     requires serves { Serves volume.old (P.SectorView.space space.old) }
     requires affords { IsTrue (P.SectorView.space space.old).tells → Affords (capacity_of volume.old) (command.At moment) (P.SectorView.space space.old).content }
-    ensures answered { IsTrue (P.SectorView.space space.old).tells → IfOk result (λ outcome. StepsTo outcome (capacity_of volume.old) _number (command.At moment) (P.SectorView.space space.old).content (P.SectorView.space space.new).content) }
+    ensures answered { IsTrue (P.SectorView.space space.old).tells → IfOk result (λ outcome. StepsNow outcome (capacity_of volume.old) _number (command.At moment) (P.SectorView.space space.old).content (P.SectorView.space space.new).content) }
     ensures done { IsTrue (P.SectorView.space space.old).tells → IsMet (command.At moment) volume.old (P.SectorView.space space.old) → IfOk result IsDoneOk }
     ensures place { IsTrue (P.SectorView.space space.old).tells → OnOk result (KeepsJournal (P.SectorView.space space.old).content (P.SectorView.space space.new).content) }
     ensures serves { OnOk result (Serves volume.new (P.SectorView.space space.new)) }
@@ -55,7 +55,7 @@ pub(crate) fn set_mode<P: SectorSpace>(
     requires fits { FitsPath path.now }
     requires rights { rights < 4096 }
     requires affords { IsTrue (P.SectorView.space space.old).tells → Affords (capacity_of volume.old) (command.Chmod path.now rights) (P.SectorView.space space.old).content }
-    ensures answered { IsTrue (P.SectorView.space space.old).tells → IfOk result (λ outcome. StepsTo outcome (capacity_of volume.old) number (command.Chmod path.now rights) (P.SectorView.space space.old).content (P.SectorView.space space.new).content) }
+    ensures answered { IsTrue (P.SectorView.space space.old).tells → IfOk result (λ outcome. StepsNow outcome (capacity_of volume.old) number (command.Chmod path.now rights) (P.SectorView.space space.old).content (P.SectorView.space space.new).content) }
     ensures done { IsTrue (P.SectorView.space space.old).tells → IsMet (command.Chmod path.now rights) volume.old (P.SectorView.space space.old) → IfOk result IsDoneOk }
     ensures place { IsTrue (P.SectorView.space space.old).tells → OnOk result (KeepsJournal (P.SectorView.space space.old).content (P.SectorView.space space.new).content) }
     ensures serves { OnOk result (Serves volume.new (P.SectorView.space space.new)) }

@@ -8,7 +8,7 @@ ghost use Rattle.volume_base.specs.Fitting.{AreMet};
 ghost use Rattle.volume_base.specs.Frame.{Edits, Serves};
 ghost use Rattle.volume_base.specs.Room.{capacity_of};
 ghost use Rattle.volume_step.specs.Loads.{IsWithinLoad};
-ghost use Rattle.volume_step.specs.Steps.{Affords, IsDoneOk, IsMet, KeepsJournal, StepsTo};
+ghost use Rattle.volume_step.specs.Steps.{Affords, IsDoneOk, IsMet, KeepsJournal, StepsNow};
 
 use crate::outcome::Outcome;
 use hfs_language::{ChangeKind, Path};
@@ -34,7 +34,7 @@ fn remove_with<P: SectorSpace>(
     requires serves { Serves volume.old (P.SectorView.space space.old) }
     requires fits { FitsPath path.now }
     requires affords { IsTrue (P.SectorView.space space.old).tells → Affords (capacity_of volume.old) (command.Rmdir path.now) (P.SectorView.space space.old).content }
-    ensures answered { IsTrue (P.SectorView.space space.old).tells → IfOk result (λ outcome. StepsTo outcome (capacity_of volume.old) number (command.Rmdir path.now) (P.SectorView.space space.old).content (P.SectorView.space space.new).content) }
+    ensures answered { IsTrue (P.SectorView.space space.old).tells → IfOk result (λ outcome. StepsNow outcome (capacity_of volume.old) number (command.Rmdir path.now) (P.SectorView.space space.old).content (P.SectorView.space space.new).content) }
     ensures done { IsTrue (P.SectorView.space space.old).tells → AreMet (edits 0 2 many 1) volume.old (P.SectorView.space space.old) → (has_attributes (volume_of (P.SectorView.space space.old).content).head ≡ false → many ≡ 0) → IfOk result IsDoneOk }
     ensures place { IsTrue (P.SectorView.space space.old).tells → OnOk result (KeepsJournal (P.SectorView.space space.old).content (P.SectorView.space space.new).content) }
     ensures serves { OnOk result (Serves volume.new (P.SectorView.space space.new)) }
@@ -67,7 +67,7 @@ pub(crate) fn remove_folder<P: SectorSpace>(
     requires serves { Serves volume.old (P.SectorView.space space.old) }
     requires fits { FitsPath path.now }
     requires affords { IsTrue (P.SectorView.space space.old).tells → Affords (capacity_of volume.old) (command.Rmdir path.now) (P.SectorView.space space.old).content }
-    ensures answered { IsTrue (P.SectorView.space space.old).tells → IfOk result (λ outcome. StepsTo outcome (capacity_of volume.old) number (command.Rmdir path.now) (P.SectorView.space space.old).content (P.SectorView.space space.new).content) }
+    ensures answered { IsTrue (P.SectorView.space space.old).tells → IfOk result (λ outcome. StepsNow outcome (capacity_of volume.old) number (command.Rmdir path.now) (P.SectorView.space space.old).content (P.SectorView.space space.new).content) }
     ensures done { IsTrue (P.SectorView.space space.old).tells → IsMet (command.Rmdir path.now) volume.old (P.SectorView.space space.old) → IfOk result IsDoneOk }
     ensures place { IsTrue (P.SectorView.space space.old).tells → OnOk result (KeepsJournal (P.SectorView.space space.old).content (P.SectorView.space space.new).content) }
     ensures serves { OnOk result (Serves volume.new (P.SectorView.space space.new)) }
@@ -89,7 +89,7 @@ pub(crate) fn remove_file<P: SectorSpace>(
     requires serves { Serves volume.old (P.SectorView.space space.old) }
     requires fits { FitsPath path.now }
     requires affords { IsTrue (P.SectorView.space space.old).tells → Affords (capacity_of volume.old) (command.Rm path.now) (P.SectorView.space space.old).content }
-    ensures answered { IsTrue (P.SectorView.space space.old).tells → IfOk result (λ outcome. StepsTo outcome (capacity_of volume.old) number (command.Rm path.now) (P.SectorView.space space.old).content (P.SectorView.space space.new).content) }
+    ensures answered { IsTrue (P.SectorView.space space.old).tells → IfOk result (λ outcome. StepsNow outcome (capacity_of volume.old) number (command.Rm path.now) (P.SectorView.space space.old).content (P.SectorView.space space.new).content) }
     ensures done { IsTrue (P.SectorView.space space.old).tells → IsMet (command.Rm path.now) volume.old (P.SectorView.space space.old) → IfOk result IsDoneOk }
     ensures place { IsTrue (P.SectorView.space space.old).tells → OnOk result (KeepsJournal (P.SectorView.space space.old).content (P.SectorView.space space.new).content) }
     ensures serves { OnOk result (Serves volume.new (P.SectorView.space space.new)) }

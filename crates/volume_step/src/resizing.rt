@@ -16,10 +16,11 @@ ghost use Rattle.volume_base.specs.Service.{IsInService};
 ghost use Rattle.volume_space.specs.Spilling.{IsLaidOutAs};
 ghost use Rattle.volume_space.specs.Standing.{HoldsOn};
 ghost use Rattle.volume_space.specs.Writing.{is_data_met};
+ghost use Rattle.volume_space.specs.Zeroing.{HasFilled};
 ghost use Rattle.volume_base.specs.Standing.{IsSettled, StandsOver, own_sectors};
 ghost use Rattle.volume_base.specs.Touching.{Touches};
 ghost use Rattle.volume_step.specs.Loads.{IsWithinLoad};
-ghost use Rattle.volume_step.specs.Steps.{Affords, IsMet, KeepsJournal, ShrinksAs, StepsTo};
+ghost use Rattle.volume_step.specs.Steps.{Affords, IsMet, KeepsJournal, ShrinksAs, StepsNow};
 ghost use Rattle.volume_step.specs.declared.outcome.Outcome.TheVariants as outcome;
 
 use crate::outcome::Outcome;
@@ -41,10 +42,11 @@ fn lengthen<P: SectorSpace>(
 ) -> Result<Outcome, Trouble>
     requires stands { StandsOver volume.old (P.SectorView.space space.old) }
     requires settled { IsTrue (P.SectorView.space space.old).tells → IsSettled volume.old (P.SectorView.space space.old).content }
+    requires filled { HasFilled volume.old (P.SectorView.space space.old) }
     requires fits { FitsPath path.now }
     requires closed { IsTrue (P.SectorView.space space.old).tells → (at : ℕ) → (P.SectorView.space space.old).closed at → IsJournalSector (P.SectorView.space space.old).content at }
     requires affords { IsTrue (P.SectorView.space space.old).tells → Affords (capacity_of volume.old) (command.Trunc path.now size) (P.SectorView.space space.old).content }
-    ensures answered { IsTrue (P.SectorView.space space.old).tells → IfOk result (λ outcome. StepsTo outcome (capacity_of volume.old) number (command.Trunc path.now size) (P.SectorView.space space.old).content (P.SectorView.space space.new).content) }
+    ensures answered { IsTrue (P.SectorView.space space.old).tells → IfOk result (λ outcome. StepsNow outcome (capacity_of volume.old) number (command.Trunc path.now size) (P.SectorView.space space.old).content (P.SectorView.space space.new).content) }
     // Where its data is met, no commit comes first.
     ensures puts { IsTrue (P.SectorView.space space.old).tells → is_data_met volume.old (P.SectorView.space space.old).spare (volume_of (P.SectorView.space space.old).content) (data_of (tree_of (P.SectorView.space space.old).content) (command.Trunc path.now size)) ≡ true → IfOk result (λ it. it ≢ outcome.CommitFirst) }
     ensures place { IsTrue (P.SectorView.space space.old).tells → OnOk result (KeepsJournal (P.SectorView.space space.old).content (P.SectorView.space space.new).content) }
@@ -78,10 +80,11 @@ pub(crate) fn resize<P: SectorSpace>(
 ) -> Result<Outcome, Trouble>
     requires stands { StandsOver volume.old (P.SectorView.space space.old) }
     requires settled { IsTrue (P.SectorView.space space.old).tells → IsSettled volume.old (P.SectorView.space space.old).content }
+    requires filled { HasFilled volume.old (P.SectorView.space space.old) }
     requires fits { FitsPath path.now }
     requires closed { IsTrue (P.SectorView.space space.old).tells → (at : ℕ) → (P.SectorView.space space.old).closed at → IsJournalSector (P.SectorView.space space.old).content at }
     requires affords { IsTrue (P.SectorView.space space.old).tells → Affords (capacity_of volume.old) (command.Trunc path.now size) (P.SectorView.space space.old).content }
-    ensures answered { IsTrue (P.SectorView.space space.old).tells → IfOk result (λ outcome. StepsTo outcome (capacity_of volume.old) number (command.Trunc path.now size) (P.SectorView.space space.old).content (P.SectorView.space space.new).content) }
+    ensures answered { IsTrue (P.SectorView.space space.old).tells → IfOk result (λ outcome. StepsNow outcome (capacity_of volume.old) number (command.Trunc path.now size) (P.SectorView.space space.old).content (P.SectorView.space space.new).content) }
     // Where it makes the file no longer, and that is met, no commit comes first.
     ensures ready { IsTrue (P.SectorView.space space.old).tells → data_of (tree_of (P.SectorView.space space.old).content) (command.Trunc path.now size) ≡ None → IsMet (command.Trunc path.now size) volume.old (P.SectorView.space space.old) → IfOk result (λ it. it ≢ outcome.CommitFirst) }
     // Where its data is met, no commit comes first.
@@ -122,10 +125,11 @@ pub(crate) fn write_value<P: SectorSpace>(
 ) -> Result<Outcome, Trouble>
     requires stands { StandsOver volume.old (P.SectorView.space space.old) }
     requires settled { IsTrue (P.SectorView.space space.old).tells → IsSettled volume.old (P.SectorView.space space.old).content }
+    requires filled { HasFilled volume.old (P.SectorView.space space.old) }
     requires fits { FitsPath path.now }
     requires closed { IsTrue (P.SectorView.space space.old).tells → (at : ℕ) → (P.SectorView.space space.old).closed at → IsJournalSector (P.SectorView.space space.old).content at }
     requires affords { IsTrue (P.SectorView.space space.old).tells → Affords (capacity_of volume.old) (command.Write path.now from value.now) (P.SectorView.space space.old).content }
-    ensures answered { IsTrue (P.SectorView.space space.old).tells → IfOk result (λ outcome. StepsTo outcome (capacity_of volume.old) number (command.Write path.now from value.now) (P.SectorView.space space.old).content (P.SectorView.space space.new).content) }
+    ensures answered { IsTrue (P.SectorView.space space.old).tells → IfOk result (λ outcome. StepsNow outcome (capacity_of volume.old) number (command.Write path.now from value.now) (P.SectorView.space space.old).content (P.SectorView.space space.new).content) }
     // Where it puts no data, no commit comes first.
     ensures ready { IsTrue (P.SectorView.space space.old).tells → data_of (tree_of (P.SectorView.space space.old).content) (command.Write path.now from value.now) ≡ None → IfOk result (λ it. it ≢ outcome.CommitFirst) }
     // Where its data is met, no commit comes first.

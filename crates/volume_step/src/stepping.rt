@@ -9,22 +9,25 @@ ghost use Rattle.hfs_language.specs.Written.{FitsCommand};
 ghost use Rattle.hfs_model.specs.Step.{only_reads};
 ghost use Rattle.hfs_model.specs.declared.plain.PlainTree.{PlainTree};
 ghost use Rattle.hfs_volume.specs.Aside.{IsJournalSector};
-ghost use Rattle.hfs_volume.specs.Weight.{data_of, needs_cut};
+ghost use Rattle.hfs_volume.specs.Weight.{changes_nothing, data_of, needs_cut};
 ghost use Rattle.volume_base.specs.Frame.{Edits, Serves};
 ghost use Rattle.volume_base.specs.Keeping.{shrunk_of};
 ghost use Rattle.volume_base.specs.Room.{capacity_of};
 ghost use Rattle.volume_base.specs.Service.{IsInService};
 ghost use Rattle.volume_space.specs.Spilling.{IsLaidOutAs};
 ghost use Rattle.volume_space.specs.Standing.{HoldsOn};
+ghost use Rattle.volume_space.specs.Writing.{is_data_met};
+ghost use Rattle.volume_space.specs.Zeroing.{HasFilled};
 ghost use Rattle.volume_base.specs.Standing.{IsSettled, StandsOver};
 ghost use Rattle.volume_base.specs.Touching.{Touches};
 ghost use Rattle.volume_step.specs.Anew.{FitsAlike, FitsAnew, IsAnew};
 ghost use Rattle.volume_step.specs.Loads.{IsWithinLoad};
-ghost use Rattle.volume_step.specs.Steps.{Affords, FitsNow, IsDoneOk, IsMet, KeepsJournal, LacksCutRoom, OwnOf, PutsNow, ShrinksAs, StepsTo};
+ghost use Rattle.volume_step.specs.Steps.{Affords, FillsMore, FitsNow, GoesFurther, IsDoneOk, IsMet, KeepsJournal, LacksCutRoom, OwnOf, PutsNow, ShrinksAs, StepsNow, StepsTo, may_put};
 ghost use Rattle.volume_step.specs.declared.outcome.Outcome.TheVariants as outcome;
 
 use crate::answering::{answer, only_reads, refusal};
 use crate::cutting::cut_first;
+use crate::filling::fill_for;
 use crate::growing::grow_first;
 use crate::judging::{Verdict, judge};
 use crate::linking::link_file;
@@ -39,6 +42,7 @@ use hx_bytes::Trouble;
 use sector_disk::SectorSpace;
 use std::alloc::Global;
 use volume_base::Volume;
+use volume_space::Zeros;
 
 /// Does a command for which nothing is missing, and which gives no file other bytes; it is done where its edits are met. None of the others
 /// comes here.
@@ -52,8 +56,9 @@ fn perform_without_data<P: SectorSpace>(
     requires serves { Serves volume.old (P.SectorView.space space.old) }
     requires fits { FitsCommand command.now }
     requires affords { IsTrue (P.SectorView.space space.old).tells → Affords (capacity_of volume.old) command.now (P.SectorView.space space.old).content }
-    ensures answered { IsTrue (P.SectorView.space space.old).tells → IfOk result (λ outcome. StepsTo outcome (capacity_of volume.old) number command.now (P.SectorView.space space.old).content (P.SectorView.space space.new).content) }
+    ensures answered { IsTrue (P.SectorView.space space.old).tells → IfOk result (λ outcome. StepsNow outcome (capacity_of volume.old) number command.now (P.SectorView.space space.old).content (P.SectorView.space space.new).content) }
     ensures done { IsTrue (P.SectorView.space space.old).tells → IsMet command.now volume.old (P.SectorView.space space.old) → IfOk result IsDoneOk }
+    ensures still { IsTrue (P.SectorView.space space.old).tells → changes_nothing (tree_of (P.SectorView.space space.old).content) command.now ≡ true → IfOk result IsDoneOk }
     // It puts no data.
     ensures plain { OnOk result ((tree : PlainTree) → data_of tree command.now ≡ None) }
     ensures place { IsTrue (P.SectorView.space space.old).tells → OnOk result (KeepsJournal (P.SectorView.space space.old).content (P.SectorView.space space.new).content) }
@@ -89,8 +94,8 @@ fn perform_without_data<P: SectorSpace>(
     }
 }
 
-/// Does a command for which nothing is missing. One that isn't done here yet waits.
-fn perform<P: SectorSpace>(
+/// Does a command for which nothing is missing, and no more zero blocks are to be filled than its last step fills.
+fn perform_now<P: SectorSpace>(
     alloc: Global,
     volume: &mut Volume,
     space: &mut P,
@@ -99,13 +104,15 @@ fn perform<P: SectorSpace>(
 ) -> Result<Outcome, Trouble>
     requires stands { StandsOver volume.old (P.SectorView.space space.old) }
     requires settled { IsTrue (P.SectorView.space space.old).tells → IsSettled volume.old (P.SectorView.space space.old).content }
+    requires filled { HasFilled volume.old (P.SectorView.space space.old) }
     requires fits { FitsCommand command.now }
     requires closed { IsTrue (P.SectorView.space space.old).tells → (at : ℕ) → (P.SectorView.space space.old).closed at → IsJournalSector (P.SectorView.space space.old).content at }
     requires affords { IsTrue (P.SectorView.space space.old).tells → Affords (capacity_of volume.old) command.now (P.SectorView.space space.old).content }
-    ensures answered { IsTrue (P.SectorView.space space.old).tells → IfOk result (λ outcome. StepsTo outcome (capacity_of volume.old) number command.now (P.SectorView.space space.old).content (P.SectorView.space space.new).content) }
+    ensures answered { IsTrue (P.SectorView.space space.old).tells → IfOk result (λ outcome. StepsNow outcome (capacity_of volume.old) number command.now (P.SectorView.space space.old).content (P.SectorView.space space.new).content) }
     // Where it fits now, no commit comes first.
     ensures ready { IsTrue (P.SectorView.space space.old).tells → only_reads command.now ≡ false → (now : FitsNow command.now volume.old (P.SectorView.space space.old)) → now.grow ≡ 0 ∷ 0 ∷ 0 ∷ [] → IfOk result (λ it. it ≢ outcome.CommitFirst) }
-    ensures puts { IsTrue (P.SectorView.space space.old).tells → PutsNow command.now volume.old (P.SectorView.space space.old) → IfOk result (λ it. it ≢ outcome.CommitFirst) }
+    // Where its data is met, none does either.
+    ensures puts { IsTrue (P.SectorView.space space.old).tells → is_data_met volume.old (P.SectorView.space space.old).spare (volume_of (P.SectorView.space space.old).content) (data_of (tree_of (P.SectorView.space space.old).content) command.now) ≡ true → IfOk result (λ it. it ≢ outcome.CommitFirst) }
     ensures place { IsTrue (P.SectorView.space space.old).tells → OnOk result (KeepsJournal (P.SectorView.space space.old).content (P.SectorView.space space.new).content) }
     ensures stands { OnOk result (StandsOver volume.new (P.SectorView.space space.new)) }
     ensures settled { IsTrue (P.SectorView.space space.old).tells → OnOk result (IsSettled volume.new (P.SectorView.space space.new).content) }
@@ -128,6 +135,88 @@ fn perform<P: SectorSpace>(
     }
 }
 
+/// The same; behind it no growth is in hand.
+fn perform_last<P: SectorSpace>(
+    alloc: Global,
+    volume: &mut Volume,
+    space: &mut P,
+    number: u64,
+    command: &Command,
+) -> Result<Outcome, Trouble>
+    requires stands { StandsOver volume.old (P.SectorView.space space.old) }
+    requires settled { IsTrue (P.SectorView.space space.old).tells → IsSettled volume.old (P.SectorView.space space.old).content }
+    requires filled { HasFilled volume.old (P.SectorView.space space.old) }
+    requires fits { FitsCommand command.now }
+    requires closed { IsTrue (P.SectorView.space space.old).tells → (at : ℕ) → (P.SectorView.space space.old).closed at → IsJournalSector (P.SectorView.space space.old).content at }
+    requires affords { IsTrue (P.SectorView.space space.old).tells → Affords (capacity_of volume.old) command.now (P.SectorView.space space.old).content }
+    ensures answered { IsTrue (P.SectorView.space space.old).tells → IfOk result (λ outcome. StepsNow outcome (capacity_of volume.old) number command.now (P.SectorView.space space.old).content (P.SectorView.space space.new).content) }
+    // Where it fits now, no commit comes first.
+    ensures ready { IsTrue (P.SectorView.space space.old).tells → only_reads command.now ≡ false → (now : FitsNow command.now volume.old (P.SectorView.space space.old)) → now.grow ≡ 0 ∷ 0 ∷ 0 ∷ [] → IfOk result (λ it. it ≢ outcome.CommitFirst) }
+    // Where its data is met, none does either.
+    ensures puts { IsTrue (P.SectorView.space space.old).tells → is_data_met volume.old (P.SectorView.space space.old).spare (volume_of (P.SectorView.space space.old).content) (data_of (tree_of (P.SectorView.space space.old).content) command.now) ≡ true → IfOk result (λ it. it ≢ outcome.CommitFirst) }
+    ensures place { IsTrue (P.SectorView.space space.old).tells → OnOk result (KeepsJournal (P.SectorView.space space.old).content (P.SectorView.space space.new).content) }
+    ensures stands { OnOk result (StandsOver volume.new (P.SectorView.space space.new)) }
+    ensures settled { IsTrue (P.SectorView.space space.old).tells → OnOk result (IsSettled volume.new (P.SectorView.space space.new).content) }
+    ensures filled { OnOk result (HasFilled volume.new (P.SectorView.space space.new)) }
+    ensures service { IsInService volume.new (P.SectorView.space space.new) }
+    ensures holds { (committed : Content) → HoldsOn committed volume.old → OnOk result (HoldsOn committed volume.new) }
+    ensures capacity { capacity_of volume.new ≡ capacity_of volume.old }
+    ensures shrunk { IsTrue (P.SectorView.space space.old).tells → IfOk result (λ outcome. ShrinksAs outcome command.now (P.SectorView.space space.old).content (shrunk_of volume.old) (shrunk_of volume.new)) }
+    ensures touches { (committed : Content) → HoldsOn committed volume.old → IsLaidOutAs committed volume.old → Touches committed (OwnOf volume.old volume.new) (P.SectorView.space space.old) (P.SectorView.space space.new) }
+    ensures same { SameSpace (P.SectorView.space space.old) (P.SectorView.space space.new) }
+    ensures loads { IsTrue (P.SectorView.space space.old).tells → IsWithinLoad command.now volume.old (P.SectorView.space space.old) (P.SectorView.space space.new) }
+    ensures below { P.SectorView.follows space.old space.new }
+    ensures cause { HasTroubleCause (P.SectorView.space space.old).faults (P.SectorView.space space.new).faults result }
+{
+    let came = perform_now(alloc, volume, space, number, command)?;
+    volume.filling = None;
+    Ok(came)
+}
+
+/// Does a command for which nothing is missing; or zero blocks of its growth are filled first, or a commit is wanted before them.
+fn perform<P: SectorSpace>(
+    alloc: Global,
+    volume: &mut Volume,
+    space: &mut P,
+    number: u64,
+    command: &Command,
+) -> Result<Outcome, Trouble>
+    requires stands { StandsOver volume.old (P.SectorView.space space.old) }
+    requires settled { IsTrue (P.SectorView.space space.old).tells → IsSettled volume.old (P.SectorView.space space.old).content }
+    requires filled { HasFilled volume.old (P.SectorView.space space.old) }
+    requires fits { FitsCommand command.now }
+    requires closed { IsTrue (P.SectorView.space space.old).tells → (at : ℕ) → (P.SectorView.space space.old).closed at → IsJournalSector (P.SectorView.space space.old).content at }
+    requires affords { IsTrue (P.SectorView.space space.old).tells → Affords (capacity_of volume.old) command.now (P.SectorView.space space.old).content }
+    // No blocks past its file's size stand in its way.
+    requires uncut { IsTrue (P.SectorView.space space.old).tells → needs_cut (volume_of (P.SectorView.space space.old).content) (data_of (tree_of (P.SectorView.space space.old).content) command.now) ≡ false }
+    ensures answered { IsTrue (P.SectorView.space space.old).tells → IfOk result (λ outcome. StepsTo outcome (capacity_of volume.old) number command.now (P.SectorView.space space.old).content (P.SectorView.space space.new).content) }
+    // Where it fits now, no commit comes first.
+    ensures ready { IsTrue (P.SectorView.space space.old).tells → only_reads command.now ≡ false → (now : FitsNow command.now volume.old (P.SectorView.space space.old)) → now.grow ≡ 0 ∷ 0 ∷ 0 ∷ [] → IfOk result (λ it. it ≢ outcome.CommitFirst) }
+    ensures puts { IsTrue (P.SectorView.space space.old).tells → PutsNow command.now volume.old (P.SectorView.space space.old) → IfOk result (λ it. it ≢ outcome.CommitFirst) }
+    // Each time that it is to be tried again there are more zero blocks.
+    ensures further { IsTrue (P.SectorView.space space.old).tells → IfOk result (λ it. it ≡ outcome.Again → FillsMore (data_of (tree_of (P.SectorView.space space.old).content) command.now) volume.old.filling volume.new.filling) }
+    ensures place { IsTrue (P.SectorView.space space.old).tells → OnOk result (KeepsJournal (P.SectorView.space space.old).content (P.SectorView.space space.new).content) }
+    ensures stands { OnOk result (StandsOver volume.new (P.SectorView.space space.new)) }
+    ensures settled { IsTrue (P.SectorView.space space.old).tells → OnOk result (IsSettled volume.new (P.SectorView.space space.new).content) }
+    ensures filled { OnOk result (HasFilled volume.new (P.SectorView.space space.new)) }
+    ensures service { IsInService volume.new (P.SectorView.space space.new) }
+    ensures holds { (committed : Content) → HoldsOn committed volume.old → OnOk result (HoldsOn committed volume.new) }
+    ensures capacity { capacity_of volume.new ≡ capacity_of volume.old }
+    ensures shrunk { IsTrue (P.SectorView.space space.old).tells → IfOk result (λ outcome. ShrinksAs outcome command.now (P.SectorView.space space.old).content (shrunk_of volume.old) (shrunk_of volume.new)) }
+    ensures touches { (committed : Content) → HoldsOn committed volume.old → IsLaidOutAs committed volume.old → Touches committed (OwnOf volume.old volume.new) (P.SectorView.space space.old) (P.SectorView.space space.new) }
+    ensures same { SameSpace (P.SectorView.space space.old) (P.SectorView.space space.new) }
+    ensures loads { IsTrue (P.SectorView.space space.old).tells → IsWithinLoad command.now volume.old (P.SectorView.space space.old) (P.SectorView.space space.new) }
+    ensures below { P.SectorView.follows space.old space.new }
+    ensures cause { HasTroubleCause (P.SectorView.space space.old).faults (P.SectorView.space space.new).faults result }
+{
+    let zeros = fill_for(alloc, volume, space, command)?;
+    match zeros {
+        Zeros::Few => perform_last(alloc, volume, space, number, command),
+        Zeros::Filled => Ok(Outcome::Again),
+        Zeros::CommitFirst => Ok(Outcome::CommitFirst),
+    }
+}
+
 /// Judges a command that changes the volume, and does it where nothing is missing for it.
 fn change<P: SectorSpace>(
     alloc: Global,
@@ -138,6 +227,7 @@ fn change<P: SectorSpace>(
 ) -> Result<Outcome, Trouble>
     requires stands { StandsOver volume.old (P.SectorView.space space.old) }
     requires settled { IsTrue (P.SectorView.space space.old).tells → IsSettled volume.old (P.SectorView.space space.old).content }
+    requires filled { HasFilled volume.old (P.SectorView.space space.old) }
     requires fits { FitsCommand command.now }
     requires closed { IsTrue (P.SectorView.space space.old).tells → (at : ℕ) → (P.SectorView.space space.old).closed at → IsJournalSector (P.SectorView.space space.old).content at }
     requires changes { only_reads command.now ≡ false }
@@ -149,9 +239,11 @@ fn change<P: SectorSpace>(
     ensures alike { IsTrue (P.SectorView.space space.old).tells → FitsAlike command.now volume.old (P.SectorView.space space.old) → IfOk result (λ it. it ≢ outcome.CommitFirst) }
     // Where a cut goes ahead of it, one does only where there is too little room for the cut.
     ensures short { IsTrue (P.SectorView.space space.old).tells → needs_cut (volume_of (P.SectorView.space space.old).content) (data_of (tree_of (P.SectorView.space space.old).content) command.now) ≡ true → IfOk result (λ it. it ≡ outcome.CommitFirst → LacksCutRoom volume.old (P.SectorView.space space.old)) }
+    ensures further { IsTrue (P.SectorView.space space.old).tells → IfOk result (λ it. it ≡ outcome.Again → GoesFurther (capacity_of volume.old) command.now volume.old.filling volume.new.filling (P.SectorView.space space.old).content (P.SectorView.space space.new).content) }
     ensures place { IsTrue (P.SectorView.space space.old).tells → OnOk result (KeepsJournal (P.SectorView.space space.old).content (P.SectorView.space space.new).content) }
     ensures stands { OnOk result (StandsOver volume.new (P.SectorView.space space.new)) }
     ensures settled { IsTrue (P.SectorView.space space.old).tells → OnOk result (IsSettled volume.new (P.SectorView.space space.new).content) }
+    ensures filled { OnOk result (HasFilled volume.new (P.SectorView.space space.new)) }
     ensures service { IsInService volume.new (P.SectorView.space space.new) }
     ensures holds { (committed : Content) → HoldsOn committed volume.old → OnOk result (HoldsOn committed volume.new) }
     ensures capacity { capacity_of volume.new ≡ capacity_of volume.old }
@@ -173,8 +265,94 @@ fn change<P: SectorSpace>(
     }
 }
 
+/// Whether a command may put data into a file, so that a growth may be in hand for it.
+fn puts_data(command: &Command) -> bool
+    ensures { result ≡ may_put command.now }
+{
+    match command {
+        Command::Write { .. } => true,
+        Command::Trunc { .. } => true,
+        _ => false,
+    }
+}
+
+/// Does a command where a growth that is in hand may be its own.
+fn step_at_once<P: SectorSpace>(
+    alloc: Global,
+    volume: &mut Volume,
+    space: &mut P,
+    number: u64,
+    command: &Command,
+) -> Result<Outcome, Trouble>
+    requires stands { StandsOver volume.old (P.SectorView.space space.old) }
+    requires settled { IsTrue (P.SectorView.space space.old).tells → IsSettled volume.old (P.SectorView.space space.old).content }
+    requires filled { HasFilled volume.old (P.SectorView.space space.old) }
+    requires fits { FitsCommand command.now }
+    requires closed { IsTrue (P.SectorView.space space.old).tells → (at : ℕ) → (P.SectorView.space space.old).closed at → IsJournalSector (P.SectorView.space space.old).content at }
+    ensures answered { IsTrue (P.SectorView.space space.old).tells → IfOk result (λ outcome. StepsTo outcome (capacity_of volume.old) number command.now (P.SectorView.space space.old).content (P.SectorView.space space.new).content) }
+    ensures ready { IsTrue (P.SectorView.space space.old).tells → (only_reads command.now ≡ true) ⊎ (FitsNow command.now volume.old (P.SectorView.space space.old) ⊎ PutsNow command.now volume.old (P.SectorView.space space.old)) → IfOk result (λ it. it ≢ outcome.CommitFirst) }
+    ensures anew { IsTrue (P.SectorView.space space.old).tells → IsAnew volume.old (P.SectorView.space space.old) → FitsAnew command.now volume.old (P.SectorView.space space.old).content → IfOk result (λ it. it ≢ outcome.CommitFirst) }
+    ensures short { IsTrue (P.SectorView.space space.old).tells → needs_cut (volume_of (P.SectorView.space space.old).content) (data_of (tree_of (P.SectorView.space space.old).content) command.now) ≡ true → IfOk result (λ it. it ≡ outcome.CommitFirst → LacksCutRoom volume.old (P.SectorView.space space.old)) }
+    ensures further { IsTrue (P.SectorView.space space.old).tells → IfOk result (λ it. it ≡ outcome.Again → GoesFurther (capacity_of volume.old) command.now volume.old.filling volume.new.filling (P.SectorView.space space.old).content (P.SectorView.space space.new).content) }
+    ensures place { IsTrue (P.SectorView.space space.old).tells → OnOk result (KeepsJournal (P.SectorView.space space.old).content (P.SectorView.space space.new).content) }
+    ensures stands { OnOk result (StandsOver volume.new (P.SectorView.space space.new)) }
+    ensures settled { IsTrue (P.SectorView.space space.old).tells → OnOk result (IsSettled volume.new (P.SectorView.space space.new).content) }
+    ensures filled { OnOk result (HasFilled volume.new (P.SectorView.space space.new)) }
+    ensures service { IsInService volume.new (P.SectorView.space space.new) }
+    ensures holds { (committed : Content) → HoldsOn committed volume.old → OnOk result (HoldsOn committed volume.new) }
+    ensures capacity { capacity_of volume.new ≡ capacity_of volume.old }
+    ensures shrunk { IsTrue (P.SectorView.space space.old).tells → IfOk result (λ outcome. ShrinksAs outcome command.now (P.SectorView.space space.old).content (shrunk_of volume.old) (shrunk_of volume.new)) }
+    ensures touches { (committed : Content) → HoldsOn committed volume.old → IsLaidOutAs committed volume.old → Touches committed (OwnOf volume.old volume.new) (P.SectorView.space space.old) (P.SectorView.space space.new) }
+    ensures same { SameSpace (P.SectorView.space space.old) (P.SectorView.space space.new) }
+    ensures loads { IsTrue (P.SectorView.space space.old).tells → IsWithinLoad command.now volume.old (P.SectorView.space space.old) (P.SectorView.space space.new) }
+    ensures below { P.SectorView.follows space.old space.new }
+    ensures cause { HasTroubleCause (P.SectorView.space space.old).faults (P.SectorView.space space.new).faults result }
+{
+    if only_reads(command) {
+        return answer(alloc, volume, space, number, command);
+    }
+    change(alloc, volume, space, number, command)
+}
+
+/// The same for any other command, which drops a growth that is in hand.
+fn step_afresh<P: SectorSpace>(
+    alloc: Global,
+    volume: &mut Volume,
+    space: &mut P,
+    number: u64,
+    command: &Command,
+) -> Result<Outcome, Trouble>
+    requires stands { StandsOver volume.old (P.SectorView.space space.old) }
+    requires settled { IsTrue (P.SectorView.space space.old).tells → IsSettled volume.old (P.SectorView.space space.old).content }
+    requires filled { HasFilled volume.old (P.SectorView.space space.old) }
+    requires fits { FitsCommand command.now }
+    requires none { may_put command.now ≡ false }
+    requires closed { IsTrue (P.SectorView.space space.old).tells → (at : ℕ) → (P.SectorView.space space.old).closed at → IsJournalSector (P.SectorView.space space.old).content at }
+    ensures answered { IsTrue (P.SectorView.space space.old).tells → IfOk result (λ outcome. StepsTo outcome (capacity_of volume.old) number command.now (P.SectorView.space space.old).content (P.SectorView.space space.new).content) }
+    ensures ready { IsTrue (P.SectorView.space space.old).tells → (only_reads command.now ≡ true) ⊎ (FitsNow command.now volume.old (P.SectorView.space space.old) ⊎ PutsNow command.now volume.old (P.SectorView.space space.old)) → IfOk result (λ it. it ≢ outcome.CommitFirst) }
+    ensures anew { IsTrue (P.SectorView.space space.old).tells → IsAnew volume.old (P.SectorView.space space.old) → FitsAnew command.now volume.old (P.SectorView.space space.old).content → IfOk result (λ it. it ≢ outcome.CommitFirst) }
+    ensures short { IsTrue (P.SectorView.space space.old).tells → needs_cut (volume_of (P.SectorView.space space.old).content) (data_of (tree_of (P.SectorView.space space.old).content) command.now) ≡ true → IfOk result (λ it. it ≡ outcome.CommitFirst → LacksCutRoom volume.old (P.SectorView.space space.old)) }
+    ensures further { IsTrue (P.SectorView.space space.old).tells → IfOk result (λ it. it ≡ outcome.Again → GoesFurther (capacity_of volume.old) command.now volume.old.filling volume.new.filling (P.SectorView.space space.old).content (P.SectorView.space space.new).content) }
+    ensures place { IsTrue (P.SectorView.space space.old).tells → OnOk result (KeepsJournal (P.SectorView.space space.old).content (P.SectorView.space space.new).content) }
+    ensures stands { OnOk result (StandsOver volume.new (P.SectorView.space space.new)) }
+    ensures settled { IsTrue (P.SectorView.space space.old).tells → OnOk result (IsSettled volume.new (P.SectorView.space space.new).content) }
+    ensures filled { OnOk result (HasFilled volume.new (P.SectorView.space space.new)) }
+    ensures service { IsInService volume.new (P.SectorView.space space.new) }
+    ensures holds { (committed : Content) → HoldsOn committed volume.old → OnOk result (HoldsOn committed volume.new) }
+    ensures capacity { capacity_of volume.new ≡ capacity_of volume.old }
+    ensures shrunk { IsTrue (P.SectorView.space space.old).tells → IfOk result (λ outcome. ShrinksAs outcome command.now (P.SectorView.space space.old).content (shrunk_of volume.old) (shrunk_of volume.new)) }
+    ensures touches { (committed : Content) → HoldsOn committed volume.old → IsLaidOutAs committed volume.old → Touches committed (OwnOf volume.old volume.new) (P.SectorView.space space.old) (P.SectorView.space space.new) }
+    ensures same { SameSpace (P.SectorView.space space.old) (P.SectorView.space space.new) }
+    ensures loads { IsTrue (P.SectorView.space space.old).tells → IsWithinLoad command.now volume.old (P.SectorView.space space.old) (P.SectorView.space space.new) }
+    ensures below { P.SectorView.follows space.old space.new }
+    ensures cause { HasTroubleCause (P.SectorView.space space.old).faults (P.SectorView.space space.new).faults result }
+{
+    volume.filling = None;
+    step_at_once(alloc, volume, space, number, command)
+}
+
 /// Weighs a command, whose line has this number, and does it: what it came to is that of the plain tree's step, or a refusal for
-/// want of a resource; or it is to be tried again, since a cut or the growth of a tree went ahead of it; or a commit is wanted before it, and
+/// want of a resource; or it is to be tried again, since a cut, the growth of a tree or zero blocks went ahead of it; or a commit is wanted before it, and
 /// nothing was changed. So it is where its load is more than may be put, or the growth doesn't fit. `Memory` comes where memory is wanting,
 /// `Disk` where a read failed.
 pub fn step<P: SectorSpace>(
@@ -186,6 +364,7 @@ pub fn step<P: SectorSpace>(
 ) -> Result<Outcome, Trouble>
     requires stands { StandsOver volume.old (P.SectorView.space space.old) }
     requires settled { IsTrue (P.SectorView.space space.old).tells → IsSettled volume.old (P.SectorView.space space.old).content }
+    requires filled { HasFilled volume.old (P.SectorView.space space.old) }
     requires fits { FitsCommand command.now }
     // Only the journal's sectors are closed.
     requires closed { IsTrue (P.SectorView.space space.old).tells → (at : ℕ) → (P.SectorView.space space.old).closed at → IsJournalSector (P.SectorView.space space.old).content at }
@@ -198,10 +377,13 @@ pub fn step<P: SectorSpace>(
     ensures anew { IsTrue (P.SectorView.space space.old).tells → IsAnew volume.old (P.SectorView.space space.old) → FitsAnew command.now volume.old (P.SectorView.space space.old).content → IfOk result (λ it. it ≢ outcome.CommitFirst) }
     // Where a cut goes ahead of it, one comes first only where there is too little room for the cut.
     ensures short { IsTrue (P.SectorView.space space.old).tells → needs_cut (volume_of (P.SectorView.space space.old).content) (data_of (tree_of (P.SectorView.space space.old).content) command.now) ≡ true → IfOk result (λ it. it ≡ outcome.CommitFirst → LacksCutRoom volume.old (P.SectorView.space space.old)) }
+    // Each time that it is to be tried again less is left to go ahead of it.
+    ensures further { IsTrue (P.SectorView.space space.old).tells → IfOk result (λ it. it ≡ outcome.Again → GoesFurther (capacity_of volume.old) command.now volume.old.filling volume.new.filling (P.SectorView.space space.old).content (P.SectorView.space space.new).content) }
     // The journal lies where it lay, and the header is one of the same volume.
     ensures place { IsTrue (P.SectorView.space space.old).tells → OnOk result (KeepsJournal (P.SectorView.space space.old).content (P.SectorView.space space.new).content) }
     ensures stands { OnOk result (StandsOver volume.new (P.SectorView.space space.new)) }
     ensures settled { IsTrue (P.SectorView.space space.old).tells → OnOk result (IsSettled volume.new (P.SectorView.space space.new).content) }
+    ensures filled { OnOk result (HasFilled volume.new (P.SectorView.space space.new)) }
     ensures service { IsInService volume.new (P.SectorView.space space.new) }
     // No block that a content has in use is lost.
     ensures holds { (committed : Content) → HoldsOn committed volume.old → OnOk result (HoldsOn committed volume.new) }
@@ -218,8 +400,8 @@ pub fn step<P: SectorSpace>(
     ensures below { P.SectorView.follows space.old space.new }
     ensures cause { HasTroubleCause (P.SectorView.space space.old).faults (P.SectorView.space space.new).faults result }
 {
-    if only_reads(command) {
-        return answer(alloc, volume, space, number, command);
+    if puts_data(command) {
+        return step_at_once(alloc, volume, space, number, command);
     }
-    change(alloc, volume, space, number, command)
+    step_afresh(alloc, volume, space, number, command)
 }

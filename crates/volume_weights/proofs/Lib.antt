@@ -6,3 +6,4 @@ pub mod DataNeeds
 pub mod LinkWeight
 pub mod LoseWeight
 pub mod MoveWeight
+pub mod OverWeight

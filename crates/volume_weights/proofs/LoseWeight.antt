@@ -27,7 +27,7 @@ use Rattle.hfs_volume.specs.TreeOf.{file_bytes, tree_in, tree_of}
 use Rattle.hfs_volume.specs.Weight.{Edits as Asked, edits, edits_of, folders_made, free_blocks, needs_for, rm_edits, rm_edits_at, room_with, weight, weight_with}
 use Rattle.volume_base.specs.Lists.{lists_of}
 use Rattle.volume_base.specs.Losing.{lose_edits}
-use Rattle.volume_weights.specs.Losing.{loss_weighed, last_edits, unlink_edits}
+use Rattle.volume_weights.specs.Losing.{link_edits, loss_weighed, last_edits, unlink_edits}
 use Rattle.volume_base.specs.Nodes.{folder_node, node_in, node_reached, root_node}
 use Rattle.volume_base.specs.Reaching.{walk_in}
 use Rattle.volume_base.specs.declared.reaching.Reached.{Reached}
@@ -131,6 +131,14 @@ asked_is : (private : Option ℕ) → edits (if is_some private then 0 else 1) (
 asked_is None = refl
 asked_is (Some private) = refl
 
+-- what was spent, in the weight's words
+abbrev pub as_asked : Spent → Asked
+as_asked spent = edits spent.ids spent.catalog spent.attributes spent.updates
+
+asked_as : (private : Option ℕ) → asked_to_lose private ≡ as_asked (lose_edits private)
+asked_as None = refl
+asked_as (Some private) = refl
+
 pub has_private_is : (content : Content) → (tree_of content).has_private ≡ is_some (private_id (records_of (volume_of content)))
 unfolding tree_of tree_in
 has_private_is content = refl
@@ -226,13 +234,18 @@ module _ (law : SoundHasPlainTree) (v : Volume) (content : Content) (holds : Hol
       of_file kind plain_file one =
           lose_allowed v.capacity takable (volume_of content) (tree_of content) path not_own v.private at.entry (at.removal ∙ ap (λ (b : Bool). if b then Err refusal.IsFolder else Ok at.entry) kind) (of_alone kind plain_file one)
 
+      -- the edits where it is a link's, by how many names it has
+      of_linked : n.folder ≡ false → n.linked ≡ true → (links : ℕ) → names_of (tree_of content) n.id ≡ links → (b : Bool) → nat_lt 1 links ≡ b → edits_of (tree_of content) (command.Rm path) ≡ as_asked (if b then unlink_edits else last_edits)
+      of_linked kind linked links many false is = edits_here kind ∙ (λ i. if (ap (nat_lt 1) many ∙ is) i then edits 0 2 0 4 else if linked i then edits 0 5 0 4 else edits (folders_made (tree_of content)) (3 + 2 * folders_made (tree_of content)) 0 4)
+      of_linked kind linked links many true is = edits_here kind ∙ ap (λ (b : Bool). if b then edits 0 2 0 4 else if n.linked then edits 0 5 0 4 else edits (folders_made (tree_of content)) (3 + 2 * folders_made (tree_of content)) 0 4) (ap (nat_lt 1) many ∙ is)
+
       of_link : n.folder ≡ false → n.linked ≡ true → (links : ℕ) → names_of (tree_of content) n.id ≡ links → (b : Bool) → nat_lt 1 links ≡ b → unlink_here (if b then unlink_edits else last_edits) ≡ words_here
       of_link kind linked links many false is =
           last_allowed v.capacity takable (volume_of content) (tree_of content) path not_own at.entry (at.removal ∙ ap (λ (b : Bool). if b then Err refusal.IsFolder else Ok at.entry) kind)
-          (edits_here kind ∙ (λ i. if (ap (nat_lt 1) many ∙ is) i then edits 0 2 0 4 else if linked i then edits 0 5 0 4 else edits (folders_made (tree_of content)) (3 + 2 * folders_made (tree_of content)) 0 4))
+          (of_linked kind linked links many false is)
       of_link kind linked links many true is =
           unlink_allowed v.capacity takable (volume_of content) (tree_of content) path not_own at.entry (at.removal ∙ ap (λ (b : Bool). if b then Err refusal.IsFolder else Ok at.entry) kind)
-          (edits_here kind ∙ ap (λ (b : Bool). if b then edits 0 2 0 4 else if n.linked then edits 0 5 0 4 else edits (folders_made (tree_of content)) (3 + 2 * folders_made (tree_of content)) 0 4) (ap (nat_lt 1) many ∙ is))
+          (of_linked kind linked links many true is)
 
     by_node : (f : Node) (n : PlainNode) → to_node (tree_of content) path ≡ Ok n → IsIt f n → loss_weighed f loss_here unlink_here ≡ words_here
     by_node (node.Folder folder) n is it =
@@ -253,6 +266,34 @@ module _ (law : SoundHasPlainTree) (v : Volume) (content : Content) (holds : Hol
         by : (s : Result PlainNode Refusal) → to_node (tree_of content) path ≡ s → Agree IsIt (Ok f) s → loss_weighed f loss_here unlink_here ≡ words_here
         by (Ok n) at it = by_node f n at it
         by (Err why) at never = absurd never
+
+    -- ---- the file, and what its removal edits
+
+    pub file_is : (n : PlainNode) → to_node (tree_of content) path ≡ Ok n → n.folder ≡ false → (own : FileRecord) × (linked : Bool) × (said ≡ Ok (node.File own linked))
+    file_is n is kind = by said refl (subst (λ (s : Result PlainNode Refusal). Agree IsIt said s) is agrees)
+      where
+        by : (r : Result Node Refusal) → said ≡ r → Agree IsIt r (Ok n) → (own : FileRecord) × (linked : Bool) × (said ≡ Ok (node.File own linked))
+        by (Err why) same never = absurd never
+        by (Ok (node.Folder folder)) same it = absurd (true≢false (sym (ap (λ (m : PlainNode). m.folder) it.is) ∙ kind))
+        by (Ok (node.File own linked)) same it = (own, linked, same)
+
+    module _ (own : FileRecord) (linked : Bool) (same : said ≡ Ok (node.File own linked)) where
+      pub file_told : (n : PlainNode) × (to_node (tree_of content) path ≡ Ok n) × (n.folder ≡ false) × (n.id ≡ own.fields.id)
+      file_told = by (to_node (tree_of content) path) refl (subst (λ (r : Result Node Refusal). Agree IsIt r (to_node (tree_of content) path)) same agrees)
+        where
+          by : (s : Result PlainNode Refusal) → to_node (tree_of content) path ≡ s → Agree IsIt (Ok (node.File own linked)) s → (n : PlainNode) × (to_node (tree_of content) path ≡ Ok n) × (n.folder ≡ false) × (n.id ≡ own.fields.id)
+          by (Err why) at never = absurd never
+          by (Ok n) at it = (n, at, ap (λ (m : PlainNode). m.folder) it.is, ap (λ (m : PlainNode). m.id) it.is)
+
+      pub loss_edits : edits_of (tree_of content) (command.Rm path) ≡ as_asked (if linked then link_edits own.fields.special else lose_edits v.private)
+      loss_edits = by (to_node (tree_of content) path) refl linked (subst (λ (r : Result Node Refusal). Agree IsIt r (to_node (tree_of content) path)) same agrees)
+        where
+          by : (s : Result PlainNode Refusal) → to_node (tree_of content) path ≡ s → (b : Bool) → Agree IsIt (Ok (node.File own b)) s → edits_of (tree_of content) (command.Rm path) ≡ as_asked (if b then link_edits own.fields.special else lose_edits v.private)
+          by (Err why) at b never = absurd never
+          by (Ok n) at true it =
+              of_linked n (there (tree_of content) path some plain n at) (ap (λ (m : PlainNode). m.folder) it.is) (ap (λ (m : PlainNode). m.linked) it.is) own.fields.special (ap (λ (m : PlainNode). names_of (tree_of content) m.id) it.is ∙ it.counts) (nat_lt 1 own.fields.special) refl
+          by (Ok n) at false it =
+              of_alone n (there (tree_of content) path some plain n at) (ap (λ (m : PlainNode). m.folder) it.is) (ap (λ (m : PlainNode). m.linked) it.is) (ap (λ (m : PlainNode). names_of (tree_of content) m.id) it.is ∙ it.counts) ∙ asked_as v.private
 
     -- ---- where there is no private folder
 

@@ -1,6 +1,6 @@
 -- What a move weighs.
-use Rattle.std.proofs.Common.{◌≡◌, ℕ, Bool, true, false, List, refl, ◌∙◌, ap}
-use Rattle.std.specs.Prelude.{◌||◌, Ok, Err}
+use Rattle.std.proofs.Common.{◌≡◌, ℕ, Bool, true, false, List, refl, sym, ◌∙◌, ap}
+use Rattle.std.specs.Prelude.{◌||◌, None, Ok, Err}
 use Rattle.hfs_language.specs.declared.command.Command.TheVariants as command
 use Rattle.hfs_language.specs.declared.refusal.Refusal.{Refusal}
 use Rattle.hfs_language.specs.declared.refusal.Refusal.TheVariants as refusal
@@ -9,9 +9,10 @@ use Rattle.hfs_model.specs.Step.{Place, is_private_path, is_root, step_line, to_
 use Rattle.hfs_model.specs.declared.plain.PlainEntry.{PlainEntry}
 use Rattle.hfs_model.specs.declared.plain.PlainTree.{PlainTree}
 use Rattle.hfs_volume.specs.Content.{VolumeState}
-use Rattle.hfs_volume.specs.Weight.{weight, weight_with}
+use Rattle.hfs_volume.specs.Weight.{free_blocks, weight, weight_with}
 use Rattle.volume_base.specs.Weighing.{edits_weighed, joined, refused_or, weighed}
 use Rattle.volume_base.specs.declared.weighing.Weight.TheVariants as answer
+use Rattle.volume_base.proofs.Loads.{free_move_weight}
 use Rattle.volume_base.proofs.Routed.{moved_line, mv_private_line, mv_refused_line, mv_root_line}
 
 module _ (capacity : ℕ) (takable : List Bool) (volume : VolumeState) (tree : PlainTree) (from to : List (List ℕ)) where
@@ -29,11 +30,7 @@ module _ (capacity : ℕ) (takable : List Bool) (volume : VolumeState) (tree : P
     pub move_refused : (why : Refusal) → to_mv tree from to ≡ Err why → answer.Refused why ≡ weighed capacity takable volume tree (command.Mv from to)
     move_refused why is = why_not why (mv_refused_line tree from to why not_own goal_not_own is).0
 
-    costs : edits_weighed capacity takable volume (record { ids = 0; catalog = 3; attributes = 0; updates = 3 }) ≡ joined (weight capacity volume tree (command.Mv from to)) (weight_with capacity takable volume tree (command.Mv from to))
-    unfolding weight_with
-    costs = refl
-
-    pub move_allowed : (pair : PlainEntry × Place) → to_mv tree from to ≡ Ok pair → edits_weighed capacity takable volume (record { ids = 0; catalog = 3; attributes = 0; updates = 3 }) ≡ weighed capacity takable volume tree (command.Mv from to)
-    move_allowed pair is =
-        costs
+    pub move_allowed : (pair : PlainEntry × Place) → to_mv tree from to ≡ Ok pair → pair.1.found ≡ None → edits_weighed capacity takable volume (record { ids = 0; catalog = 3; attributes = 0; updates = 3 }) ≡ weighed capacity takable volume tree (command.Mv from to)
+    move_allowed pair is none =
+        (λ i. joined (sym (free_move_weight capacity (free_blocks volume) volume tree from to pair is none) i) (sym (free_move_weight capacity takable volume tree from to pair is none) i))
         ∙ ap (λ said. refused_or said (joined (weight capacity volume tree (command.Mv from to)) (weight_with capacity takable volume tree (command.Mv from to)))) (moved_line tree from to pair not_own goal_not_own is).0

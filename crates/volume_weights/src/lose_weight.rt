@@ -1,5 +1,5 @@
 //! `weigh` of `rm`.
-ghost use Rattle.std.specs.Prelude.{◌≡◌, IsTrue, IfOk};
+ghost use Rattle.std.specs.Prelude.{◌≡◌, ◌≤◌, IsTrue, IfOk};
 ghost use Rattle.hfs_language.specs.Written.{FitsPath};
 ghost use Rattle.hfs_language.specs.declared.command.Command.TheVariants as command;
 ghost use Rattle.hfs_volume.specs.Content.{volume_of};
@@ -22,9 +22,10 @@ use std::alloc::Global;
 use volume_base::{Edits, Node, Volume, Weight, find_node, is_private_path};
 
 /// The edits by which a file loses one of so many links.
-fn link_edits(links: u32) -> Edits
+pub(crate) fn link_edits(links: u32) -> Edits
     ensures same { result ≡ link_edits links }
     ensures none { result.attributes ≡ 0 }
+    ensures few { result.catalog ≤ 5 }
 {
     if links > 1 {
         return Edits {

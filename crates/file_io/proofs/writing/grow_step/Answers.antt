@@ -19,3 +19,6 @@ returns-clause-bytes g c = λ tells more.
     (λ list each enough. grown_is old new had (sectors_in c.args.block list) c.args.size c.args.to
     (bytes_enough (c.args.block / 512) c.args.block c.args.size (blocks_of c.args.fork.now) refl c.requires.block.whole c.requires.holds_size)
     c.requires.order (omega (arith, enough)) (λ q lt. each q (omega (arith, lt))))
+
+pub rewrite-requires-clause-gap : goal.rewrite-requires-clause-gap
+rewrite-requires-clause-gap g c = λ more some. absurd (omega (arith, some))

@@ -4,7 +4,7 @@ use Rattle.jnl_replay.proofs.Checks.{length-content}
 use Rattle.sector_disk.specs.Disk.{content}
 use Rattle.volume_header.specs.Refusal.{is_volume_size}
 use Rattle.hfs_serving.proofs.Openings.{always, open_of, plan_opens, plan_refused, size_accepted}
-use Rattle.hfs_serving.proofs.Places.{accepted_place}
+use Rattle.jnl_replay.proofs.Places.{accepted_place}
 use Rattle.hfs_serving.proofs.opening.open_header.Goals as goal
 
 pub validate-requires-clause-info : goal.validate-requires-clause-info

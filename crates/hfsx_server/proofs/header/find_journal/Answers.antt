@@ -1,6 +1,6 @@
 use Rattle.std.proofs.Common.{◌<◌, sym, ap, subst}
 use Rattle.jnl_replay.specs.declared.plan.Place.{Place}
-use Rattle.hfsx_server.proofs.Places.{accepted_place}
+use Rattle.jnl_replay.proofs.Places.{accepted_place}
 use Rattle.hfsx_server.proofs.header.find_journal.Goals as goal
 
 pub validate-requires-clause-info : goal.validate-requires-clause-info

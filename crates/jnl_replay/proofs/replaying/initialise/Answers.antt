@@ -5,25 +5,25 @@ use Rattle.sector_disk.proofs.Candidates.{content_of-only}
 use Rattle.sector_disk.proofs.Stages.{stage_leaves, leaves_both}
 use Rattle.jnl_ring.proofs.Bytes.{content_whole}
 use Rattle.jnl_format.specs.Info.{with_info}
-use Rattle.jnl_replay.specs.Homing.{StandsForSame, empty_header, with_empty_header, with_info_done, initialised}
+use Rattle.jnl_replay.specs.Homing.{StandsForSameAs, empty_header, with_empty_header, with_info_done, initialised}
 use Rattle.jnl_replay.proofs.Checks.{length-content}
 use Rattle.jnl_replay.proofs.Common.{on_ok}
 use Rattle.jnl_replay.proofs.Fresh.{stage_header, stage_info}
 use Rattle.jnl_replay.proofs.replaying.initialise.Goals as goal
 
 pub returns-in_err-empty_journal-clause-crash : goal.returns-in_err-empty_journal-clause-crash
-returns-in_err-empty_journal-clause-crash g c tells =
+returns-in_err-empty_journal-clause-crash g c tells dialect is =
     let settled = c.requires.settled tells in
     let s0 = g.D.SectorDisk.state c.args.disk.now in
     let s1 = g.D.SectorDisk.state c.empty_journal.new.disk in
     let plan = c.args.plan.now in
     let c0 = content s0 in
     let size = length-content s0 (g.met.D.SectorDisk.well_formed c.args.disk.now) tells in
-    stage_leaves s0 s1 c0 (plan.info.offset / 512) (empty_header plan c0 ∷ []) (StandsForSame plan c0) settled (c.empty_journal.ensures.crash tells)
-    (stage_header c0 plan (c.requires.plan tells) s0.sectors c.requires.fits size c.requires.new)
+    stage_leaves s0 s1 c0 (plan.info.offset / 512) (empty_header plan c0 ∷ []) (StandsForSameAs dialect plan c0) settled (c.empty_journal.ensures.crash tells)
+    (stage_header c0 plan is s0.sectors c.requires.fits size c.requires.new)
 
 pub returns-clause-crash : goal.returns-clause-crash
-returns-clause-crash g c tells =
+returns-clause-crash g c tells dialect is =
     let settled = c.requires.settled tells in
     let s0 = g.D.SectorDisk.state c.args.disk.now in
     let s1 = g.D.SectorDisk.state c.empty_journal.new.disk in
@@ -31,9 +31,8 @@ returns-clause-crash g c tells =
     let plan = c.args.plan.now in
     let c0 = content s0 in
     let at = plan.place.info_sector in
-    let is = c.requires.plan tells in
     let size = length-content s0 (g.met.D.SectorDisk.well_formed c.args.disk.now) tells in
-    let P : Content → Type 0 = StandsForSame plan c0 in
+    let P : Content → Type 0 = StandsForSameAs dialect plan c0 in
     let first : CrashesLeave s0 s1 P =
     stage_leaves s0 s1 c0 (plan.info.offset / 512) (empty_header plan c0 ∷ []) P settled (c.empty_journal.ensures.crash tells) (stage_header c0 plan is s0.sectors c.requires.fits size c.requires.new) in
     let e = c.empty_journal.ensures in
@@ -51,7 +50,7 @@ returns-clause-crash g c tells =
     (subst (λ (d : Content). Mixes s1.candidates at (with_info (initialised plan.info) (sector d at) ∷ []) image) now m)))
 
 pub returns-clause-replayed : goal.returns-clause-replayed
-returns-clause-replayed g c tells =
+returns-clause-replayed g c tells dialect is =
     let s0 = g.D.SectorDisk.state c.args.disk.now in
     let s1 = g.D.SectorDisk.state c.empty_journal.new.disk in
     let plan = c.args.plan.now in

@@ -1,12 +1,13 @@
-use Rattle.std.proofs.Common.{◌≡◌, IsTrue, ◌∙◌, ap}
+use Rattle.std.proofs.Common.{◌≡◌, IsTrue, sym, ◌∙◌, ap, subst}
 use Rattle.sector_disk.specs.Lists.{Content}
 use Rattle.sector_disk.specs.Disk.{content, only}
 use Rattle.sector_disk.proofs.Writing.{sink_after}
 use Rattle.jnl_format.specs.Recovery.{replayed}
 use Rattle.jnl_ring.proofs.RingLaws.{barrier_leaves}
 use Rattle.jnl_replay.specs.Homing.{with_empty_header}
-use Rattle.jnl_replay.specs.Plan.{journal_of}
+use Rattle.jnl_replay.specs.Plan.{FitsPlan, journal_of}
 use Rattle.jnl_replay.proofs.Common.{on_ok}
+use Rattle.jnl_replay.proofs.Fits.{fits_any}
 use Rattle.jnl_replay.proofs.Stretches.{settled_content}
 use Rattle.jnl_store.specs.Appending.{StandsStill}
 use Rattle.jnl_store.proofs.RingHome.{stage_emptied, stage_homes}
@@ -70,3 +71,8 @@ returns-clause-home g c tells =
     let t2 : IsTrue s2.tells = c.barrier.ensures.same.tells ∙ c.bring_newest.ensures.same.tells ∙ tells in
     let now : content s2 ≡ replayed j (content s0) = settled_content s1 s2 c.in_ok-barrier.ensures.settled ∙ home in
     on_ok _ _ c.empty_journal.result (λ e. e ∙ ap (λ (d : Content). only (with_empty_header plan d)) now) (c.empty_journal.ensures.settled t2)
+
+pub empty_journal-requires : goal.empty_journal-requires
+empty_journal-requires g c =
+    fits_any (g.D.SectorDisk.state c.barrier.new.self).sectors c.args.plan.now
+    (subst (λ n. FitsPlan n c.args.plan.now) (sym (c.barrier.ensures.same.sectors ∙ c.bring_newest.ensures.same.sectors)) c.requires.fits)

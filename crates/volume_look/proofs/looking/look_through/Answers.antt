@@ -65,10 +65,10 @@ returns-clause-right g c tells told most start mounts =
     let there = reads.same.tells ∙ tells in
     let looks = c.attach.ensures.looks in
     let fresh = c.in_ok-volume.ensures.fresh in
-    right_of _ most _ start (g.A.Asker.state c.args.asker.now) (g.A.Asker.state c.answer_all.new.asker)
+    right_of _ most _ start (g.A.Asker.state c.args.asker.now) (g.A.Asker.state c.answer_all-answered.new.asker)
     (fresh.capacity_is ∙ capacity_one (span_of plan) (form_of plan) c.capacity-most.result most c.capacity-most.ensures one.1)
     (looks.content there ∙ shows ∙ sym one.0)
-    (c.answer_all.ensures.right (looks.same.tells ∙ there) told)
+    (c.answer_all-answered.ensures.right (looks.same.tells ∙ there) told)
 
 -- ---- what is done to the disk
 
@@ -85,9 +85,9 @@ returns-clause-reads g c =
     let s0 = g.D.SectorDisk.state c.args.disk.now in
     let s1 = g.D.SectorDisk.state c.new.new.disk in
     let s2 = g.D.SectorDisk.state c.attach.new.space.disk.now in
-    let s3 = g.D.SectorDisk.state c.answer_all.new.space.disk.now in
-    let disk_is = c.disk-2-1.given.1 (sym (ap first_of (c.answer_all.ensures.names ∙ c.attach.ensures.looks.same.names))) in
-    subst (λ (d : g.row.D.Denot). OnlyReads s0 (g.D.SectorDisk.state d)) (sym disk_is) (reads_both s0 s1 s3 c.new.ensures.reads (reads_both s1 s2 s3 c.attach.ensures.below.reads c.answer_all.ensures.below.reads))
+    let s3 = g.D.SectorDisk.state c.answer_all-answered.new.space.disk.now in
+    let disk_is = c.disk-2-1.given.1 (sym (ap first_of (c.answer_all-answered.ensures.names ∙ c.attach.ensures.looks.same.names))) in
+    subst (λ (d : g.row.D.Denot). OnlyReads s0 (g.D.SectorDisk.state d)) (sym disk_is) (reads_both s0 s1 s3 c.new.ensures.reads (reads_both s1 s2 s3 c.attach.ensures.below.reads c.answer_all-answered.ensures.below.reads))
 
 pub returns-in_err-peek-clause-cause : goal.returns-in_err-peek-clause-cause
 returns-in_err-peek-clause-cause g c =
@@ -114,7 +114,7 @@ pub returns-clause-cause : goal.returns-clause-cause
 returns-clause-cause g c =
     let s0 = g.D.SectorDisk.state c.args.disk.now in
     let s2 = g.D.SectorDisk.state c.attach.new.space.disk.now in
-    let s3 = g.D.SectorDisk.state c.answer_all.new.space.disk.now in
-    let disk_is = c.disk-2-1.given.1 (sym (ap first_of (c.answer_all.ensures.names ∙ c.attach.ensures.looks.same.names))) in
-    subst (λ (d : g.row.D.Denot). HasTroubleCause s0.faults (g.D.SectorDisk.state d).faults c.answer_all.result) (sym disk_is)
-    (cause_since s0.faults s2.faults s3.faults c.answer_all.result (omega (arith, c.new.ensures.reads.faults, c.attach.ensures.cause.later)) c.answer_all.ensures.cause)
+    let s3 = g.D.SectorDisk.state c.answer_all-answered.new.space.disk.now in
+    let disk_is = c.disk-2-1.given.1 (sym (ap first_of (c.answer_all-answered.ensures.names ∙ c.attach.ensures.looks.same.names))) in
+    subst (λ (d : g.row.D.Denot). HasTroubleCause s0.faults (g.D.SectorDisk.state d).faults c.answer_all-answered.result) (sym disk_is)
+    (cause_since s0.faults s2.faults s3.faults c.answer_all-answered.result (omega (arith, c.new.ensures.reads.faults, c.attach.ensures.cause.later)) c.answer_all-answered.ensures.cause)

@@ -1,4 +1,4 @@
-use Rattle.std.proofs.Common.{◌≡◌, ◌*◌, sym, ◌∙◌, ap, arith, inl, inr}
+use Rattle.std.proofs.Common.{◌≡◌, ◌+◌, ◌*◌, sym, ◌∙◌, ap, arith, inl, inr}
 use Rattle.hfs_language.specs.declared.command.Command.TheVariants as command
 use Rattle.hfs_model.specs.Step.{step}
 use Rattle.hfs_volume.specs.TreeOf.{tree_of}
@@ -8,7 +8,9 @@ use Rattle.volume_names.proofs.EditsLeft.{left_as}
 use Rattle.volume_base.specs.Standing.{IsSettled}
 use Rattle.volume_base.proofs.FoundEntry.{ok_so}
 use Rattle.volume_names.proofs.PrivateLoss.{loss_then, lost_both, only_then}
-use Rattle.volume_names.proofs.LossLoads.{load_aside, rest_aside}
+use Rattle.volume_names.specs.EditsLeft.{LeavesBehind}
+use Rattle.volume_names.specs.LossLoads.{LeavesOthers}
+use Rattle.volume_names.proofs.LossLoads.{load_aside, load_two, rest_aside}
 use Rattle.volume_base.proofs.Framed.{edits_spent}
 use Rattle.volume_base.proofs.Joined.{edits_both, edits_wanting, edits_short}
 use Rattle.volume_names.proofs.losing.bury_first.Goals as goal
@@ -75,3 +77,17 @@ returns-then-not-fits_aside-clause-spends g c tells = inl (omega arith)
 
 pub returns-in-None-clause-edits : goal.returns-in-None-clause-edits
 returns-in-None-clause-edits g c = edits_short (edits_spent c.in_ok-open_private.ensures.edits (λ tells. omega arith))
+
+pub returns-in-Some-clause-leaves : goal.returns-in-Some-clause-leaves
+returns-in-Some-clause-leaves g c tells =
+    let v = c.args.volume.now in
+    let old = g.P.SectorView.space c.args.space.now in
+    let opened = g.P.SectorView.space c.open_private.new.space in
+    let new = g.P.SectorView.space c.bury.new.space in
+    let later = (c.open_private.ensures.edits.ran.touches old.content).same.tells ∙ tells in
+    ok_so (LeavesBehind 3 2 c.open_private.new.volume opened c.bury.new.volume new) (LeavesOthers 5 v old c.bury.new.volume new) c.bury.result (c.bury.ensures.left later)
+    (λ left. (
+      left.0 ∙ c.in_ok-open_private.ensures.nodes tells,
+      λ others beside load. left.1 others beside (left_as c.open_private.new.volume opened (3 + others) _ _ (λ told. ap (λ n. 2 * n + beside) (sym (c.in_ok-open_private.ensures.nodes tells)))
+          (c.in_ok-open_private.ensures.left (3 + others) (2 * catalog_node v + beside) (load_two others (1 + (3 * catalog_node v + beside)) (1 + (catalog_node v + (2 * catalog_node v + beside))) v old (omega arith) load))),
+    ))

@@ -1,4 +1,4 @@
-use Rattle.volume_names.proofs.LossLoads.{none_so}
+use Rattle.volume_names.proofs.LossLoads.{leaves_of_three, none_so}
 use Rattle.std.proofs.Common.{◌≡◌, inl, inr, length, sym, ap, subst, arith, ℕ, Bool}
 use Rattle.hard_links.specs.declared.place.EntryAt.{EntryAt}
 use Rattle.hfs_language.specs.declared.command.Command.TheVariants as command
@@ -14,9 +14,10 @@ use Rattle.volume_base.proofs.FoundEntry.{ok_so}
 use Rattle.volume_base.proofs.Replaced.{node_large}
 use Rattle.volume_names.proofs.EditsLeft.{left_of_move}
 use Rattle.std.specs.Prelude.{Option, is_some}
-use Rattle.volume_names.specs.LossLoads.{SpendsFor, SpendsLoss, SpendsShared}
+use Rattle.volume_names.specs.LossLoads.{LeavesLoss, LeavesOthers, LeavesShared, SpendsFor, SpendsLoss, SpendsShared}
 use Rattle.volume_base.proofs.Joined.{edits_wanting}
 use Rattle.volume_base.proofs.Framed.{edits_err}
+use Rattle.volume_names.specs.EditsLeft.{LeavesBehind}
 use Rattle.volume_names.proofs.losing.lose.Goals as goal
 
 pub bury-requires-clause-some : goal.bury-requires-clause-some
@@ -122,3 +123,28 @@ returns-in_err-place-in-Some-clause-edits g c = edits_err c.from_residual.ensure
 
 pub returns-in_err-place-in-None-clause-edits : goal.returns-in_err-place-in-None-clause-edits
 returns-in_err-place-in-None-clause-edits g c = edits_err c.from_residual-in_err-place-in-None.ensures.1 (edits_wanting {T = ℕ} _ g.met.P.SectorView.follows_refl c.requires.serves.stands)
+
+pub returns-in_ok-place-in-Some-clause-leaves : goal.returns-in_ok-place-in-Some-clause-leaves
+returns-in_ok-place-in-Some-clause-leaves g c tells entry loss =
+    let v = c.args.volume.now in
+    let old = g.P.SectorView.space c.args.space.now in
+    let new = g.P.SectorView.space c.bury.new.space in
+    ok_so (LeavesBehind 3 2 v old c.bury.new.volume new) (LeavesLoss c.args.at.link entry.id v old c.bury.new.volume new) c.bury.result (c.bury.ensures.left tells)
+    (λ left. subst (λ (link : Bool). LeavesLoss link entry.id v old c.bury.new.volume new) (sym c.if-at.false)
+    (inl (ap (λ (o : Option ℕ). is_some o) c.in-Some.is, leaves_of_three c.edits_have_room.ensures v c.bury.new.volume old new (node_large v old c.requires.serves.stands tells) left)))
+
+pub returns-in_ok-place-in-None-clause-leaves : goal.returns-in_ok-place-in-None-clause-leaves
+returns-in_ok-place-in-None-clause-leaves g c tells entry loss =
+    let v = c.args.volume.now in
+    let old = g.P.SectorView.space c.args.space.now in
+    let new = g.P.SectorView.space c.bury_first.new.space in
+    ok_so (LeavesOthers 5 v old c.bury_first.new.volume new) (LeavesLoss c.args.at.link entry.id v old c.bury_first.new.volume new) c.bury_first.result (c.bury_first.ensures.leaves tells)
+    (λ five. subst (λ (link : Bool). LeavesLoss link entry.id v old c.bury_first.new.volume new) (sym c.if-at.false) (inr (c.in-None.is, five)))
+
+pub returns-then-at-clause-leaves : goal.returns-then-at-clause-leaves
+returns-then-at-clause-leaves g c tells entry loss =
+    let v = c.args.volume.now in
+    let old = g.P.SectorView.space c.args.space.now in
+    let new = g.P.SectorView.space c.lose_link.new.space in
+    ok_so (LeavesShared entry.id v old c.lose_link.new.volume new) (LeavesLoss c.args.at.link entry.id v old c.lose_link.new.volume new) c.lose_link.result (c.lose_link.ensures.leaves tells entry loss)
+    (λ it. subst (λ (link : Bool). LeavesLoss link entry.id v old c.lose_link.new.volume new) (sym c.if-at.true) it)

@@ -14,8 +14,9 @@ use Rattle.volume_base.proofs.Lost.{id_told}
 use Rattle.volume_base.proofs.RoomToRemove.{remove_room_still}
 use Rattle.volume_base.proofs.Still.{lists_still}
 use Rattle.volume_base.proofs.ToNode.{node_told}
-use Rattle.volume_names.proofs.LossLoads.{none_still, shared_still}
-use Rattle.volume_names.specs.LossLoads.{SpendsShared}
+use Rattle.volume_base.proofs.FoundEntry.{ok_so}
+use Rattle.volume_names.proofs.LossLoads.{leaves_shared_still, none_still, shared_still}
+use Rattle.volume_names.specs.LossLoads.{LeavesShared, SpendsShared}
 use Rattle.volume_base.proofs.Framed.{edits_spent, edits_err, edits_looked}
 use Rattle.volume_base.proofs.Joined.{edits_both, edits_short}
 use Rattle.volume_names.proofs.losing.lose_link.Goals as goal
@@ -76,3 +77,14 @@ returns-in_err-place-in-Ok-clause-spends g c tells entry loss = inl (omega (arit
 
 pub returns-in_err-place-in-Ok-clause-edits : goal.returns-in_err-place-in-Ok-clause-edits
 returns-in_err-place-in-Ok-clause-edits g c = edits_err c.from_residual-in_err-place-in-Ok.ensures.1 (edits_short {U = ℕ} (edits_looked _ c.owner.ensures.looked))
+
+pub returns-in_ok-place-in-Ok-clause-leaves : goal.returns-in_ok-place-in-Ok-clause-leaves
+returns-in_ok-place-in-Ok-clause-leaves g c tells entry loss =
+    let v = c.args.volume.now in
+    let old = g.P.SectorView.space c.args.space.now in
+    let read = g.P.SectorView.space c.owner.new.space in
+    let new = g.P.SectorView.space c.lose_one.new.space in
+    let n = node_told c.sound_has_plain_tree.ensures v old.content (c.requires.serves.stands.stands tells).trees (c.requires.serves.settled tells) c.args.path.now c.requires.not_own c.requires.fits c.in_ok-id.field-0 (c.in_ok-id.ensures.found tells) c.in-Ok.id c.in-Ok.is in
+    ok_so (LeavesShared c.in-Ok.id c.owner.new.self read c.lose_one.new.volume new) (LeavesShared entry.id v old c.lose_one.new.volume new) c.lose_one.result (c.lose_one.ensures.leaves (c.owner.ensures.looked.reads.looks.same.tells ∙ tells))
+    (λ it. subst (λ (id : ℕ). LeavesShared id v old c.lose_one.new.volume new) (sym (id_told (tree_of old.content) c.args.path.now entry n.0 loss.reaches_it n.1 ∙ n.2))
+    (leaves_shared_still c.in-Ok.id v c.owner.new.self c.lose_one.new.volume old read new c.owner.ensures.looked.reads tells it))

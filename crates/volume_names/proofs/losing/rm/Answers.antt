@@ -1,4 +1,4 @@
-use Rattle.std.proofs.Common.{◌≡◌, ℕ, List, length, refl, sym, ◌∙◌, ap, subst, arith}
+use Rattle.std.proofs.Common.{◌≡◌, ℕ, List, length, inl, refl, sym, ◌∙◌, ap, subst, arith}
 use Rattle.std.specs.Prelude.{IfOk, OnOk, Ok}
 use Rattle.hfs_language.specs.Written.{FitsPath}
 use Rattle.hfs_language.specs.declared.command.Command.TheVariants as command
@@ -10,6 +10,7 @@ use Rattle.volume_base.proofs.Lost.{private_line, root_line}
 use Rattle.volume_names.specs.Losing.{HasLost}
 use Rattle.volume_names.specs.LinkLoads.{PutsItsLoad}
 use Rattle.volume_base.proofs.Framed.{edits_none}
+use Rattle.volume_names.specs.LossLoads.{LeavesOthers, NoneOr, SpendsFor, loss_edits}
 use Rattle.volume_names.proofs.losing.rm.Goals as goal
 
 pub rm_under-requires-clause-fits : goal.rm_under-requires-clause-fits
@@ -73,3 +74,27 @@ returns-in-None-clause-loads g c tells n grow is = omega arith
 
 pub returns-then-is_private_path-clause-loads : goal.returns-then-is_private_path-clause-loads
 returns-then-is_private_path-clause-loads g c tells n grow is = omega arith
+
+pub returns-in-Some-clause-spends : goal.returns-in-Some-clause-spends
+returns-in-Some-clause-spends g c tells =
+    let old = g.P.SectorView.space c.args.space.now in
+    let new = g.P.SectorView.space c.rm_under.new.space in
+    subst (λ (p : List (List ℕ)). NoneOr (SpendsFor (loss_edits (tree_of old.content) p) c.args.volume.now old new) old new) (sym c.in-Some.ensures.cases.0 ∙ c.as_slice.ensures) (c.rm_under.ensures.spends tells)
+
+pub returns-in-None-clause-spends : goal.returns-in-None-clause-spends
+returns-in-None-clause-spends g c tells = inl (omega arith)
+
+pub returns-then-is_private_path-clause-spends : goal.returns-then-is_private_path-clause-spends
+returns-then-is_private_path-clause-spends g c tells = inl (omega arith)
+
+pub returns-in-Some-clause-leaves : goal.returns-in-Some-clause-leaves
+returns-in-Some-clause-leaves g c tells =
+    let old = g.P.SectorView.space c.args.space.now in
+    let new = g.P.SectorView.space c.rm_under.new.space in
+    subst (λ (p : List (List ℕ)). IfOk c.rm_under.result (λ (said : Reply). said ≡ reply.Ok → LeavesOthers (loss_edits (tree_of old.content) p) c.args.volume.now old c.rm_under.new.volume new)) (sym c.in-Some.ensures.cases.0 ∙ c.as_slice.ensures) (c.rm_under.ensures.leaves tells)
+
+pub returns-in-None-clause-leaves : goal.returns-in-None-clause-leaves
+returns-in-None-clause-leaves g c tells is = absurd (cc is)
+
+pub returns-then-is_private_path-clause-leaves : goal.returns-then-is_private_path-clause-leaves
+returns-then-is_private_path-clause-leaves g c tells is = absurd (cc is)

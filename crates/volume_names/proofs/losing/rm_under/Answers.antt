@@ -16,9 +16,9 @@ use Rattle.volume_base.specs.Standing.{IsSettled}
 use Rattle.volume_base.proofs.Lost.{is_loss, link_name, lose_room_still, losing_refused, lost, lost_allowed, lost_line, lost_step, only_name, refused_line}
 use Rattle.volume_base.proofs.Sited.{fits_above, fits_name}
 use Rattle.volume_base.proofs.Still.{lists_still}
-use Rattle.volume_names.proofs.LossLoads.{loss_still}
-use Rattle.volume_names.proofs.LossWeight.{loss_load}
-use Rattle.volume_names.specs.LossLoads.{NoneOr, SpendsLoss}
+use Rattle.volume_names.proofs.LossLoads.{leaves_loss_still, loss_still}
+use Rattle.volume_names.proofs.LossWeight.{loss_counted, loss_load}
+use Rattle.volume_names.specs.LossLoads.{LeavesLoss, LeavesOthers, NoneOr, SpendsFor, SpendsLoss}
 use Rattle.volume_base.proofs.Framed.{edits_err, edits_ok, edits_spent}
 use Rattle.volume_base.proofs.Joined.{edits_both, edits_serves}
 use Rattle.volume_names.proofs.losing.rm_under.Goals as goal
@@ -154,3 +154,57 @@ returns-in-Err-clause-loads g c tells n grow is = omega (arith, c.losing.ensures
 
 pub returns-in_err-at-clause-loads : goal.returns-in_err-at-clause-loads
 returns-in_err-at-clause-loads g c tells n grow is = omega (arith, c.losing.ensures.looked.reads.looks.spare)
+
+pub returns-in_ok-lose-in-Ok-clause-spends : goal.returns-in_ok-lose-in-Ok-clause-spends
+returns-in_ok-lose-in-Ok-clause-spends g c tells =
+    let v = c.args.volume.now in
+    let old = g.P.SectorView.space c.args.space.now in
+    let read = g.P.SectorView.space c.losing.new.space in
+    let new = g.P.SectorView.space c.lose.new.space in
+    let later = c.losing.ensures.looked.reads.looks.same.tells ∙ tells in
+    let entry = lost c.sound_has_plain_tree.ensures v old.content (c.requires.serves.stands.stands tells).trees (c.requires.serves.settled tells) c.args.above.now c.args.name.now c.requires.not_own c.requires.fits c.in_ok-at.field-0 (c.in_ok-at.ensures.found tells) c.in-Ok.at c.in-Ok.is in
+    let loss = is_loss c.sound_has_plain_tree.ensures v old.content (c.requires.serves.stands.stands tells).trees (c.requires.serves.settled tells) c.args.above.now c.args.name.now c.requires.not_own c.requires.fits c.in_ok-at.field-0 (c.in_ok-at.ensures.found tells) c.in-Ok.at c.in-Ok.is in
+    let loss_read = subst (λ (k : Content). IsLoss (tree_of k) (path_to c.args.above.now c.args.name.now) entry (place_of c.in-Ok.at c.args.name.now)) (sym (c.losing.ensures.looked.reads.looks.content tells)) loss in
+    let spends = (subst (λ (p : List (List ℕ)). (e : PlainEntry) → IsLoss (tree_of read.content) p e (place_of c.in-Ok.at c.args.name.now) → NoneOr (SpendsLoss c.in-Ok.at.link e.id c.losing.new.volume read new) read new) c.requires.split (c.lose.ensures.spends later)) entry loss_read in
+    elim spends [
+      | inl none ↦ inl (omega (arith, none, c.losing.ensures.looked.reads.looks.spare))
+      | inr it ↦ inr (loss_counted c.sound_has_plain_tree.ensures v old (c.requires.serves.stands.stands tells) (c.requires.serves.settled tells) c.requires.serves.stands.service.fits.next_catalog_id c.args.above.now c.args.name.now c.requires.not_own c.requires.fits c.in_ok-at.field-0 (c.in_ok-at.ensures.found tells) c.in-Ok.at c.in-Ok.is (λ made. SpendsFor made v old new) (loss_still c.in-Ok.at.link entry.id v c.losing.new.volume old read new c.losing.ensures.looked.reads tells it))
+    ]
+
+pub returns-in_err-lose-in-Ok-clause-spends : goal.returns-in_err-lose-in-Ok-clause-spends
+returns-in_err-lose-in-Ok-clause-spends g c tells =
+    let v = c.args.volume.now in
+    let old = g.P.SectorView.space c.args.space.now in
+    let read = g.P.SectorView.space c.losing.new.space in
+    let new = g.P.SectorView.space c.lose.new.space in
+    let later = c.losing.ensures.looked.reads.looks.same.tells ∙ tells in
+    let entry = lost c.sound_has_plain_tree.ensures v old.content (c.requires.serves.stands.stands tells).trees (c.requires.serves.settled tells) c.args.above.now c.args.name.now c.requires.not_own c.requires.fits c.in_ok-at.field-0 (c.in_ok-at.ensures.found tells) c.in-Ok.at c.in-Ok.is in
+    let loss = is_loss c.sound_has_plain_tree.ensures v old.content (c.requires.serves.stands.stands tells).trees (c.requires.serves.settled tells) c.args.above.now c.args.name.now c.requires.not_own c.requires.fits c.in_ok-at.field-0 (c.in_ok-at.ensures.found tells) c.in-Ok.at c.in-Ok.is in
+    let loss_read = subst (λ (k : Content). IsLoss (tree_of k) (path_to c.args.above.now c.args.name.now) entry (place_of c.in-Ok.at c.args.name.now)) (sym (c.losing.ensures.looked.reads.looks.content tells)) loss in
+    let spends = (subst (λ (p : List (List ℕ)). (e : PlainEntry) → IsLoss (tree_of read.content) p e (place_of c.in-Ok.at c.args.name.now) → NoneOr (SpendsLoss c.in-Ok.at.link e.id c.losing.new.volume read new) read new) c.requires.split (c.lose.ensures.spends later)) entry loss_read in
+    elim spends [
+      | inl none ↦ inl (omega (arith, none, c.losing.ensures.looked.reads.looks.spare))
+      | inr it ↦ inr (loss_counted c.sound_has_plain_tree.ensures v old (c.requires.serves.stands.stands tells) (c.requires.serves.settled tells) c.requires.serves.stands.service.fits.next_catalog_id c.args.above.now c.args.name.now c.requires.not_own c.requires.fits c.in_ok-at.field-0 (c.in_ok-at.ensures.found tells) c.in-Ok.at c.in-Ok.is (λ made. SpendsFor made v old new) (loss_still c.in-Ok.at.link entry.id v c.losing.new.volume old read new c.losing.ensures.looked.reads tells it))
+    ]
+
+pub returns-in-Err-clause-spends : goal.returns-in-Err-clause-spends
+returns-in-Err-clause-spends g c tells = inl (omega (arith, c.losing.ensures.looked.reads.looks.spare))
+
+pub returns-in_err-at-clause-spends : goal.returns-in_err-at-clause-spends
+returns-in_err-at-clause-spends g c tells = inl (omega (arith, c.losing.ensures.looked.reads.looks.spare))
+
+pub returns-in_ok-lose-in-Ok-clause-leaves : goal.returns-in_ok-lose-in-Ok-clause-leaves
+returns-in_ok-lose-in-Ok-clause-leaves g c tells is =
+    let v = c.args.volume.now in
+    let old = g.P.SectorView.space c.args.space.now in
+    let read = g.P.SectorView.space c.losing.new.space in
+    let new = g.P.SectorView.space c.lose.new.space in
+    let later = c.losing.ensures.looked.reads.looks.same.tells ∙ tells in
+    let entry = lost c.sound_has_plain_tree.ensures v old.content (c.requires.serves.stands.stands tells).trees (c.requires.serves.settled tells) c.args.above.now c.args.name.now c.requires.not_own c.requires.fits c.in_ok-at.field-0 (c.in_ok-at.ensures.found tells) c.in-Ok.at c.in-Ok.is in
+    let loss = is_loss c.sound_has_plain_tree.ensures v old.content (c.requires.serves.stands.stands tells).trees (c.requires.serves.settled tells) c.args.above.now c.args.name.now c.requires.not_own c.requires.fits c.in_ok-at.field-0 (c.in_ok-at.ensures.found tells) c.in-Ok.at c.in-Ok.is in
+    let loss_read = subst (λ (k : Content). IsLoss (tree_of k) (path_to c.args.above.now c.args.name.now) entry (place_of c.in-Ok.at c.args.name.now)) (sym (c.losing.ensures.looked.reads.looks.content tells)) loss in
+    let leaves = (subst (λ (p : List (List ℕ)). (e : PlainEntry) → IsLoss (tree_of read.content) p e (place_of c.in-Ok.at c.args.name.now) → LeavesLoss c.in-Ok.at.link e.id c.losing.new.volume read c.lose.new.volume new) c.requires.split (c.in_ok-lose-in-Ok.ensures.leaves later)) entry loss_read in
+    loss_counted c.sound_has_plain_tree.ensures v old (c.requires.serves.stands.stands tells) (c.requires.serves.settled tells) c.requires.serves.stands.service.fits.next_catalog_id c.args.above.now c.args.name.now c.requires.not_own c.requires.fits c.in_ok-at.field-0 (c.in_ok-at.ensures.found tells) c.in-Ok.at c.in-Ok.is (λ made. LeavesOthers made v old c.lose.new.volume new) (leaves_loss_still c.in-Ok.at.link entry.id v c.losing.new.volume c.lose.new.volume old read new c.losing.ensures.looked.reads tells leaves)
+
+pub returns-in-Err-clause-leaves : goal.returns-in-Err-clause-leaves
+returns-in-Err-clause-leaves g c tells is = absurd (cc is)

@@ -1,8 +1,8 @@
-use Rattle.std.proofs.Common.{[], sym, ◌∙◌, arith}
+use Rattle.std.proofs.Common.{[], ◌/◌, sym, ◌∙◌, ap, arith}
 use Rattle.volume_base.specs.Changing.{TouchesFolder}
 use Rattle.volume_names.specs.Moving.{Leaves}
 use Rattle.volume_base.proofs.FoundEntry.{ok_so, ok_true, settled_threads}
-use Rattle.volume_names.proofs.MoveRoom.{node_moved, room_to_move, spent_move}
+use Rattle.volume_names.proofs.EditsLeft.{node_aside, room_aside, spare_edited, spent_aside}
 use Rattle.volume_names.proofs.Moved.{from_after, goal_free, replaced_move, source_stands, threads_moved}
 use Rattle.volume_base.proofs.Framed.{edits_err, edits_spent}
 use Rattle.volume_base.proofs.Joined.{edits_both, edits_short}
@@ -12,7 +12,7 @@ pub relocate-requires-clause-threads : goal.relocate-requires-clause-threads
 relocate-requires-clause-threads g c tells = settled_threads c.args.volume.now (g.P.SectorView.space c.args.space.now).content (c.requires.serves.settled tells)
 
 pub relocate-requires-clause-room : goal.relocate-requires-clause-room
-relocate-requires-clause-room g c names = room_to_move c.edits_have_room.ensures c.args.volume.now (g.P.SectorView.space c.args.space.now) c.requires.room c.requires.size names
+relocate-requires-clause-room g c names = room_aside 0 c.args.volume.now (g.P.SectorView.space c.args.space.now) c.requires.left c.requires.size names
 
 pub touch-requires-clause-threads : goal.touch-requires-clause-threads
 touch-requires-clause-threads g c tells =
@@ -33,11 +33,11 @@ returns-clause-leaves g c tells =
 
 pub returns-clause-edits : goal.returns-clause-edits
 returns-clause-edits g c =
-    edits_spent (edits_both g.met.P.SectorView.follows_trans c.relocate.ensures.edits c.touch.ensures.edits) (λ tells. omega (arith, spent_move c.edits_have_room.ensures c.edits_take_their_load.ensures c.args.volume.now c.relocate.new.volume (g.P.SectorView.space c.args.space.now) (g.P.SectorView.space c.relocate.new.space) c.requires.room c.requires.size (c.relocate.ensures.takes []) tells, c.touch.ensures.edits.ran.spent (c.relocate.ensures.frame.space.same.tells ∙ tells), node_moved c.edits_have_room.ensures c.edits_take_their_load.ensures c.args.volume.now c.relocate.new.volume (g.P.SectorView.space c.args.space.now) (g.P.SectorView.space c.relocate.new.space) c.requires.room c.requires.size (c.relocate.ensures.takes []) tells))
+    edits_spent (edits_both g.met.P.SectorView.follows_trans c.relocate.ensures.edits c.touch.ensures.edits) (λ tells. omega (arith, spent_aside c.edits_take_their_load.ensures 0 c.args.volume.now c.relocate.new.volume (g.P.SectorView.space c.args.space.now) (g.P.SectorView.space c.relocate.new.space) c.requires.left c.requires.size (c.relocate.ensures.takes []) tells, c.touch.ensures.edits.ran.spent (c.relocate.ensures.frame.space.same.tells ∙ tells), node_aside 0 c.args.volume.now c.relocate.new.volume (g.P.SectorView.space c.args.space.now) (g.P.SectorView.space c.relocate.new.space) c.requires.left c.requires.size (c.relocate.ensures.takes []) tells))
 
 pub returns-in_err-relocate-clause-edits : goal.returns-in_err-relocate-clause-edits
 returns-in_err-relocate-clause-edits g c =
-    edits_err c.from_residual.ensures.1 (edits_spent c.in_err-relocate.ensures.edits (λ tells. omega (arith, spent_move c.edits_have_room.ensures c.edits_take_their_load.ensures c.args.volume.now c.relocate.new.volume (g.P.SectorView.space c.args.space.now) (g.P.SectorView.space c.relocate.new.space) c.requires.room c.requires.size (c.relocate.ensures.takes []) tells)))
+    edits_err c.from_residual.ensures.1 (edits_spent c.in_err-relocate.ensures.edits (λ tells. omega (arith, spent_aside c.edits_take_their_load.ensures 0 c.args.volume.now c.relocate.new.volume (g.P.SectorView.space c.args.space.now) (g.P.SectorView.space c.relocate.new.space) c.requires.left c.requires.size (c.relocate.ensures.takes []) tells)))
 
 pub returns-clause-size : goal.returns-clause-size
 returns-clause-size g c = ok_true c.touch.result (c.touch.ensures.size ∙ c.relocate.ensures.frame.file.node_size)
@@ -47,4 +47,13 @@ touch-requires-clause-room g c = c.fits_update.ensures.room c.if-not-fits_update
 
 pub returns-then-not-fits_update-clause-edits : goal.returns-then-not-fits_update-clause-edits
 returns-then-not-fits_update-clause-edits g c =
-    edits_short (edits_spent c.in_ok-relocate.ensures.edits (λ tells. omega (arith, spent_move c.edits_have_room.ensures c.edits_take_their_load.ensures c.args.volume.now c.relocate.new.volume (g.P.SectorView.space c.args.space.now) (g.P.SectorView.space c.relocate.new.space) c.requires.room c.requires.size (c.relocate.ensures.takes []) tells)))
+    edits_short (edits_spent c.in_ok-relocate.ensures.edits (λ tells. omega (arith, spent_aside c.edits_take_their_load.ensures 0 c.args.volume.now c.relocate.new.volume (g.P.SectorView.space c.args.space.now) (g.P.SectorView.space c.relocate.new.space) c.requires.left c.requires.size (c.relocate.ensures.takes []) tells)))
+
+pub returns-clause-beside : goal.returns-clause-beside
+returns-clause-beside g c tells beside had = omega (arith, spare_edited 3 0 beside c.args.volume.now c.relocate.new.volume (g.P.SectorView.space c.args.space.now) (g.P.SectorView.space c.relocate.new.space) (λ told. c.requires.size) (c.relocate.ensures.takes []) had tells, c.touch.ensures.edits.ran.spent (c.relocate.ensures.frame.space.same.tells ∙ tells), ap (λ n. n / 512) c.relocate.ensures.frame.file.node_size)
+
+pub returns-in_err-relocate-clause-beside : goal.returns-in_err-relocate-clause-beside
+returns-in_err-relocate-clause-beside g c tells beside had = omega (arith, spare_edited 3 0 beside c.args.volume.now c.relocate.new.volume (g.P.SectorView.space c.args.space.now) (g.P.SectorView.space c.relocate.new.space) (λ told. c.requires.size) (c.relocate.ensures.takes []) had tells)
+
+pub returns-then-not-fits_update-clause-beside : goal.returns-then-not-fits_update-clause-beside
+returns-then-not-fits_update-clause-beside g c tells beside had = omega (arith, spare_edited 3 0 beside c.args.volume.now c.relocate.new.volume (g.P.SectorView.space c.args.space.now) (g.P.SectorView.space c.relocate.new.space) (λ told. c.requires.size) (c.relocate.ensures.takes []) had tells)

@@ -59,3 +59,14 @@ returns-then-shape-lt4096-clause-does g c tells from to at move = absurd (omega 
 
 pub returns-then-shape-lt4096-clause-edits : goal.returns-then-shape-lt4096-clause-edits
 returns-then-shape-lt4096-clause-edits g c = edits_none _ g.met.P.SectorView.follows_refl c.requires.serves.stands
+
+pub returns-clause-beside : goal.returns-clause-beside
+returns-clause-beside g c tells beside had =
+    let later = (c.leave.ensures.edits.ran.touches (g.P.SectorView.space c.args.space.now).content).same.tells ∙ tells in
+    omega (arith, c.leave.ensures.beside tells beside had, c.arrive.ensures.edits.ran.spent later, ap (λ n. n / 512) c.in_ok-leave.ensures.size)
+
+pub returns-in_err-leave-clause-beside : goal.returns-in_err-leave-clause-beside
+returns-in_err-leave-clause-beside g c tells beside had = omega (arith, c.leave.ensures.beside tells beside had)
+
+pub returns-then-shape-lt4096-clause-beside : goal.returns-then-shape-lt4096-clause-beside
+returns-then-shape-lt4096-clause-beside g c tells beside had = omega (arith, (had.told tells).0)

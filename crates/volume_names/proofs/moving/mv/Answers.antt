@@ -1,14 +1,13 @@
-use Rattle.std.proofs.Common.{ℕ, List, length, sym, ◌∙◌, ap, arith}
+use Rattle.std.proofs.Common.{ℕ, List, length, sym, ◌∙◌, ap}
 use Rattle.hfs_model.specs.Step.{is_root}
 use Rattle.hfs_volume.specs.TreeOf.{tree_of}
-use Rattle.volume_base.proofs.Loads.{move_load_told}
 use Rattle.volume_base.proofs.Routed.{mv_root_line, root_of}
 use Rattle.volume_base.proofs.Touched.{or_true}
 use Rattle.volume_base.proofs.Framed.{edits_none}
 use Rattle.volume_names.proofs.moving.mv.Goals as goal
 
 pub returns-in-Some-split_last-clause-loads : goal.returns-in-Some-split_last-clause-loads
-returns-in-Some-split_last-clause-loads g c tells n grow is = omega (arith, c.mv_under.ensures.edits.ran.spent tells, move_load_told c.args.volume.now (g.P.SectorView.space c.args.space.now).content (c.requires.serves.settled tells) (c.requires.room.told tells).2 c.args.volume.now.capacity c.args.from.now c.args.to.now (tree_of (g.P.SectorView.space c.args.space.now).content) n grow is)
+returns-in-Some-split_last-clause-loads g c = c.mv_under.ensures.loads
 
 pub returns-in-None-split_last-clause-reply : goal.returns-in-None-split_last-clause-reply
 returns-in-None-split_last-clause-reply g c tells =

@@ -1,108 +1,211 @@
-use Rattle.std.proofs.Common.{◌≡◌, ℕ, List, sym, ◌∙◌, ap, subst, arith}
+use Rattle.std.proofs.Common.{◌≡◌, ◌*◌, true, inl, inr, sym, ◌∙◌, ap, subst, arith}
+use Rattle.std.specs.Prelude.{Ok, IfOk, OnOk}
+use Rattle.std.proofs.lemmas.Bool.{true≢false}
 use Rattle.sector_disk.specs.Lists.{Content}
-use Rattle.hfs_language.specs.Written.{FitsPath}
 use Rattle.hfs_language.specs.declared.command.Command.TheVariants as command
-use Rattle.hfs_language.specs.declared.refusal.Refusal.TheVariants as refusal
-use Rattle.hfs_model.specs.Step.{is_below, step}
-use Rattle.hfs_volume.specs.Content.{volume_of}
-use Rattle.hfs_volume.specs.Naming.{MovesName}
+use Rattle.hfs_language.specs.declared.reply.Reply.{Reply}
+use Rattle.hfs_language.specs.declared.reply.Reply.TheVariants as reply
+use Rattle.hfs_model.specs.Step.{is_refusal, step_line}
 use Rattle.hfs_volume.specs.TreeOf.{tree_of}
-use Rattle.volume_base.specs.Making.{free_place}
-use Rattle.volume_base.specs.Lists.{lists_of}
-use Rattle.volume_base.specs.Moving.{IsMove, route_in}
-use Rattle.volume_names.proofs.MoveRoom.{move_load_still, move_room_still}
-use Rattle.volume_base.proofs.Routed.{goes_inside, may_go, moved_line, mv_refused_line, way_refused, way_told}
-use Rattle.volume_base.proofs.Sited.{fits_above, fits_name, some_name}
-use Rattle.volume_base.proofs.Framed.{edits_err, edits_ok, edits_spent}
-use Rattle.volume_base.proofs.Joined.{edits_both, edits_serves}
+use Rattle.volume_base.specs.Changing.{catalog_node}
+use Rattle.volume_base.specs.Moving.{to_free}
+use Rattle.volume_base.proofs.Framed.{edits_ok, edits_spent}
+use Rattle.volume_base.proofs.Freeing.{exists_is}
+use Rattle.volume_base.proofs.Joined.{edits_both}
+use Rattle.volume_base.proofs.Loads.{move_load_told}
+use Rattle.volume_base.proofs.Replaced.{node_large}
+use Rattle.volume_base.proofs.Routed.{moved_line, mv_refused_line}
+use Rattle.volume_names.specs.Moving.{HasMoved}
+use Rattle.volume_names.proofs.EditsLeft.{left_fewer, left_of_move}
+use Rattle.volume_names.proofs.LinkLoads.{puts_still}
+use Rattle.volume_names.proofs.Taken.{read_err, tells_err, tells_ok}
 use Rattle.volume_names.proofs.moving.mv_under.Goals as goal
 
-pub route-requires-clause-from_fits : goal.route-requires-clause-from_fits
-route-requires-clause-from_fits g c = subst FitsPath (sym c.as_slice.ensures) c.requires.from_fits
+pub move_free-requires-clause-left : goal.move_free-requires-clause-left
+move_free-requires-clause-left g c =
+    let v = c.args.volume.now in
+    let old = g.P.SectorView.space c.args.space.now in
+    left_fewer v old 3 (2 * catalog_node v) 0 (λ told. node_large v old c.requires.serves.stands told) (omega arith) (left_of_move c.edits_have_room.ensures v old (λ told. node_large v old c.requires.serves.stands told) c.requires.room)
 
-pub route-requires-clause-above_fits : goal.route-requires-clause-above_fits
-route-requires-clause-above_fits g c = fits_above c.args.above.now c.args.old.now (subst FitsPath c.requires.split c.requires.from_fits)
+pub returns-in-Ok-clause-reply : goal.returns-in-Ok-clause-reply
+returns-in-Ok-clause-reply g c tells =
+    let v = c.args.volume.now in
+    let w = c.move_free.new.volume in
+    let old = g.P.SectorView.space c.args.space.now in
+    let new = g.P.SectorView.space c.move_free.new.space in
+    let tree = tree_of old.content in
+    let it = tells_ok _ _ c.args.from.now c.args.to.now old.content new.content c.in-Ok.is (c.in_ok-said.ensures.moves tells) in
+    (moved_line tree c.args.from.now c.args.to.now (it.0.entry, it.0.place) c.requires.not_own c.requires.goal_not_own it.0.allowed).0
 
-pub route-requires-clause-under_fits : goal.route-requires-clause-under_fits
-route-requires-clause-under_fits g c = fits_above c.args.under.now c.args.name.now (subst FitsPath c.requires.goal_split c.requires.to_fits)
+pub returns-in-Ok-clause-tree : goal.returns-in-Ok-clause-tree
+returns-in-Ok-clause-tree g c tells =
+    let v = c.args.volume.now in
+    let w = c.move_free.new.volume in
+    let old = g.P.SectorView.space c.args.space.now in
+    let new = g.P.SectorView.space c.move_free.new.space in
+    let tree = tree_of old.content in
+    let it = tells_ok _ _ c.args.from.now c.args.to.now old.content new.content c.in-Ok.is (c.in_ok-said.ensures.moves tells) in
+    it.1 ∙ (moved_line tree c.args.from.now c.args.to.now (it.0.entry, it.0.place) c.requires.not_own c.requires.goal_not_own it.0.allowed).1
 
-pub route-requires-clause-name : goal.route-requires-clause-name
-route-requires-clause-name g c = (fits_name c.args.under.now c.args.name.now (subst FitsPath c.requires.goal_split c.requires.to_fits)).short
+pub returns-in-Ok-clause-refused : goal.returns-in-Ok-clause-refused
+returns-in-Ok-clause-refused g c tells is = absurd (true≢false (sym is))
 
-pub move_in-requires-clause-some : goal.move_in-requires-clause-some
-move_in-requires-clause-some g c = (fits_name c.args.above.now c.args.old.now (subst FitsPath c.requires.split c.requires.from_fits)).some
+pub returns-in-Ok-clause-lists : goal.returns-in-Ok-clause-lists
+returns-in-Ok-clause-lists g c tells is =
+    let v = c.args.volume.now in
+    let w = c.move_free.new.volume in
+    let old = g.P.SectorView.space c.args.space.now in
+    let new = g.P.SectorView.space c.move_free.new.space in
+    let tree = tree_of old.content in
+    inl (tells_ok _ _ c.args.from.now c.args.to.now old.content new.content c.in-Ok.is (c.in_ok-said.ensures.moves tells)).0
 
-pub move_in-requires-clause-old_name : goal.move_in-requires-clause-old_name
-move_in-requires-clause-old_name g c = (fits_name c.args.above.now c.args.old.now (subst FitsPath c.requires.split c.requires.from_fits)).short
+pub returns-in-Ok-clause-edits : goal.returns-in-Ok-clause-edits
+returns-in-Ok-clause-edits g c = edits_ok (edits_spent c.in_ok-said.ensures.edits (λ tells. omega arith))
 
-pub move_in-requires-clause-some_new : goal.move_in-requires-clause-some_new
-move_in-requires-clause-some_new g c = (fits_name c.args.under.now c.args.name.now (subst FitsPath c.requires.goal_split c.requires.to_fits)).some
+pub returns-else-is_exists-clause-reply : goal.returns-else-is_exists-clause-reply
+returns-else-is_exists-clause-reply g c tells =
+    let v = c.args.volume.now in
+    let w = c.move_free.new.volume in
+    let old = g.P.SectorView.space c.args.space.now in
+    let new = g.P.SectorView.space c.move_free.new.space in
+    let tree = tree_of old.content in
+    (mv_refused_line tree c.args.from.now c.args.to.now c.in-Err.why c.requires.not_own c.requires.goal_not_own ((tells_err _ c.in-Err.why c.args.from.now c.args.to.now old.content new.content c.in-Err.is (c.in_ok-said.ensures.moves tells)).0 (sym c.is_exists.ensures ∙ c.if-is_exists.false))).0
 
-pub move_in-requires-clause-name : goal.move_in-requires-clause-name
-move_in-requires-clause-name g c = (fits_name c.args.under.now c.args.name.now (subst FitsPath c.requires.goal_split c.requires.to_fits)).short
+pub returns-else-is_exists-clause-tree : goal.returns-else-is_exists-clause-tree
+returns-else-is_exists-clause-tree g c tells =
+    let v = c.args.volume.now in
+    let w = c.move_free.new.volume in
+    let old = g.P.SectorView.space c.args.space.now in
+    let new = g.P.SectorView.space c.move_free.new.space in
+    let tree = tree_of old.content in
+    ap (λ (k : Content). tree_of k) ((read_err _ c.in-Err.why v w old new c.in-Err.is c.in_ok-said.ensures.read).looks.content tells)
+    ∙ (mv_refused_line tree c.args.from.now c.args.to.now c.in-Err.why c.requires.not_own c.requires.goal_not_own ((tells_err _ c.in-Err.why c.args.from.now c.args.to.now old.content new.content c.in-Err.is (c.in_ok-said.ensures.moves tells)).0 (sym c.is_exists.ensures ∙ c.if-is_exists.false))).1
 
-pub move_in-requires-clause-room : goal.move_in-requires-clause-room
-move_in-requires-clause-room g c = move_room_still c.args.volume.now c.route.new.self (g.P.SectorView.space c.args.space.now) (g.P.SectorView.space c.route.new.space) c.route.ensures.looked.reads c.requires.room
+pub returns-else-is_exists-clause-refused : goal.returns-else-is_exists-clause-refused
+returns-else-is_exists-clause-refused g c tells is =
+    let v = c.args.volume.now in
+    let w = c.move_free.new.volume in
+    let old = g.P.SectorView.space c.args.space.now in
+    let new = g.P.SectorView.space c.move_free.new.space in
+    let tree = tree_of old.content in
+    (read_err _ c.in-Err.why v w old new c.in-Err.is c.in_ok-said.ensures.read).looks.content tells
 
-pub move_in-requires-clause-moves : goal.move_in-requires-clause-moves
-move_in-requires-clause-moves g c tells =
-    let before = sym c.route.ensures.looked.reads.looks.same.tells ∙ tells in (
-      c.args.from.now,
-      c.args.to.now,
-      (way_told c.sound_has_plain_tree.ensures c.args.volume.now (g.P.SectorView.space c.args.space.now).content (c.requires.serves.stands.stands before).trees (c.requires.serves.settled before) c.args.from.now c.args.to.now c.args.above.now c.args.under.now c.args.old.now c.args.name.now c.requires.split c.requires.goal_split c.requires.not_own c.requires.goal_not_own c.requires.from_fits c.requires.to_fits c.in_ok-way.field-0 (subst (λ (p : List (List ℕ)). c.in_ok-way.field-0 ≡ route_in (lists_of c.args.volume.now (g.P.SectorView.space c.args.space.now).content).catalog_pairs c.args.volume.now.private p c.args.above.now c.args.under.now c.args.name.now) c.as_slice.ensures (c.in_ok-way.ensures.found before)) c.in-Ok.way c.in-Ok.is).at,
-      subst (λ (k : Content). IsMove (tree_of k) c.args.from.now c.args.to.now (way_told c.sound_has_plain_tree.ensures c.args.volume.now (g.P.SectorView.space c.args.space.now).content (c.requires.serves.stands.stands before).trees (c.requires.serves.settled before) c.args.from.now c.args.to.now c.args.above.now c.args.under.now c.args.old.now c.args.name.now c.requires.split c.requires.goal_split c.requires.not_own c.requires.goal_not_own c.requires.from_fits c.requires.to_fits c.in_ok-way.field-0 (subst (λ (p : List (List ℕ)). c.in_ok-way.field-0 ≡ route_in (lists_of c.args.volume.now (g.P.SectorView.space c.args.space.now).content).catalog_pairs c.args.volume.now.private p c.args.above.now c.args.under.now c.args.name.now) c.as_slice.ensures (c.in_ok-way.ensures.found before)) c.in-Ok.way c.in-Ok.is).at c.in-Ok.way.parent c.args.old.now c.in-Ok.way.id c.in-Ok.way.folder c.args.name.now) (sym (c.route.ensures.looked.reads.looks.content before)) (may_go c.sound_has_plain_tree.ensures c.args.volume.now (g.P.SectorView.space c.args.space.now).content (c.requires.serves.stands.stands before).trees (c.requires.serves.settled before) c.args.from.now c.args.to.now c.args.above.now c.args.under.now c.args.old.now c.args.name.now c.requires.split c.requires.goal_split c.requires.not_own c.requires.goal_not_own c.requires.from_fits c.requires.to_fits c.in_ok-way.field-0 (subst (λ (p : List (List ℕ)). c.in_ok-way.field-0 ≡ route_in (lists_of c.args.volume.now (g.P.SectorView.space c.args.space.now).content).catalog_pairs c.args.volume.now.private p c.args.above.now c.args.under.now c.args.name.now) c.as_slice.ensures (c.in_ok-way.ensures.found before)) c.in-Ok.way c.in-Ok.is ((λ i. is_below (sym c.as_slice-in-Ok.ensures i) (sym c.as_slice-in-Ok-2.ensures i)) ∙ sym c.is_below.ensures ∙ c.if-is_below.false)),
-    )
+pub returns-else-is_exists-clause-lists : goal.returns-else-is_exists-clause-lists
+returns-else-is_exists-clause-lists g c tells is = absurd (cc is)
 
-pub returns-in_ok-move_in-in-Ok-clause-reply : goal.returns-in_ok-move_in-in-Ok-clause-reply
-returns-in_ok-move_in-in-Ok-clause-reply g c tells =
-    (moved_line (tree_of (g.P.SectorView.space c.args.space.now).content) c.args.from.now c.args.to.now ((way_told c.sound_has_plain_tree.ensures c.args.volume.now (g.P.SectorView.space c.args.space.now).content (c.requires.serves.stands.stands tells).trees (c.requires.serves.settled tells) c.args.from.now c.args.to.now c.args.above.now c.args.under.now c.args.old.now c.args.name.now c.requires.split c.requires.goal_split c.requires.not_own c.requires.goal_not_own c.requires.from_fits c.requires.to_fits c.in_ok-way.field-0 (subst (λ (p : List (List ℕ)). c.in_ok-way.field-0 ≡ route_in (lists_of c.args.volume.now (g.P.SectorView.space c.args.space.now).content).catalog_pairs c.args.volume.now.private p c.args.above.now c.args.under.now c.args.name.now) c.as_slice.ensures (c.in_ok-way.ensures.found tells)) c.in-Ok.way c.in-Ok.is).at, free_place c.in-Ok.way.folder c.args.name.now) c.requires.not_own c.requires.goal_not_own (may_go c.sound_has_plain_tree.ensures c.args.volume.now (g.P.SectorView.space c.args.space.now).content (c.requires.serves.stands.stands tells).trees (c.requires.serves.settled tells) c.args.from.now c.args.to.now c.args.above.now c.args.under.now c.args.old.now c.args.name.now c.requires.split c.requires.goal_split c.requires.not_own c.requires.goal_not_own c.requires.from_fits c.requires.to_fits c.in_ok-way.field-0 (subst (λ (p : List (List ℕ)). c.in_ok-way.field-0 ≡ route_in (lists_of c.args.volume.now (g.P.SectorView.space c.args.space.now).content).catalog_pairs c.args.volume.now.private p c.args.above.now c.args.under.now c.args.name.now) c.as_slice.ensures (c.in_ok-way.ensures.found tells)) c.in-Ok.way c.in-Ok.is ((λ i. is_below (sym c.as_slice-in-Ok.ensures i) (sym c.as_slice-in-Ok-2.ensures i)) ∙ sym c.is_below.ensures ∙ c.if-is_below.false)).allowed).0
+pub returns-else-is_exists-clause-edits : goal.returns-else-is_exists-clause-edits
+returns-else-is_exists-clause-edits g c = edits_ok (edits_spent c.in_ok-said.ensures.edits (λ tells. omega arith))
 
-pub returns-in_ok-move_in-in-Ok-clause-tree : goal.returns-in_ok-move_in-in-Ok-clause-tree
-returns-in_ok-move_in-in-Ok-clause-tree g c tells =
-    (c.in_ok-move_in-in-Ok.ensures.does (c.route.ensures.looked.reads.looks.same.tells ∙ tells) c.args.from.now c.args.to.now (way_told c.sound_has_plain_tree.ensures c.args.volume.now (g.P.SectorView.space c.args.space.now).content (c.requires.serves.stands.stands tells).trees (c.requires.serves.settled tells) c.args.from.now c.args.to.now c.args.above.now c.args.under.now c.args.old.now c.args.name.now c.requires.split c.requires.goal_split c.requires.not_own c.requires.goal_not_own c.requires.from_fits c.requires.to_fits c.in_ok-way.field-0 (subst (λ (p : List (List ℕ)). c.in_ok-way.field-0 ≡ route_in (lists_of c.args.volume.now (g.P.SectorView.space c.args.space.now).content).catalog_pairs c.args.volume.now.private p c.args.above.now c.args.under.now c.args.name.now) c.as_slice.ensures (c.in_ok-way.ensures.found tells)) c.in-Ok.way c.in-Ok.is).at (subst (λ (k : Content). IsMove (tree_of k) c.args.from.now c.args.to.now (way_told c.sound_has_plain_tree.ensures c.args.volume.now (g.P.SectorView.space c.args.space.now).content (c.requires.serves.stands.stands tells).trees (c.requires.serves.settled tells) c.args.from.now c.args.to.now c.args.above.now c.args.under.now c.args.old.now c.args.name.now c.requires.split c.requires.goal_split c.requires.not_own c.requires.goal_not_own c.requires.from_fits c.requires.to_fits c.in_ok-way.field-0 (subst (λ (p : List (List ℕ)). c.in_ok-way.field-0 ≡ route_in (lists_of c.args.volume.now (g.P.SectorView.space c.args.space.now).content).catalog_pairs c.args.volume.now.private p c.args.above.now c.args.under.now c.args.name.now) c.as_slice.ensures (c.in_ok-way.ensures.found tells)) c.in-Ok.way c.in-Ok.is).at c.in-Ok.way.parent c.args.old.now c.in-Ok.way.id c.in-Ok.way.folder c.args.name.now) (sym (c.route.ensures.looked.reads.looks.content tells)) (may_go c.sound_has_plain_tree.ensures c.args.volume.now (g.P.SectorView.space c.args.space.now).content (c.requires.serves.stands.stands tells).trees (c.requires.serves.settled tells) c.args.from.now c.args.to.now c.args.above.now c.args.under.now c.args.old.now c.args.name.now c.requires.split c.requires.goal_split c.requires.not_own c.requires.goal_not_own c.requires.from_fits c.requires.to_fits c.in_ok-way.field-0 (subst (λ (p : List (List ℕ)). c.in_ok-way.field-0 ≡ route_in (lists_of c.args.volume.now (g.P.SectorView.space c.args.space.now).content).catalog_pairs c.args.volume.now.private p c.args.above.now c.args.under.now c.args.name.now) c.as_slice.ensures (c.in_ok-way.ensures.found tells)) c.in-Ok.way c.in-Ok.is ((λ i. is_below (sym c.as_slice-in-Ok.ensures i) (sym c.as_slice-in-Ok-2.ensures i)) ∙ sym c.is_below.ensures ∙ c.if-is_below.false)))).1
-    ∙ ap (λ (k : Content). (step (tree_of k) (command.Mv c.args.from.now c.args.to.now)).1) (c.route.ensures.looked.reads.looks.content tells)
-    ∙ (moved_line (tree_of (g.P.SectorView.space c.args.space.now).content) c.args.from.now c.args.to.now ((way_told c.sound_has_plain_tree.ensures c.args.volume.now (g.P.SectorView.space c.args.space.now).content (c.requires.serves.stands.stands tells).trees (c.requires.serves.settled tells) c.args.from.now c.args.to.now c.args.above.now c.args.under.now c.args.old.now c.args.name.now c.requires.split c.requires.goal_split c.requires.not_own c.requires.goal_not_own c.requires.from_fits c.requires.to_fits c.in_ok-way.field-0 (subst (λ (p : List (List ℕ)). c.in_ok-way.field-0 ≡ route_in (lists_of c.args.volume.now (g.P.SectorView.space c.args.space.now).content).catalog_pairs c.args.volume.now.private p c.args.above.now c.args.under.now c.args.name.now) c.as_slice.ensures (c.in_ok-way.ensures.found tells)) c.in-Ok.way c.in-Ok.is).at, free_place c.in-Ok.way.folder c.args.name.now) c.requires.not_own c.requires.goal_not_own (may_go c.sound_has_plain_tree.ensures c.args.volume.now (g.P.SectorView.space c.args.space.now).content (c.requires.serves.stands.stands tells).trees (c.requires.serves.settled tells) c.args.from.now c.args.to.now c.args.above.now c.args.under.now c.args.old.now c.args.name.now c.requires.split c.requires.goal_split c.requires.not_own c.requires.goal_not_own c.requires.from_fits c.requires.to_fits c.in_ok-way.field-0 (subst (λ (p : List (List ℕ)). c.in_ok-way.field-0 ≡ route_in (lists_of c.args.volume.now (g.P.SectorView.space c.args.space.now).content).catalog_pairs c.args.volume.now.private p c.args.above.now c.args.under.now c.args.name.now) c.as_slice.ensures (c.in_ok-way.ensures.found tells)) c.in-Ok.way c.in-Ok.is ((λ i. is_below (sym c.as_slice-in-Ok.ensures i) (sym c.as_slice-in-Ok-2.ensures i)) ∙ sym c.is_below.ensures ∙ c.if-is_below.false)).allowed).1
+pub mv_over-requires-clause-taken : goal.mv_over-requires-clause-taken
+mv_over-requires-clause-taken g c told =
+    let tells = sym (c.move_free.ensures.edits.ran.touches (g.P.SectorView.space c.args.space.now).content).same.tells ∙ told in
+    let v = c.args.volume.now in
+    let w = c.move_free.new.volume in
+    let old = g.P.SectorView.space c.args.space.now in
+    let new = g.P.SectorView.space c.move_free.new.space in
+    let tree = tree_of old.content in
+    ap (λ (k : Content). to_free (tree_of k) c.args.from.now c.args.to.now) ((read_err _ c.in-Err.why v w old new c.in-Err.is c.in_ok-said.ensures.read).looks.content tells) ∙ (tells_err _ c.in-Err.why c.args.from.now c.args.to.now old.content new.content c.in-Err.is (c.in_ok-said.ensures.moves tells)).1 (exists_is c.in-Err.why (sym c.is_exists.ensures ∙ c.if-is_exists.true))
 
-pub returns-in_ok-move_in-in-Ok-clause-edits : goal.returns-in_ok-move_in-in-Ok-clause-edits
-returns-in_ok-move_in-in-Ok-clause-edits g c =
-    edits_ok (edits_spent (edits_both g.met.P.SectorView.follows_trans c.route.ensures.looked.edits c.in_ok-move_in-in-Ok.ensures.edits) (λ tells. omega (arith, c.route.ensures.looked.reads.looks.spare, c.move_in.ensures.edits.ran.spent (c.route.ensures.looked.reads.looks.same.tells ∙ tells), move_load_still c.args.volume.now c.route.new.self (g.P.SectorView.space c.args.space.now) (g.P.SectorView.space c.route.new.space) c.route.ensures.looked.reads tells)))
+pub returns-then-is_exists-clause-reply : goal.returns-then-is_exists-clause-reply
+returns-then-is_exists-clause-reply g c tells =
+    let v = c.args.volume.now in
+    let w = c.move_free.new.volume in
+    let old = g.P.SectorView.space c.args.space.now in
+    let new = g.P.SectorView.space c.move_free.new.space in
+    let tree = tree_of old.content in
+    let last = g.P.SectorView.space c.mv_over.new.space in
+    let reads = read_err _ c.in-Err.why v w old new c.in-Err.is c.in_ok-said.ensures.read in
+    let later = reads.looks.same.tells ∙ tells in
+    let same = reads.looks.content tells in
+    subst (λ (k : Content). IfOk c.mv_over.result (λ (r : Reply). r ≡ (step_line (tree_of k) (Ok (command.Mv c.args.from.now c.args.to.now))).0)) same (c.mv_over.ensures.reply later)
 
-pub returns-in_ok-move_in-in-Ok-clause-serves : goal.returns-in_ok-move_in-in-Ok-clause-serves
-returns-in_ok-move_in-in-Ok-clause-serves g c =
-    edits_serves (returns-in_ok-move_in-in-Ok-clause-edits g c) (λ tells. (c.in_ok-move_in-in-Ok.ensures.does (c.route.ensures.looked.reads.looks.same.tells ∙ tells) c.args.from.now c.args.to.now (way_told c.sound_has_plain_tree.ensures c.args.volume.now (g.P.SectorView.space c.args.space.now).content (c.requires.serves.stands.stands tells).trees (c.requires.serves.settled tells) c.args.from.now c.args.to.now c.args.above.now c.args.under.now c.args.old.now c.args.name.now c.requires.split c.requires.goal_split c.requires.not_own c.requires.goal_not_own c.requires.from_fits c.requires.to_fits c.in_ok-way.field-0 (subst (λ (p : List (List ℕ)). c.in_ok-way.field-0 ≡ route_in (lists_of c.args.volume.now (g.P.SectorView.space c.args.space.now).content).catalog_pairs c.args.volume.now.private p c.args.above.now c.args.under.now c.args.name.now) c.as_slice.ensures (c.in_ok-way.ensures.found tells)) c.in-Ok.way c.in-Ok.is).at (subst (λ (k : Content). IsMove (tree_of k) c.args.from.now c.args.to.now (way_told c.sound_has_plain_tree.ensures c.args.volume.now (g.P.SectorView.space c.args.space.now).content (c.requires.serves.stands.stands tells).trees (c.requires.serves.settled tells) c.args.from.now c.args.to.now c.args.above.now c.args.under.now c.args.old.now c.args.name.now c.requires.split c.requires.goal_split c.requires.not_own c.requires.goal_not_own c.requires.from_fits c.requires.to_fits c.in_ok-way.field-0 (subst (λ (p : List (List ℕ)). c.in_ok-way.field-0 ≡ route_in (lists_of c.args.volume.now (g.P.SectorView.space c.args.space.now).content).catalog_pairs c.args.volume.now.private p c.args.above.now c.args.under.now c.args.name.now) c.as_slice.ensures (c.in_ok-way.ensures.found tells)) c.in-Ok.way c.in-Ok.is).at c.in-Ok.way.parent c.args.old.now c.in-Ok.way.id c.in-Ok.way.folder c.args.name.now) (sym (c.route.ensures.looked.reads.looks.content tells)) (may_go c.sound_has_plain_tree.ensures c.args.volume.now (g.P.SectorView.space c.args.space.now).content (c.requires.serves.stands.stands tells).trees (c.requires.serves.settled tells) c.args.from.now c.args.to.now c.args.above.now c.args.under.now c.args.old.now c.args.name.now c.requires.split c.requires.goal_split c.requires.not_own c.requires.goal_not_own c.requires.from_fits c.requires.to_fits c.in_ok-way.field-0 (subst (λ (p : List (List ℕ)). c.in_ok-way.field-0 ≡ route_in (lists_of c.args.volume.now (g.P.SectorView.space c.args.space.now).content).catalog_pairs c.args.volume.now.private p c.args.above.now c.args.under.now c.args.name.now) c.as_slice.ensures (c.in_ok-way.ensures.found tells)) c.in-Ok.way c.in-Ok.is ((λ i. is_below (sym c.as_slice-in-Ok.ensures i) (sym c.as_slice-in-Ok-2.ensures i)) ∙ sym c.is_below.ensures ∙ c.if-is_below.false)))).0)
+pub returns-then-is_exists-clause-tree : goal.returns-then-is_exists-clause-tree
+returns-then-is_exists-clause-tree g c tells =
+    let v = c.args.volume.now in
+    let w = c.move_free.new.volume in
+    let old = g.P.SectorView.space c.args.space.now in
+    let new = g.P.SectorView.space c.move_free.new.space in
+    let tree = tree_of old.content in
+    let last = g.P.SectorView.space c.mv_over.new.space in
+    let reads = read_err _ c.in-Err.why v w old new c.in-Err.is c.in_ok-said.ensures.read in
+    let later = reads.looks.same.tells ∙ tells in
+    let same = reads.looks.content tells in
+    subst (λ (k : Content). OnOk c.mv_over.result (tree_of last.content ≡ (step_line (tree_of k) (Ok (command.Mv c.args.from.now c.args.to.now))).1)) same (c.mv_over.ensures.tree later)
 
-pub returns-in_err-move_in-in-Ok-clause-edits : goal.returns-in_err-move_in-in-Ok-clause-edits
-returns-in_err-move_in-in-Ok-clause-edits g c =
-    edits_err c.from_residual-in_err-move_in-in-Ok.ensures.1 (edits_spent (edits_both g.met.P.SectorView.follows_trans c.route.ensures.looked.edits c.in_err-move_in-in-Ok.ensures.edits) (λ tells. omega (arith, c.route.ensures.looked.reads.looks.spare, c.move_in.ensures.edits.ran.spent (c.route.ensures.looked.reads.looks.same.tells ∙ tells), move_load_still c.args.volume.now c.route.new.self (g.P.SectorView.space c.args.space.now) (g.P.SectorView.space c.route.new.space) c.route.ensures.looked.reads tells)))
+pub returns-then-is_exists-clause-refused : goal.returns-then-is_exists-clause-refused
+returns-then-is_exists-clause-refused g c tells =
+    let v = c.args.volume.now in
+    let w = c.move_free.new.volume in
+    let old = g.P.SectorView.space c.args.space.now in
+    let new = g.P.SectorView.space c.move_free.new.space in
+    let tree = tree_of old.content in
+    let last = g.P.SectorView.space c.mv_over.new.space in
+    let reads = read_err _ c.in-Err.why v w old new c.in-Err.is c.in_ok-said.ensures.read in
+    let later = reads.looks.same.tells ∙ tells in
+    let same = reads.looks.content tells in
+    subst (λ (k : Content). IfOk c.mv_over.result (λ (r : Reply). is_refusal r ≡ true → last.content ≡ k)) same (c.mv_over.ensures.refused later)
 
-pub returns-in-Err-clause-reply : goal.returns-in-Err-clause-reply
-returns-in-Err-clause-reply g c tells =
-    (mv_refused_line (tree_of (g.P.SectorView.space c.args.space.now).content) c.args.from.now c.args.to.now c.in-Err.why c.requires.not_own c.requires.goal_not_own (way_refused c.sound_has_plain_tree.ensures c.args.volume.now (g.P.SectorView.space c.args.space.now).content (c.requires.serves.stands.stands tells).trees (c.requires.serves.settled tells) c.args.from.now c.args.to.now c.args.above.now c.args.under.now c.args.old.now c.args.name.now c.requires.split c.requires.goal_split c.requires.not_own c.requires.goal_not_own c.requires.from_fits c.requires.to_fits c.in_ok-way.field-0 (subst (λ (p : List (List ℕ)). c.in_ok-way.field-0 ≡ route_in (lists_of c.args.volume.now (g.P.SectorView.space c.args.space.now).content).catalog_pairs c.args.volume.now.private p c.args.above.now c.args.under.now c.args.name.now) c.as_slice.ensures (c.in_ok-way.ensures.found tells)) c.in-Err.why c.in-Err.is)).0
+pub returns-then-is_exists-clause-lists : goal.returns-then-is_exists-clause-lists
+returns-then-is_exists-clause-lists g c tells =
+    let v = c.args.volume.now in
+    let w = c.move_free.new.volume in
+    let old = g.P.SectorView.space c.args.space.now in
+    let new = g.P.SectorView.space c.move_free.new.space in
+    let tree = tree_of old.content in
+    let last = g.P.SectorView.space c.mv_over.new.space in
+    let reads = read_err _ c.in-Err.why v w old new c.in-Err.is c.in_ok-said.ensures.read in
+    let later = reads.looks.same.tells ∙ tells in
+    let same = reads.looks.content tells in
+    subst (λ (k : Content). IfOk c.mv_over.result (λ (r : Reply). r ≡ reply.Ok → HasMoved c.args.from.now c.args.to.now k last.content)) same (c.mv_over.ensures.lists later)
 
-pub returns-in-Err-clause-tree : goal.returns-in-Err-clause-tree
-returns-in-Err-clause-tree g c tells =
-    ap (λ (k : Content). tree_of k) (c.route.ensures.looked.reads.looks.content tells) ∙ (mv_refused_line (tree_of (g.P.SectorView.space c.args.space.now).content) c.args.from.now c.args.to.now c.in-Err.why c.requires.not_own c.requires.goal_not_own (way_refused c.sound_has_plain_tree.ensures c.args.volume.now (g.P.SectorView.space c.args.space.now).content (c.requires.serves.stands.stands tells).trees (c.requires.serves.settled tells) c.args.from.now c.args.to.now c.args.above.now c.args.under.now c.args.old.now c.args.name.now c.requires.split c.requires.goal_split c.requires.not_own c.requires.goal_not_own c.requires.from_fits c.requires.to_fits c.in_ok-way.field-0 (subst (λ (p : List (List ℕ)). c.in_ok-way.field-0 ≡ route_in (lists_of c.args.volume.now (g.P.SectorView.space c.args.space.now).content).catalog_pairs c.args.volume.now.private p c.args.above.now c.args.under.now c.args.name.now) c.as_slice.ensures (c.in_ok-way.ensures.found tells)) c.in-Err.why c.in-Err.is)).1
+pub returns-then-is_exists-clause-edits : goal.returns-then-is_exists-clause-edits
+returns-then-is_exists-clause-edits g c = edits_spent (edits_both g.met.P.SectorView.follows_trans c.move_free.ensures.edits c.mv_over.ensures.edits) (λ tells. omega arith)
 
-pub returns-then-is_below-clause-reply : goal.returns-then-is_below-clause-reply
-returns-then-is_below-clause-reply g c tells =
-    (mv_refused_line (tree_of (g.P.SectorView.space c.args.space.now).content) c.args.from.now c.args.to.now refusal.Inside c.requires.not_own c.requires.goal_not_own (goes_inside c.sound_has_plain_tree.ensures c.args.volume.now (g.P.SectorView.space c.args.space.now).content (c.requires.serves.stands.stands tells).trees (c.requires.serves.settled tells) c.args.from.now c.args.to.now c.args.above.now c.args.under.now c.args.old.now c.args.name.now c.requires.split c.requires.goal_split c.requires.not_own c.requires.goal_not_own c.requires.from_fits c.requires.to_fits c.in_ok-way.field-0 (subst (λ (p : List (List ℕ)). c.in_ok-way.field-0 ≡ route_in (lists_of c.args.volume.now (g.P.SectorView.space c.args.space.now).content).catalog_pairs c.args.volume.now.private p c.args.above.now c.args.under.now c.args.name.now) c.as_slice.ensures (c.in_ok-way.ensures.found tells)) c.in-Ok.way c.in-Ok.is ((λ i. is_below (sym c.as_slice-in-Ok.ensures i) (sym c.as_slice-in-Ok-2.ensures i)) ∙ sym c.is_below.ensures ∙ c.if-is_below.true))).0
+pub returns-then-is_exists-clause-loads : goal.returns-then-is_exists-clause-loads
+returns-then-is_exists-clause-loads g c tells =
+    let v = c.args.volume.now in
+    let w = c.move_free.new.volume in
+    let old = g.P.SectorView.space c.args.space.now in
+    let new = g.P.SectorView.space c.move_free.new.space in
+    let tree = tree_of old.content in
+    let last = g.P.SectorView.space c.mv_over.new.space in
+    let reads = read_err _ c.in-Err.why v w old new c.in-Err.is c.in_ok-said.ensures.read in
+    let later = reads.looks.same.tells ∙ tells in
+    let same = reads.looks.content tells in
+    puts_still (command.Mv c.args.from.now c.args.to.now) v w old new last reads tells (c.mv_over.ensures.loads later)
 
-pub returns-then-is_below-clause-tree : goal.returns-then-is_below-clause-tree
-returns-then-is_below-clause-tree g c tells =
-    ap (λ (k : Content). tree_of k) (c.route.ensures.looked.reads.looks.content tells) ∙ (mv_refused_line (tree_of (g.P.SectorView.space c.args.space.now).content) c.args.from.now c.args.to.now refusal.Inside c.requires.not_own c.requires.goal_not_own (goes_inside c.sound_has_plain_tree.ensures c.args.volume.now (g.P.SectorView.space c.args.space.now).content (c.requires.serves.stands.stands tells).trees (c.requires.serves.settled tells) c.args.from.now c.args.to.now c.args.above.now c.args.under.now c.args.old.now c.args.name.now c.requires.split c.requires.goal_split c.requires.not_own c.requires.goal_not_own c.requires.from_fits c.requires.to_fits c.in_ok-way.field-0 (subst (λ (p : List (List ℕ)). c.in_ok-way.field-0 ≡ route_in (lists_of c.args.volume.now (g.P.SectorView.space c.args.space.now).content).catalog_pairs c.args.volume.now.private p c.args.above.now c.args.under.now c.args.name.now) c.as_slice.ensures (c.in_ok-way.ensures.found tells)) c.in-Ok.way c.in-Ok.is ((λ i. is_below (sym c.as_slice-in-Ok.ensures i) (sym c.as_slice-in-Ok-2.ensures i)) ∙ sym c.is_below.ensures ∙ c.if-is_below.true))).1
+pub returns-in-Ok-clause-loads : goal.returns-in-Ok-clause-loads
+returns-in-Ok-clause-loads g c tells =
+    let v = c.args.volume.now in
+    let w = c.move_free.new.volume in
+    let old = g.P.SectorView.space c.args.space.now in
+    let new = g.P.SectorView.space c.move_free.new.space in
+    let tree = tree_of old.content in
+    elim (c.move_free.ensures.spends tells) [
+      | inl none ↦ λ n grow is. omega (arith, none)
+      | inr it ↦ λ n grow is. omega (arith, c.move_free.ensures.edits.ran.spent tells, move_load_told v old.content (c.requires.serves.settled tells) (c.requires.room.told tells).2 v.capacity c.args.from.now c.args.to.now tree it.0 it.1 it.2 n grow is)
+    ]
 
-pub returns-in_ok-move_in-in-Ok-clause-lists : goal.returns-in_ok-move_in-in-Ok-clause-lists
-returns-in_ok-move_in-in-Ok-clause-lists g c tells is = record {
-  entry = (way_told c.sound_has_plain_tree.ensures c.args.volume.now (g.P.SectorView.space c.args.space.now).content (c.requires.serves.stands.stands tells).trees (c.requires.serves.settled tells) c.args.from.now c.args.to.now c.args.above.now c.args.under.now c.args.old.now c.args.name.now c.requires.split c.requires.goal_split c.requires.not_own c.requires.goal_not_own c.requires.from_fits c.requires.to_fits c.in_ok-way.field-0 (subst (λ (p : List (List ℕ)). c.in_ok-way.field-0 ≡ route_in (lists_of c.args.volume.now (g.P.SectorView.space c.args.space.now).content).catalog_pairs c.args.volume.now.private p c.args.above.now c.args.under.now c.args.name.now) c.as_slice.ensures (c.in_ok-way.ensures.found tells)) c.in-Ok.way c.in-Ok.is).at;
-  place = free_place c.in-Ok.way.folder c.args.name.now;
-  allowed = (may_go c.sound_has_plain_tree.ensures c.args.volume.now (g.P.SectorView.space c.args.space.now).content (c.requires.serves.stands.stands tells).trees (c.requires.serves.settled tells) c.args.from.now c.args.to.now c.args.above.now c.args.under.now c.args.old.now c.args.name.now c.requires.split c.requires.goal_split c.requires.not_own c.requires.goal_not_own c.requires.from_fits c.requires.to_fits c.in_ok-way.field-0 (subst (λ (p : List (List ℕ)). c.in_ok-way.field-0 ≡ route_in (lists_of c.args.volume.now (g.P.SectorView.space c.args.space.now).content).catalog_pairs c.args.volume.now.private p c.args.above.now c.args.under.now c.args.name.now) c.as_slice.ensures (c.in_ok-way.ensures.found tells)) c.in-Ok.way c.in-Ok.is ((λ i. is_below (sym c.as_slice-in-Ok.ensures i) (sym c.as_slice-in-Ok-2.ensures i)) ∙ sym c.is_below.ensures ∙ c.if-is_below.false)).allowed;
-  named = some_name c.args.name.now (fits_name c.args.under.now c.args.name.now (subst FitsPath c.requires.goal_split c.requires.to_fits)).some;
-  moves = subst (λ (k : Content). MovesName (way_told c.sound_has_plain_tree.ensures c.args.volume.now (g.P.SectorView.space c.args.space.now).content (c.requires.serves.stands.stands tells).trees (c.requires.serves.settled tells) c.args.from.now c.args.to.now c.args.above.now c.args.under.now c.args.old.now c.args.name.now c.requires.split c.requires.goal_split c.requires.not_own c.requires.goal_not_own c.requires.from_fits c.requires.to_fits c.in_ok-way.field-0 (subst (λ (p : List (List ℕ)). c.in_ok-way.field-0 ≡ route_in (lists_of c.args.volume.now (g.P.SectorView.space c.args.space.now).content).catalog_pairs c.args.volume.now.private p c.args.above.now c.args.under.now c.args.name.now) c.as_slice.ensures (c.in_ok-way.ensures.found tells)) c.in-Ok.way c.in-Ok.is).at (free_place c.in-Ok.way.folder c.args.name.now) (volume_of k) (volume_of (g.P.SectorView.space c.move_in.new.space).content)) (c.route.ensures.looked.reads.looks.content tells)
-      (c.in_ok-move_in-in-Ok.ensures.does (c.route.ensures.looked.reads.looks.same.tells ∙ tells) c.args.from.now c.args.to.now (way_told c.sound_has_plain_tree.ensures c.args.volume.now (g.P.SectorView.space c.args.space.now).content (c.requires.serves.stands.stands tells).trees (c.requires.serves.settled tells) c.args.from.now c.args.to.now c.args.above.now c.args.under.now c.args.old.now c.args.name.now c.requires.split c.requires.goal_split c.requires.not_own c.requires.goal_not_own c.requires.from_fits c.requires.to_fits c.in_ok-way.field-0 (subst (λ (p : List (List ℕ)). c.in_ok-way.field-0 ≡ route_in (lists_of c.args.volume.now (g.P.SectorView.space c.args.space.now).content).catalog_pairs c.args.volume.now.private p c.args.above.now c.args.under.now c.args.name.now) c.as_slice.ensures (c.in_ok-way.ensures.found tells)) c.in-Ok.way c.in-Ok.is).at (subst (λ (k : Content). IsMove (tree_of k) c.args.from.now c.args.to.now (way_told c.sound_has_plain_tree.ensures c.args.volume.now (g.P.SectorView.space c.args.space.now).content (c.requires.serves.stands.stands tells).trees (c.requires.serves.settled tells) c.args.from.now c.args.to.now c.args.above.now c.args.under.now c.args.old.now c.args.name.now c.requires.split c.requires.goal_split c.requires.not_own c.requires.goal_not_own c.requires.from_fits c.requires.to_fits c.in_ok-way.field-0 (subst (λ (p : List (List ℕ)). c.in_ok-way.field-0 ≡ route_in (lists_of c.args.volume.now (g.P.SectorView.space c.args.space.now).content).catalog_pairs c.args.volume.now.private p c.args.above.now c.args.under.now c.args.name.now) c.as_slice.ensures (c.in_ok-way.ensures.found tells)) c.in-Ok.way c.in-Ok.is).at c.in-Ok.way.parent c.args.old.now c.in-Ok.way.id c.in-Ok.way.folder c.args.name.now) (sym (c.route.ensures.looked.reads.looks.content tells)) (may_go c.sound_has_plain_tree.ensures c.args.volume.now (g.P.SectorView.space c.args.space.now).content (c.requires.serves.stands.stands tells).trees (c.requires.serves.settled tells) c.args.from.now c.args.to.now c.args.above.now c.args.under.now c.args.old.now c.args.name.now c.requires.split c.requires.goal_split c.requires.not_own c.requires.goal_not_own c.requires.from_fits c.requires.to_fits c.in_ok-way.field-0 (subst (λ (p : List (List ℕ)). c.in_ok-way.field-0 ≡ route_in (lists_of c.args.volume.now (g.P.SectorView.space c.args.space.now).content).catalog_pairs c.args.volume.now.private p c.args.above.now c.args.under.now c.args.name.now) c.as_slice.ensures (c.in_ok-way.ensures.found tells)) c.in-Ok.way c.in-Ok.is ((λ i. is_below (sym c.as_slice-in-Ok.ensures i) (sym c.as_slice-in-Ok-2.ensures i)) ∙ sym c.is_below.ensures ∙ c.if-is_below.false)))).2;
-}
+pub returns-else-is_exists-clause-loads : goal.returns-else-is_exists-clause-loads
+returns-else-is_exists-clause-loads g c tells =
+    let v = c.args.volume.now in
+    let w = c.move_free.new.volume in
+    let old = g.P.SectorView.space c.args.space.now in
+    let new = g.P.SectorView.space c.move_free.new.space in
+    let tree = tree_of old.content in
+    elim (c.move_free.ensures.spends tells) [
+      | inl none ↦ λ n grow is. omega (arith, none)
+      | inr it ↦ λ n grow is. omega (arith, c.move_free.ensures.edits.ran.spent tells, move_load_told v old.content (c.requires.serves.settled tells) (c.requires.room.told tells).2 v.capacity c.args.from.now c.args.to.now tree it.0 it.1 it.2 n grow is)
+    ]
 
-pub returns-in-Err-clause-lists : goal.returns-in-Err-clause-lists
-returns-in-Err-clause-lists g c tells is = absurd (cc is)
-
-pub returns-then-is_below-clause-lists : goal.returns-then-is_below-clause-lists
-returns-then-is_below-clause-lists g c tells is = absurd (cc is)
+pub returns-in_err-said-clause-loads : goal.returns-in_err-said-clause-loads
+returns-in_err-said-clause-loads g c tells =
+    let v = c.args.volume.now in
+    let w = c.move_free.new.volume in
+    let old = g.P.SectorView.space c.args.space.now in
+    let new = g.P.SectorView.space c.move_free.new.space in
+    let tree = tree_of old.content in
+    elim (c.move_free.ensures.spends tells) [
+      | inl none ↦ λ n grow is. omega (arith, none)
+      | inr it ↦ λ n grow is. omega (arith, c.move_free.ensures.edits.ran.spent tells, move_load_told v old.content (c.requires.serves.settled tells) (c.requires.room.told tells).2 v.capacity c.args.from.now c.args.to.now tree it.0 it.1 it.2 n grow is)
+    ]

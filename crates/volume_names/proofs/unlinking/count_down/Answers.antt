@@ -1,4 +1,4 @@
-use Rattle.std.proofs.Common.{◌≡◌, ◌≤◌, false, length, sym, ◌∙◌, ap, subst, arith}
+use Rattle.std.proofs.Common.{◌≡◌, ◌≤◌, ◌+◌, false, length, sym, ◌∙◌, ap, subst, arith}
 use Rattle.std.specs.Prelude.{Option, IfSome}
 use Rattle.cat_records.specs.Fits.{FitsRecord}
 use Rattle.catalog.specs.Pairs.{value_at}
@@ -12,6 +12,9 @@ use Rattle.volume_names.proofs.Unlinked.{counts_read, shared_not_none, shared_th
 use Rattle.volume_base.proofs.Still.{lists_still}
 use Rattle.volume_base.proofs.Framed.{edits_spent}
 use Rattle.volume_base.proofs.Joined.{edits_both}
+use Rattle.volume_base.proofs.Replaced.{node_large}
+use Rattle.volume_names.specs.EditsLeft.{LeavesBeside}
+use Rattle.volume_names.proofs.EditsLeft.{left_as, left_less, left_still}
 use Rattle.volume_names.proofs.unlinking.count_down.Goals as goal
 
 pub entry-requires-clause-spelled : goal.entry-requires-clause-spelled
@@ -55,3 +58,19 @@ returns-in-Some-clause-edits g c =
 pub returns-in-None-clause-counts : goal.returns-in-None-clause-counts
 returns-in-None-clause-counts g c tells =
     absurd (shared_not_none c.args.volume.now (g.P.SectorView.space c.args.space.now).content (c.requires.stands.stands tells).trees (c.requires.threads tells) c.args.id (c.requires.there tells) (sym c.in-None.is ∙ c.in_ok-entry.ensures.found tells))
+
+pub returns-in-Some-clause-left : goal.returns-in-Some-clause-left
+returns-in-Some-clause-left g c =
+    let v = c.args.volume.now in
+    let old = g.P.SectorView.space c.args.space.now in
+    let read = g.P.SectorView.space c.entry.new.space in
+    let new = g.P.SectorView.space c.put_link_less.new.space in
+    ok_so (LeavesBeside c.entry.new.self read c.put_link_less.new.volume new) (LeavesBeside v old c.put_link_less.new.volume new) c.put_link_less.result c.put_link_less.ensures.left
+    (λ left edits beside had. left edits beside (left_as c.entry.new.self read edits _ _ (λ tells. ap (λ n. n + beside) (sym (node_still v c.entry.new.self old read c.entry.ensures.looked.reads)))
+    (left_still v c.entry.new.self old read edits _ (λ tells. node_large v old c.requires.stands tells) c.entry.ensures.looked.reads had)))
+
+pub returns-in-None-clause-left : goal.returns-in-None-clause-left
+returns-in-None-clause-left g c edits beside had =
+    let v = c.args.volume.now in
+    let old = g.P.SectorView.space c.args.space.now in
+    left_still v c.entry.new.self old (g.P.SectorView.space c.entry.new.space) edits beside (λ tells. node_large v old c.requires.stands tells) c.entry.ensures.looked.reads (left_less v old edits beside (λ tells. node_large v old c.requires.stands tells) had)

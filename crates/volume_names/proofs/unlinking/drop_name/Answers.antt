@@ -68,18 +68,18 @@ pub returns-clause-size : goal.returns-clause-size
 returns-clause-size g c = c.remove.ensures.frame.file.node_size ∙ ap (λ (x : Volume). (numbers_of x.catalog.file).node_size) c.count_file_off.ensures.rest
 
 pub returns-clause-leaves : goal.returns-clause-leaves
-returns-clause-leaves g c beside load =
-    left_added c.edits_have_room.ensures c.args.volume.now c.remove.new.self (g.P.SectorView.space c.args.space.now) (g.P.SectorView.space c.count_file_off.new.space) (g.P.SectorView.space c.remove.new.space) 3 beside c.requires.size c.count_file_off.ensures.within.same.tells c.remove.ensures.frame.space.same.tells c.count_file_off.ensures.spent
+returns-clause-leaves g c edits beside load =
+    left_added c.edits_have_room.ensures c.args.volume.now c.remove.new.self (g.P.SectorView.space c.args.space.now) (g.P.SectorView.space c.count_file_off.new.space) (g.P.SectorView.space c.remove.new.space) edits beside c.requires.size c.count_file_off.ensures.within.same.tells c.remove.ensures.frame.space.same.tells c.count_file_off.ensures.spent
     (subst (λ (t : Tree). TakesEdits 2 516 (state_of [] t.file (g.P.SectorView.space c.count_file_off.new.space)) (state_of [] c.remove.new.self.catalog.file (g.P.SectorView.space c.remove.new.space))) (ap (λ (x : Volume). x.catalog) c.count_file_off.ensures.rest) (c.in_ok-remove.ensures.takes_edits [])) load
 
 pub returns-clause-beside : goal.returns-clause-beside
-returns-clause-beside g c beside load tells =
-    spare_added c.edits_have_room.ensures c.args.volume.now c.remove.new.self (g.P.SectorView.space c.args.space.now) (g.P.SectorView.space c.count_file_off.new.space) (g.P.SectorView.space c.remove.new.space) 3 beside c.requires.size c.count_file_off.ensures.within.same.tells c.count_file_off.ensures.spent
+returns-clause-beside g c edits beside load tells =
+    spare_added c.edits_have_room.ensures c.args.volume.now c.remove.new.self (g.P.SectorView.space c.args.space.now) (g.P.SectorView.space c.count_file_off.new.space) (g.P.SectorView.space c.remove.new.space) edits beside c.requires.size c.count_file_off.ensures.within.same.tells c.count_file_off.ensures.spent
     (subst (λ (t : Tree). TakesAtMost 2 516 (state_of [] t.file (g.P.SectorView.space c.count_file_off.new.space)) (state_of [] c.remove.new.self.catalog.file (g.P.SectorView.space c.remove.new.space))) (ap (λ (x : Volume). x.catalog) c.count_file_off.ensures.rest) (c.remove.ensures.takes []))
     load tells
 
 pub returns-in_err-remove-clause-beside : goal.returns-in_err-remove-clause-beside
-returns-in_err-remove-clause-beside g c beside load tells =
-    spare_added c.edits_have_room.ensures c.args.volume.now c.remove.new.self (g.P.SectorView.space c.args.space.now) (g.P.SectorView.space c.count_file_off.new.space) (g.P.SectorView.space c.remove.new.space) 3 beside c.requires.size c.count_file_off.ensures.within.same.tells c.count_file_off.ensures.spent
+returns-in_err-remove-clause-beside g c edits beside load tells =
+    spare_added c.edits_have_room.ensures c.args.volume.now c.remove.new.self (g.P.SectorView.space c.args.space.now) (g.P.SectorView.space c.count_file_off.new.space) (g.P.SectorView.space c.remove.new.space) edits beside c.requires.size c.count_file_off.ensures.within.same.tells c.count_file_off.ensures.spent
     (subst (λ (t : Tree). TakesAtMost 2 516 (state_of [] t.file (g.P.SectorView.space c.count_file_off.new.space)) (state_of [] c.remove.new.self.catalog.file (g.P.SectorView.space c.remove.new.space))) (ap (λ (x : Volume). x.catalog) c.count_file_off.ensures.rest) (c.remove.ensures.takes []))
     load tells

@@ -11,11 +11,11 @@ use Rattle.volume_base.specs.Losing.{IsLoss}
 use Rattle.volume_base.specs.Standing.{IsSettled}
 use Rattle.volume_names.specs.Unlinking.{LosesLink}
 use Rattle.volume_base.specs.declared.entries.Entry.{Entry}
-use Rattle.volume_base.proofs.FoundEntry.{settled_threads}
+use Rattle.volume_base.proofs.FoundEntry.{ok_so, settled_threads}
 use Rattle.volume_base.proofs.RoomToRemove.{remove_room_still}
 use Rattle.volume_base.proofs.Still.{lists_still}
-use Rattle.volume_names.proofs.LossLoads.{none_still, shared_still}
-use Rattle.volume_names.specs.LossLoads.{SpendsShared}
+use Rattle.volume_names.proofs.LossLoads.{leaves_shared_still, none_still, shared_still}
+use Rattle.volume_names.specs.LossLoads.{LeavesShared, SpendsShared}
 use Rattle.volume_base.proofs.Framed.{edits_spent, serves_still}
 use Rattle.volume_base.proofs.Joined.{edits_both}
 use Rattle.volume_names.proofs.unlinking.lose_one.Goals as goal
@@ -67,3 +67,12 @@ returns-in-None-clause-spends g c tells = inl (omega (arith, c.entry.ensures.loo
 
 pub returns-in_err-file-clause-spends : goal.returns-in_err-file-clause-spends
 returns-in_err-file-clause-spends g c tells = inl (omega (arith, c.entry.ensures.looked.reads.looks.spare))
+
+pub returns-in-Some-clause-leaves : goal.returns-in-Some-clause-leaves
+returns-in-Some-clause-leaves g c tells =
+    let v = c.args.volume.now in
+    let old = g.P.SectorView.space c.args.space.now in
+    let read = g.P.SectorView.space c.entry.new.space in
+    let new = g.P.SectorView.space c.lose_one_of.new.space in
+    ok_so (LeavesShared c.args.id c.entry.new.self read c.lose_one_of.new.volume new) (LeavesShared c.args.id v old c.lose_one_of.new.volume new) c.lose_one_of.result (c.lose_one_of.ensures.leaves (c.entry.ensures.looked.reads.looks.same.tells ∙ tells))
+    (leaves_shared_still c.args.id v c.entry.new.self c.lose_one_of.new.volume old read new c.entry.ensures.looked.reads tells)

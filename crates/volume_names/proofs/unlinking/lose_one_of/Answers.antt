@@ -9,7 +9,7 @@ use Rattle.volume_base.specs.Standing.{IsSettled}
 use Rattle.volume_names.specs.Unlinking.{IsLastOf, LosesLink, Unlinks, UnlinksLast, links_in}
 use Rattle.volume_base.proofs.FoundEntry.{ok_so}
 use Rattle.volume_names.proofs.LastFile.{last_of, file_of}
-use Rattle.volume_names.specs.LossLoads.{SpendsFor, SpendsShared}
+use Rattle.volume_names.specs.LossLoads.{LeavesOthers, LeavesShared, SpendsFor, SpendsShared}
 use Rattle.volume_base.proofs.Joined.{edits_wanting}
 use Rattle.volume_base.proofs.Framed.{edits_err}
 use Rattle.volume_names.proofs.unlinking.lose_one_of.Goals as goal
@@ -85,3 +85,23 @@ returns-in-None-clause-edits g c = edits_wanting _ g.met.P.SectorView.follows_re
 
 pub returns-in_err-copy_name-in-Some-clause-edits : goal.returns-in_err-copy_name-in-Some-clause-edits
 returns-in_err-copy_name-in-Some-clause-edits g c = edits_err c.from_residual.ensures.1 (edits_wanting {T = ℕ} _ g.met.P.SectorView.follows_refl c.requires.serves.stands)
+
+pub returns-then-links_in-gt1-clause-leaves : goal.returns-then-links_in-gt1-clause-leaves
+returns-then-links_in-gt1-clause-leaves g c tells =
+    let v = c.args.volume.now in
+    let old = g.P.SectorView.space c.args.space.now in
+    let new = g.P.SectorView.space c.unlink.new.space in
+    let loses = c.requires.loses tells in
+    let it = file_of v old (c.requires.serves.settled tells) (c.requires.serves.stands.stands tells) loses.0 loses.1 c.args.at.now loses.2 (c.requires.link tells) c.args.id loses.3 c.requires.serves.stands.service.fits.next_catalog_id c.args.file.now (c.requires.found tells) in
+    ok_so (LeavesOthers 2 v old c.unlink.new.volume new) (LeavesShared c.args.id v old c.unlink.new.volume new) c.unlink.result (c.unlink.ensures.leaves tells)
+    (λ two. record { file = it.0; stands = it.1; number = it.2; spends = inl (omega (arith, c.links_in.ensures, c.if-links_in-gt1.true, ap links_in it.3), two) })
+
+pub returns-in_ok-copy_name-in-Some-clause-leaves : goal.returns-in_ok-copy_name-in-Some-clause-leaves
+returns-in_ok-copy_name-in-Some-clause-leaves g c tells =
+    let v = c.args.volume.now in
+    let old = g.P.SectorView.space c.args.space.now in
+    let new = g.P.SectorView.space c.unlink_last.new.space in
+    let loses = c.requires.loses tells in
+    let it = file_of v old (c.requires.serves.settled tells) (c.requires.serves.stands.stands tells) loses.0 loses.1 c.args.at.now loses.2 (c.requires.link tells) c.args.id loses.3 c.requires.serves.stands.service.fits.next_catalog_id c.args.file.now (c.requires.found tells) in
+    ok_so (LeavesOthers 5 v old c.unlink_last.new.volume new) (LeavesShared c.args.id v old c.unlink_last.new.volume new) c.unlink_last.result (c.unlink_last.ensures.leaves tells)
+    (λ five. record { file = it.0; stands = it.1; number = it.2; spends = inr (omega (arith, c.links_in.ensures, c.if-links_in-gt1.false, ap links_in it.3), five) })

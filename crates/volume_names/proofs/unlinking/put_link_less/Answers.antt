@@ -15,3 +15,6 @@ returns-clause-counts g c tells a_file plain =
 
 pub returns-then-links-lt2-clause-edits : goal.returns-then-links-lt2-clause-edits
 returns-then-links-lt2-clause-edits g c = edits_wanting _ g.met.P.SectorView.follows_refl c.requires.stands
+
+pub returns-clause-left : goal.returns-clause-left
+returns-clause-left g c = c.put_links.ensures.left

@@ -1,4 +1,4 @@
-use Rattle.std.proofs.Common.{◌≡◌, false, sym, ◌∙◌, subst, refl}
+use Rattle.std.proofs.Common.{◌≡◌, [], false, sym, ◌∙◌, subst, refl}
 use Rattle.std.specs.Prelude.{Option, IfSome}
 use Rattle.cat_records.specs.Fits.{FitsRecord}
 use Rattle.cat_records.specs.declared.record.CatRecord.{CatRecord}
@@ -10,6 +10,11 @@ use Rattle.volume_base.proofs.FoundEntry.{ok_so}
 use Rattle.volume_base.proofs.UpdateRoom.{room_less}
 use Rattle.volume_names.proofs.Unlinked.{relinked_some, says_links}
 use Rattle.volume_base.proofs.Framed.{edits_none}
+use Rattle.btree_file.specs.State.{state_of}
+use Rattle.catalog.specs.Rooms.{TakesUpdates}
+use Rattle.volume_base.proofs.Replaced.{node_large}
+use Rattle.volume_names.specs.EditsLeft.{LeavesBeside}
+use Rattle.volume_names.proofs.EditsLeft.{left_less, left_updated}
 use Rattle.volume_names.proofs.unlinking.put_links.Goals as goal
 
 pub replace-requires-clause-kind : goal.replace-requires-clause-kind
@@ -37,3 +42,13 @@ returns-in_default-clause-edits g c = edits_none _ g.met.P.SectorView.follows_re
 
 pub returns-in_default-clause-room : goal.returns-in_default-clause-room
 returns-in_default-clause-room g c many room = room_less many c.args.volume.now (g.P.SectorView.space c.args.space.now) room
+
+pub returns-in_default-clause-left : goal.returns-in_default-clause-left
+returns-in_default-clause-left g c edits beside had = left_less c.args.volume.now (g.P.SectorView.space c.args.space.now) edits beside (λ tells. node_large c.args.volume.now (g.P.SectorView.space c.args.space.now) c.requires.stands tells) had
+
+pub returns-clause-left : goal.returns-clause-left
+returns-clause-left g c =
+    let old = g.P.SectorView.space c.args.space.now in
+    let new = g.P.SectorView.space c.replace.new.space in
+    ok_so (TakesUpdates 0 1 516 (state_of [] c.args.volume.now.catalog.file old) (state_of [] c.replace.new.self.catalog.file new)) (LeavesBeside c.args.volume.now old c.replace.new.self new) c.replace.result (c.replace.ensures.updates [])
+    (λ takes edits beside had. left_updated c.args.volume.now c.replace.new.self old new edits beside (λ tells. node_large c.args.volume.now old c.requires.stands tells) (c.replace.ensures.edits.ran.touches old.content).same.tells takes had)

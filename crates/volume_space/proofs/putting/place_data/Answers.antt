@@ -157,3 +157,6 @@ returns-clause-places g c tells =
 
 pub returns-clause-map : goal.returns-clause-map
 returns-clause-map g c = ap (λ (x : Volume). x.map) c.replace.ensures.rest ∙ ap (λ (x : Volume). x.map) c.store_later.ensures.rest ∙ c.in_ok-later.ensures.map c.requires.sure.apart
+
+pub returns-clause-growth : goal.returns-clause-growth
+returns-clause-growth g c = ap (λ (x : Volume). x.filling) c.replace.ensures.rest ∙ ap (λ (x : Volume). x.filling) c.store_later.ensures.rest ∙ ap (λ (x : Volume). x.filling) c.spill.ensures.rest

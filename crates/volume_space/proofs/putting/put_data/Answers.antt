@@ -27,6 +27,7 @@ use Rattle.volume_space.proofs.PutFile.{data_met, cut_is, entry_is, has_it, its,
 use Rattle.volume_base.proofs.Seeing.{if_so}
 use Rattle.volume_base.proofs.Still.{lists_still, own_still, settled_still}
 use Rattle.volume_space.proofs.WhenKept.{holds_kept, settled_kept, stands_kept, unchanged_kept}
+use Rattle.volume_space.proofs.Filling.{filled_kept, filled_read}
 use Rattle.volume_space.proofs.putting.put_data.Goals as goal
 
 pub entry-requires-clause-stands : goal.entry-requires-clause-stands
@@ -221,3 +222,9 @@ returns-in-None-clause-waits g c tells other = (settled_still c.keep.new.self c.
 
 pub returns-in-None-clause-holds : goal.returns-in-None-clause-holds
 returns-in-None-clause-holds g c committed was = (used_read c.keep.new.self c.entry.new.self (g.P.SectorView.space c.args.space.now) (g.P.SectorView.space c.entry.new.space) c.entry.ensures.looked.reads).holds committed (holds_kept c.args.volume.now c.keep.new.self c.keep.ensures committed was)
+
+pub put_in_entry-requires-clause-filled : goal.put_in_entry-requires-clause-filled
+put_in_entry-requires-clause-filled g c = filled_read c.keep.new.self c.entry.new.self (g.P.SectorView.space c.args.space.now) (g.P.SectorView.space c.entry.new.space) c.entry.ensures.looked.reads (filled_kept c.args.volume.now c.keep.new.self (g.P.SectorView.space c.args.space.now) c.keep.ensures c.requires.filled)
+
+pub returns-in-None-clause-filled : goal.returns-in-None-clause-filled
+returns-in-None-clause-filled g c = filled_read c.keep.new.self c.entry.new.self (g.P.SectorView.space c.args.space.now) (g.P.SectorView.space c.entry.new.space) c.entry.ensures.looked.reads (filled_kept c.args.volume.now c.keep.new.self (g.P.SectorView.space c.args.space.now) c.keep.ensures c.requires.filled)

@@ -19,6 +19,7 @@ use Rattle.volume_space.proofs.KeptUsed.{used_read}
 use Rattle.volume_space.proofs.PutMet.{met_alike}
 use Rattle.volume_space.proofs.PutAlike.{alike_read, can_still, laid_alike, load_alike, puts_alike, spread_alike}
 use Rattle.volume_base.proofs.Still.{lists_still, own_still}
+use Rattle.volume_space.proofs.Filling.{filled_read, none_filled}
 use Rattle.volume_space.proofs.putting.put_in_file.Goals as goal
 
 pub how_to_put-how-requires-clause-few : goal.how_to_put-how-requires-clause-few
@@ -231,3 +232,12 @@ returns-clause-exactly g c tells other =
 
 pub put_over-requires-clause-countable : goal.put_over-requires-clause-countable
 put_over-requires-clause-countable g c = omega (arith, c.len-extents.ensures, c.are_countable.ensures c.if-not-are_countable.false)
+
+pub put_over-requires-clause-filled : goal.put_over-requires-clause-filled
+put_over-requires-clause-filled g c = filled_read c.args.volume.now c.data_fork.new.volume (g.P.SectorView.space c.args.space.now) (g.P.SectorView.space c.data_fork.new.space) c.data_fork.ensures.looked.reads c.requires.filled
+
+pub returns-in-Some-clause-filled : goal.returns-in-Some-clause-filled
+returns-in-Some-clause-filled g c = none_filled c.put_over.new.volume (g.P.SectorView.space c.put_over.new.space) c.in_ok-put_over.ensures.dropped
+
+pub returns-clause-filled : goal.returns-clause-filled
+returns-clause-filled g c = filled_read c.args.volume.now c.data_fork.new.volume (g.P.SectorView.space c.args.space.now) (g.P.SectorView.space c.data_fork.new.space) c.data_fork.ensures.looked.reads c.requires.filled

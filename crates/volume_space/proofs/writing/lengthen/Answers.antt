@@ -19,6 +19,7 @@ use Rattle.volume_space.proofs.PutAlike.{alike_read, laid_alike, now_alike}
 use Rattle.volume_space.proofs.PutMet.{data_met_alike}
 use Rattle.volume_base.proofs.Still.{own_still}
 use Rattle.volume_space.proofs.ShortenedCalls.{refused_stat}
+use Rattle.volume_space.proofs.Filling.{filled_read}
 use Rattle.volume_space.proofs.writing.lengthen.Goals as goal
 
 pub lengthen_told-requires-clause-settled : goal.lengthen_told-requires-clause-settled
@@ -155,3 +156,9 @@ returns-in-Err-clause-settled g c tells = c.facts.ensures.serves.settled (c.fact
 
 pub returns-in-Ok-clause-settled : goal.returns-in-Ok-clause-settled
 returns-in-Ok-clause-settled g c tells = c.lengthen_told.ensures.settled (c.facts.ensures.looked.reads.looks.same.tells ∙ tells)
+
+pub lengthen_told-requires-clause-filled : goal.lengthen_told-requires-clause-filled
+lengthen_told-requires-clause-filled g c = filled_read c.args.volume.now c.facts.new.self (g.P.SectorView.space c.args.space.now) (g.P.SectorView.space c.facts.new.space) c.facts.ensures.looked.reads c.requires.filled
+
+pub returns-in-Err-clause-filled : goal.returns-in-Err-clause-filled
+returns-in-Err-clause-filled g c = filled_read c.args.volume.now c.facts.new.self (g.P.SectorView.space c.args.space.now) (g.P.SectorView.space c.facts.new.space) c.facts.ensures.looked.reads c.requires.filled

@@ -19,6 +19,7 @@ use Rattle.volume_space.proofs.PutAlike.{alike_read, laid_alike, now_alike}
 use Rattle.volume_space.proofs.PutMet.{data_met_alike}
 use Rattle.volume_base.proofs.Still.{own_still}
 use Rattle.volume_space.proofs.PutTold.{write_refused_stat}
+use Rattle.volume_space.proofs.Filling.{filled_read}
 use Rattle.volume_space.proofs.writing.write.Goals as goal
 
 pub write_told-requires-clause-settled : goal.write_told-requires-clause-settled
@@ -155,3 +156,9 @@ returns-in-Err-clause-settled g c tells = c.facts.ensures.serves.settled (c.fact
 
 pub returns-in-Ok-clause-settled : goal.returns-in-Ok-clause-settled
 returns-in-Ok-clause-settled g c tells = c.write_told.ensures.settled (c.facts.ensures.looked.reads.looks.same.tells ∙ tells)
+
+pub write_told-requires-clause-filled : goal.write_told-requires-clause-filled
+write_told-requires-clause-filled g c = filled_read c.args.volume.now c.facts.new.self (g.P.SectorView.space c.args.space.now) (g.P.SectorView.space c.facts.new.space) c.facts.ensures.looked.reads c.requires.filled
+
+pub returns-in-Err-clause-filled : goal.returns-in-Err-clause-filled
+returns-in-Err-clause-filled g c = filled_read c.args.volume.now c.facts.new.self (g.P.SectorView.space c.args.space.now) (g.P.SectorView.space c.facts.new.space) c.facts.ensures.looked.reads c.requires.filled

@@ -1,9 +1,11 @@
 use Rattle.std.proofs.Common.{refl, sym, ◌∙◌, arith}
+use Rattle.std.specs.Prelude.{None}
 use Rattle.volume_base.specs.Room.{capacity_of}
 use Rattle.volume_base.proofs.Commanding.{touches_none}
 use Rattle.volume_step.specs.declared.outcome.Outcome.TheVariants as outcome
 use Rattle.volume_step.proofs.CutSteps.{dry_steps, never_dry}
 use Rattle.volume_step.proofs.Done.{same_place}
+use Rattle.volume_step.proofs.Unfilled.{filled_none, service_filling, settled_filling, stands_filling}
 use Rattle.volume_step.proofs.cutting.cut_first.Goals as goal
 
 pub cut_up_to-requires-clause-end : goal.cut_up_to-requires-clause-end
@@ -24,7 +26,16 @@ pub returns-in-None-clause-touches : goal.returns-in-None-clause-touches
 returns-in-None-clause-touches g c committed = touches_none committed _ (g.P.SectorView.space c.args.space.now)
 
 pub returns-in-None-clause-service : goal.returns-in-None-clause-service
-returns-in-None-clause-service g c = c.requires.stands.service
+returns-in-None-clause-service g c = service_filling c.args.volume.now None (g.P.SectorView.space c.args.space.now) c.requires.stands.service
+
+pub returns-in-None-clause-stands : goal.returns-in-None-clause-stands
+returns-in-None-clause-stands g c = stands_filling c.args.volume.now None (g.P.SectorView.space c.args.space.now) c.requires.stands
+
+pub returns-in-None-clause-settled : goal.returns-in-None-clause-settled
+returns-in-None-clause-settled g c tells = settled_filling c.args.volume.now None (g.P.SectorView.space c.args.space.now).content (c.requires.settled tells)
+
+pub returns-in-None-clause-filled : goal.returns-in-None-clause-filled
+returns-in-None-clause-filled g c = filled_none (record c.args.volume.now { filling = None }) (g.P.SectorView.space c.args.space.now) refl
 
 pub returns-in-None-clause-loads : goal.returns-in-None-clause-loads
 returns-in-None-clause-loads g c tells load grow is = omega arith

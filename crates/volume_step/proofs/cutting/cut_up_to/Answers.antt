@@ -1,4 +1,5 @@
-use Rattle.std.proofs.Common.{[], sym, ◌∙◌, subst}
+use Rattle.std.proofs.Common.{[], refl, sym, ◌∙◌, subst}
+use Rattle.std.specs.Prelude.{None}
 use Rattle.volume_base.specs.Keeping.{shrunk_of}
 use Rattle.volume_base.specs.Room.{capacity_of}
 use Rattle.volume_space.proofs.Sounding.{sound_here}
@@ -6,6 +7,7 @@ use Rattle.volume_step.specs.Steps.{StepsTo}
 use Rattle.volume_step.specs.declared.outcome.Outcome.{Outcome}
 use Rattle.volume_step.proofs.CutSteps.{cut_shrinks, place_by, short_by, steps_by}
 use Rattle.volume_step.proofs.Loaded.{cut_loads}
+use Rattle.volume_step.proofs.Unfilled.{filled_none, service_filling, settled_filling, stands_filling}
 use Rattle.volume_step.proofs.cutting.cut_up_to.Goals as goal
 
 pub returns-clause-answered : goal.returns-clause-answered
@@ -46,5 +48,16 @@ returns-clause-loads g c tells = cut_loads c.args.command.now c.args.volume.now 
 pub returns-in_err-came-clause-loads : goal.returns-in_err-came-clause-loads
 returns-in_err-came-clause-loads g c tells = cut_loads c.args.command.now c.args.volume.now (g.P.SectorView.space c.args.space.now) (g.P.SectorView.space c.cut_for.new.space) c.requires.changes (c.requires.waits tells) (c.cut_for.ensures.loads tells)
 
+-- ---- with no growth in hand
+
+pub returns-clause-stands : goal.returns-clause-stands
+returns-clause-stands g c = stands_filling c.cut_for.new.volume None (g.P.SectorView.space c.cut_for.new.space) c.in_ok-came.ensures.serves.stands
+
 pub returns-clause-settled : goal.returns-clause-settled
-returns-clause-settled g c tells = c.in_ok-came.ensures.serves.settled ((c.cut_for.ensures.frees.ran.touches []).same.tells ∙ tells)
+returns-clause-settled g c tells = settled_filling c.cut_for.new.volume None (g.P.SectorView.space c.cut_for.new.space).content (c.in_ok-came.ensures.serves.settled ((c.cut_for.ensures.frees.ran.touches []).same.tells ∙ tells))
+
+pub returns-clause-service : goal.returns-clause-service
+returns-clause-service g c = service_filling c.cut_for.new.volume None (g.P.SectorView.space c.cut_for.new.space) c.cut_for.ensures.frees.ran.service
+
+pub returns-clause-filled : goal.returns-clause-filled
+returns-clause-filled g c = filled_none (record c.cut_for.new.volume { filling = None }) (g.P.SectorView.space c.cut_for.new.space) refl

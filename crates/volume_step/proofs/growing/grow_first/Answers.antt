@@ -1,7 +1,10 @@
+use Rattle.std.proofs.Common.{refl}
+use Rattle.std.specs.Prelude.{None}
 use Rattle.volume_base.specs.Keeping.{shrunk_of}
 use Rattle.volume_base.specs.Room.{capacity_of}
 use Rattle.volume_step.proofs.GrowthSteps.{growth_place, growth_shrinks, growth_steps, growth_touches}
 use Rattle.volume_step.proofs.Ready.{grown_now}
+use Rattle.volume_step.proofs.Unfilled.{filled_none, service_filling, settled_filling, stands_filling}
 use Rattle.volume_step.proofs.growing.grow_first.Goals as goal
 
 pub returns-clause-answered : goal.returns-clause-answered
@@ -39,3 +42,17 @@ returns-clause-spent g c tells wants = c.grow_tree.ensures.loads tells wants
 
 pub returns-in_err-went-clause-spent : goal.returns-in_err-went-clause-spent
 returns-in_err-went-clause-spent g c tells wants = c.grow_tree.ensures.loads tells wants
+
+-- ---- with no growth in hand
+
+pub returns-clause-stands : goal.returns-clause-stands
+returns-clause-stands g c = stands_filling c.grow_tree.new.volume None (g.P.SectorView.space c.grow_tree.new.space) c.in_ok-went.ensures.stands
+
+pub returns-clause-settled : goal.returns-clause-settled
+returns-clause-settled g c tells = settled_filling c.grow_tree.new.volume None (g.P.SectorView.space c.grow_tree.new.space).content (c.in_ok-went.ensures.settled tells)
+
+pub returns-clause-service : goal.returns-clause-service
+returns-clause-service g c = service_filling c.grow_tree.new.volume None (g.P.SectorView.space c.grow_tree.new.space) c.grow_tree.ensures.service
+
+pub returns-clause-filled : goal.returns-clause-filled
+returns-clause-filled g c = filled_none (record c.grow_tree.new.volume { filling = None }) (g.P.SectorView.space c.grow_tree.new.space) refl

@@ -3,7 +3,7 @@ use Rattle.std.specs.Prelude.{IfOk, OnOk}
 use Rattle.sector_disk.specs.Lists.{Content}
 use Rattle.hfs_language.specs.declared.command.Command.TheVariants as command
 use Rattle.volume_base.specs.Room.{capacity_of}
-use Rattle.volume_step.specs.Steps.{Affords, KeepsJournal, StepsTo}
+use Rattle.volume_step.specs.Steps.{Affords, KeepsJournal, StepsNow}
 use Rattle.volume_step.specs.declared.outcome.Outcome.{Outcome}
 use Rattle.volume_step.proofs.Done.{free_path, line_free}
 use Rattle.hfs_volume.specs.Content.{VolumeState, has_attributes, volume_of}
@@ -23,7 +23,7 @@ remove_with-requires-clause-affords g c told =
 
 pub returns-clause-answered : goal.returns-clause-answered
 returns-clause-answered g c tells =
-    subst (λ (k : ℕ × Content). IfOk c.remove_with.result (λ (o : Outcome). StepsTo o k.0 c.args.number (command.Rmdir c.args.path.now) k.1 (g.P.SectorView.space c.remove_with.new.space).content)) {x = (capacity_of c.bare_count.new.volume, (g.P.SectorView.space c.bare_count.new.space).content)} {y = ((capacity_of c.args.volume.now), (g.P.SectorView.space c.args.space.now).content)} (λ i. (c.bare_count.ensures.looked.reads.keeps.capacity i, c.bare_count.ensures.looked.reads.looks.content tells i)) (c.remove_with.ensures.answered (c.bare_count.ensures.looked.reads.looks.same.tells ∙ tells))
+    subst (λ (k : ℕ × Content). IfOk c.remove_with.result (λ (o : Outcome). StepsNow o k.0 c.args.number (command.Rmdir c.args.path.now) k.1 (g.P.SectorView.space c.remove_with.new.space).content)) {x = (capacity_of c.bare_count.new.volume, (g.P.SectorView.space c.bare_count.new.space).content)} {y = ((capacity_of c.args.volume.now), (g.P.SectorView.space c.args.space.now).content)} (λ i. (c.bare_count.ensures.looked.reads.keeps.capacity i, c.bare_count.ensures.looked.reads.looks.content tells i)) (c.remove_with.ensures.answered (c.bare_count.ensures.looked.reads.looks.same.tells ∙ tells))
 
 pub returns-clause-place : goal.returns-clause-place
 returns-clause-place g c tells = subst (λ (k : Content). OnOk c.remove_with.result (KeepsJournal k (g.P.SectorView.space c.remove_with.new.space).content)) (c.bare_count.ensures.looked.reads.looks.content tells) (c.remove_with.ensures.place (c.bare_count.ensures.looked.reads.looks.same.tells ∙ tells))

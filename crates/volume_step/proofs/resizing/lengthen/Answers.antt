@@ -20,6 +20,7 @@ use Rattle.volume_step.proofs.Putting.{size_place, size_steps}
 use Rattle.volume_step.proofs.Widening.{laid_still}
 use Rattle.volume_step.proofs.ReadyData.{data_still, put_none}
 use Rattle.volume_step.proofs.Loaded.{within_behind, within_reads}
+use Rattle.volume_step.proofs.Unfilled.{filled_still}
 use Rattle.volume_step.proofs.resizing.lengthen.Goals as goal
 
 pub lengthen-requires-clause-closed : goal.lengthen-requires-clause-closed
@@ -117,3 +118,6 @@ returns-in_err-reply-clause-loads g c tells =
 
 pub returns-in_err-changes-clause-loads : goal.returns-in_err-changes-clause-loads
 returns-in_err-changes-clause-loads g c tells = within_reads (command.Trunc c.args.path.now c.args.size) c.args.volume.now c.change_at.new.self (g.P.SectorView.space c.args.space.now) (g.P.SectorView.space c.change_at.new.space) c.change_at.ensures.looked.reads
+
+pub lengthen-requires-clause-filled : goal.lengthen-requires-clause-filled
+lengthen-requires-clause-filled g c = filled_still c.args.volume.now c.change_at.new.self (g.P.SectorView.space c.args.space.now) (g.P.SectorView.space c.change_at.new.space) c.change_at.ensures.looked.reads c.requires.filled

@@ -18,7 +18,7 @@ use Rattle.volume_base.specs.Touching.{Touches}
 use Rattle.volume_base.proofs.Commanding.{touches_both, touches_looks}
 use Rattle.volume_space.proofs.Sounding.{sound_here}
 use Rattle.volume_base.proofs.Still.{own_still, settled_still, volume_both}
-use Rattle.volume_step.specs.Steps.{Affords, KeepsJournal, StepsTo}
+use Rattle.volume_step.specs.Steps.{Affords, KeepsJournal, StepsNow, StepsTo}
 use Rattle.volume_step.specs.declared.outcome.Outcome.TheVariants as outcome
 use Rattle.volume_step.proofs.Done.{holds_kept, same_place}
 use Rattle.volume_step.proofs.Shortened.{trunc_place, trunc_steps}
@@ -27,6 +27,7 @@ use Rattle.volume_step.proofs.Widening.{keeps_shrunk, laid_still}
 use Rattle.volume_step.proofs.Ready.{longer_none, update_fits}
 use Rattle.volume_step.proofs.ReadyData.{data_still, data_update_fits}
 use Rattle.volume_step.proofs.Loaded.{trunc_within, within_behind, within_reads}
+use Rattle.volume_step.proofs.Unfilled.{filled_still}
 use Rattle.volume_step.proofs.resizing.resize.Goals as goal
 
 pub returns-in-Some-clause-answered : goal.returns-in-Some-clause-answered
@@ -101,7 +102,7 @@ lengthen-requires-clause-settled g c told =
 pub returns-in-None-clause-answered : goal.returns-in-None-clause-answered
 returns-in-None-clause-answered g c tells =
     let reads = (volume_both c.args.volume.now c.change_at.new.self c.shorten.new.volume (g.P.SectorView.space c.args.space.now) (g.P.SectorView.space c.change_at.new.space) (g.P.SectorView.space c.shorten.new.space) c.change_at.ensures.looked.reads (subst (λ (o : Option Reply). IfNone o (ReadsVolume c.change_at.new.self c.shorten.new.volume (g.P.SectorView.space c.change_at.new.space) (g.P.SectorView.space c.shorten.new.space))) c.in-None.is c.in_ok-reply.ensures.idle)) in
-    subst (λ (k : ℕ × Content). IfOk c.lengthen.result (λ outcome. StepsTo outcome k.0 c.args.number (command.Trunc c.args.path.now c.args.size) k.1 (g.P.SectorView.space c.lengthen.new.space).content)) {x = (capacity_of c.shorten.new.volume, (g.P.SectorView.space c.shorten.new.space).content)} {y = (capacity_of c.args.volume.now, (g.P.SectorView.space c.args.space.now).content)} (λ i. (reads.keeps.capacity i, reads.looks.content tells i)) (c.lengthen.ensures.answered (reads.looks.same.tells ∙ tells))
+    subst (λ (k : ℕ × Content). IfOk c.lengthen.result (λ outcome. StepsNow outcome k.0 c.args.number (command.Trunc c.args.path.now c.args.size) k.1 (g.P.SectorView.space c.lengthen.new.space).content)) {x = (capacity_of c.shorten.new.volume, (g.P.SectorView.space c.shorten.new.space).content)} {y = (capacity_of c.args.volume.now, (g.P.SectorView.space c.args.space.now).content)} (λ i. (reads.keeps.capacity i, reads.looks.content tells i)) (c.lengthen.ensures.answered (reads.looks.same.tells ∙ tells))
 
 pub returns-in-None-clause-place : goal.returns-in-None-clause-place
 returns-in-None-clause-place g c tells =
@@ -189,3 +190,8 @@ returns-in-None-clause-loads g c tells =
 
 pub returns-then-not-fits_update-clause-place : goal.returns-then-not-fits_update-clause-place
 returns-then-not-fits_update-clause-place g c tells = same_place (g.P.SectorView.space c.args.space.now).content (g.P.SectorView.space c.change_at.new.space).content (c.change_at.ensures.looked.reads.looks.content tells)
+
+pub lengthen-requires-clause-filled : goal.lengthen-requires-clause-filled
+lengthen-requires-clause-filled g c =
+    let reads = (volume_both c.args.volume.now c.change_at.new.self c.shorten.new.volume (g.P.SectorView.space c.args.space.now) (g.P.SectorView.space c.change_at.new.space) (g.P.SectorView.space c.shorten.new.space) c.change_at.ensures.looked.reads (subst (λ (o : Option Reply). IfNone o (ReadsVolume c.change_at.new.self c.shorten.new.volume (g.P.SectorView.space c.change_at.new.space) (g.P.SectorView.space c.shorten.new.space))) c.in-None.is c.in_ok-reply.ensures.idle)) in
+    filled_still c.args.volume.now c.shorten.new.volume (g.P.SectorView.space c.args.space.now) (g.P.SectorView.space c.shorten.new.space) reads c.requires.filled

@@ -23,6 +23,7 @@ use Rattle.volume_step.proofs.Widening.{laid_still}
 use Rattle.volume_step.proofs.Ready.{written_none}
 use Rattle.volume_step.proofs.ReadyData.{data_still, put_none}
 use Rattle.volume_step.proofs.Loaded.{within_behind, within_reads, within_none}
+use Rattle.volume_step.proofs.Unfilled.{filled_still}
 use Rattle.volume_step.proofs.resizing.write_value.Goals as goal
 
 pub write-requires-clause-closed : goal.write-requires-clause-closed
@@ -144,3 +145,6 @@ returns-in_err-changes-clause-loads g c tells = within_reads (command.Write c.ar
 
 pub returns-then-is_empty-clause-loads : goal.returns-then-is_empty-clause-loads
 returns-then-is_empty-clause-loads g c tells = within_none (command.Write c.args.path.now c.args.from c.args.value.now) c.args.volume.now (g.P.SectorView.space c.args.space.now) (g.P.SectorView.space c.args.space.now) (omega arith)
+
+pub write-requires-clause-filled : goal.write-requires-clause-filled
+write-requires-clause-filled g c = filled_still c.args.volume.now c.change_at.new.self (g.P.SectorView.space c.args.space.now) (g.P.SectorView.space c.change_at.new.space) c.change_at.ensures.looked.reads c.requires.filled

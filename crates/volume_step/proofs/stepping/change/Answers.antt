@@ -1,4 +1,4 @@
-use Rattle.std.proofs.Common.{ℕ, [], inl, inr, sym, ◌∙◌, subst}
+use Rattle.std.proofs.Common.{◌≡◌, ℕ, false, [], inl, inr, sym, ◌∙◌, subst}
 use Rattle.std.specs.Prelude.{IfOk, OnOk, Option}
 use Rattle.sector_disk.specs.Lists.{Content}
 use Rattle.sector_disk.proofs.SpaceLaws.{space_both}
@@ -6,13 +6,13 @@ use Rattle.hfs_volume.specs.Aside.{IsJournalSector}
 use Rattle.volume_weights.specs.DataWeighing.{WaitsForCut}
 use Rattle.hfs_volume.specs.Content.{volume_of}
 use Rattle.hfs_volume.specs.TreeOf.{tree_of}
-use Rattle.hfs_volume.specs.Weight.{data_of, needs_cut}
+use Rattle.hfs_volume.specs.Weight.{data_of, needs_cut, Data}
 use Rattle.volume_base.proofs.Seeing.{if_so}
 use Rattle.volume_base.specs.Fitting.{takable_of}
 use Rattle.volume_base.specs.Room.{capacity_of}
 use Rattle.volume_base.specs.Keeping.{shrunk_of}
 use Rattle.volume_space.proofs.Sounding.{sound_here}
-use Rattle.volume_step.specs.Steps.{Affords, GrowsTheFirst, IsCutFirst, IsDirect, IsJudged, IsTaken, IsTakenAlike, KeepsJournal, ShrinksAs, StepsTo, WaitsForGrowth}
+use Rattle.volume_step.specs.Steps.{Affords, GrowsTheFirst, IsCutFirst, IsDirect, IsJudged, IsTaken, IsTakenAlike, KeepsJournal, ShrinksAs, StepsTo, WaitsForGrowth, FillsMore}
 use Rattle.volume_step.specs.declared.judging.Verdict.{Verdict}
 use Rattle.volume_step.specs.declared.outcome.Outcome.{Outcome}
 use Rattle.volume_step.proofs.Done.{holds_kept, refused_steps, same_place}
@@ -22,6 +22,9 @@ use Rattle.volume_step.proofs.Ready.{now_still, refused_now, wants_now}
 use Rattle.volume_step.proofs.ReadyData.{puts_still}
 use Rattle.volume_step.proofs.AnewReady.{fits_alike, growth_within, wants_so}
 use Rattle.volume_step.proofs.Loaded.{cut_no_growth, fits_cut, lacks_still, uncut, within_behind, within_reads}
+use Rattle.volume_step.proofs.Unfilled.{filled_still}
+use Rattle.volume_base.specs.declared.volume.Filling.{Filling}
+use Rattle.volume_step.proofs.FilledFirst.{answered_again, commit_again, cut_further, growth_further}
 use Rattle.volume_step.proofs.stepping.change.Goals as goal
 
 pub perform-requires-clause-closed : goal.perform-requires-clause-closed
@@ -281,3 +284,35 @@ returns-in-CutFirst-clause-settled g c tells = c.cut_first.ensures.settled (c.ju
 
 pub returns-in-Grows-clause-settled : goal.returns-in-Grows-clause-settled
 returns-in-Grows-clause-settled g c tells = c.grow_first.ensures.settled (c.judge.ensures.looked.reads.looks.same.tells ∙ tells)
+
+-- ---- the growth in hand
+
+pub perform-requires-clause-filled : goal.perform-requires-clause-filled
+perform-requires-clause-filled g c = filled_still c.args.volume.now c.judge.new.volume (g.P.SectorView.space c.args.space.now) (g.P.SectorView.space c.judge.new.space) c.judge.ensures.looked.reads c.requires.filled
+
+pub perform-requires-clause-uncut : goal.perform-requires-clause-uncut
+perform-requires-clause-uncut g c told =
+    let tells = sym c.judge.ensures.looked.reads.looks.same.tells ∙ told in
+    subst (λ (k : Content). needs_cut (volume_of k) (data_of (tree_of k) c.args.command.now) ≡ false) (sym (c.judge.ensures.looked.reads.looks.content tells))
+    (uncut (needs_cut (volume_of (g.P.SectorView.space c.args.space.now).content) (data_of (tree_of (g.P.SectorView.space c.args.space.now).content) c.args.command.now)) (λ needs. subst IsCutFirst c.in-Fits.is (c.in_ok-why.ensures.cuts tells needs)))
+
+pub returns-in-Refused-clause-filled : goal.returns-in-Refused-clause-filled
+returns-in-Refused-clause-filled g c = filled_still c.args.volume.now c.judge.new.volume (g.P.SectorView.space c.args.space.now) (g.P.SectorView.space c.judge.new.space) c.judge.ensures.looked.reads c.requires.filled
+
+pub returns-in-CommitFirst-clause-filled : goal.returns-in-CommitFirst-clause-filled
+returns-in-CommitFirst-clause-filled g c = filled_still c.args.volume.now c.judge.new.volume (g.P.SectorView.space c.args.space.now) (g.P.SectorView.space c.judge.new.space) c.judge.ensures.looked.reads c.requires.filled
+
+pub returns-in-Refused-clause-further : goal.returns-in-Refused-clause-further
+returns-in-Refused-clause-further g c tells same = absurd (answered_again c.refusal.result _ _ c.refusal.ensures same)
+
+pub returns-in-CommitFirst-clause-further : goal.returns-in-CommitFirst-clause-further
+returns-in-CommitFirst-clause-further g c tells same = absurd (commit_again same)
+
+pub returns-in-CutFirst-clause-further : goal.returns-in-CutFirst-clause-further
+returns-in-CutFirst-clause-further g c tells = if_so _ _ c.cut_first.result (λ it is. cut_further (capacity_of c.args.volume.now) c.args.number c.args.command.now (g.P.SectorView.space c.args.space.now).content (g.P.SectorView.space c.cut_first.new.space).content c.args.volume.now.filling c.cut_first.new.volume.filling it (subst (λ (v : Verdict). IsJudged v (capacity_of c.args.volume.now) c.args.command.now (g.P.SectorView.space c.args.space.now).content) c.in-CutFirst.is (c.in_ok-why.ensures.judged tells)).1 is) (subst (λ (k : ℕ × Content). IfOk c.cut_first.result (λ (o : Outcome). StepsTo o k.0 c.args.number c.args.command.now k.1 (g.P.SectorView.space c.cut_first.new.space).content)) {x = (capacity_of c.judge.new.volume, (g.P.SectorView.space c.judge.new.space).content)} {y = (capacity_of c.args.volume.now, (g.P.SectorView.space c.args.space.now).content)} (λ i. (c.judge.ensures.looked.reads.keeps.capacity i, c.judge.ensures.looked.reads.looks.content tells i)) (c.cut_first.ensures.answered (c.judge.ensures.looked.reads.looks.same.tells ∙ tells)))
+
+pub returns-in-Grows-clause-further : goal.returns-in-Grows-clause-further
+returns-in-Grows-clause-further g c tells = if_so _ _ c.grow_first.result (λ it is. growth_further (capacity_of c.args.volume.now) c.args.number c.args.command.now (g.P.SectorView.space c.args.space.now).content (g.P.SectorView.space c.grow_first.new.space).content c.args.volume.now.filling c.grow_first.new.volume.filling it c.in-Grows.tree c.in-Grows.more (subst (λ (v : Verdict). IsJudged v (capacity_of c.args.volume.now) c.args.command.now (g.P.SectorView.space c.args.space.now).content) c.in-Grows.is (c.in_ok-why.ensures.judged tells)) is) (subst (λ (k : ℕ × Content). IfOk c.grow_first.result (λ (o : Outcome). StepsTo o k.0 c.args.number c.args.command.now k.1 (g.P.SectorView.space c.grow_first.new.space).content)) {x = (capacity_of c.judge.new.volume, (g.P.SectorView.space c.judge.new.space).content)} {y = (capacity_of c.args.volume.now, (g.P.SectorView.space c.args.space.now).content)} (λ i. (c.judge.ensures.looked.reads.keeps.capacity i, c.judge.ensures.looked.reads.looks.content tells i)) (c.grow_first.ensures.answered (c.judge.ensures.looked.reads.looks.same.tells ∙ tells)))
+
+pub returns-in-Fits-clause-further : goal.returns-in-Fits-clause-further
+returns-in-Fits-clause-further g c tells = if_so _ _ c.perform.result (λ it fills same. inr (inr (subst (λ (k : Content × Option Filling). FillsMore (data_of (tree_of k.0) c.args.command.now) k.1 c.perform.new.volume.filling) {x = ((g.P.SectorView.space c.judge.new.space).content, c.judge.new.volume.filling)} {y = ((g.P.SectorView.space c.args.space.now).content, c.args.volume.now.filling)} (λ i. (c.judge.ensures.looked.reads.looks.content tells i, c.judge.ensures.looked.reads.keeps.filling i)) (fills same)))) (c.perform.ensures.further (c.judge.ensures.looked.reads.looks.same.tells ∙ tells))

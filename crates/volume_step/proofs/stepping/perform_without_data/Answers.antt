@@ -1,9 +1,10 @@
-use Rattle.std.proofs.Common.{ap, sym, subst, ℕ, List}
+use Rattle.std.proofs.Common.{ap, sym, ◌∙◌, subst, ℕ, List}
+use Rattle.std.proofs.lemmas.Bool.{true≢false}
 use Rattle.std.specs.Prelude.{Ok}
 use Rattle.hfs_language.specs.declared.command.Command.{Command}
 use Rattle.volume_runs.specs.Run.{shrunk_by}
 use Rattle.hfs_volume.specs.TreeOf.{tree_of}
-use Rattle.hfs_volume.specs.Weight.{data_of}
+use Rattle.hfs_volume.specs.Weight.{changes_nothing, data_of}
 use Rattle.volume_base.specs.Keeping.{shrunk_of}
 use Rattle.volume_step.proofs.Widening.{keeps_shrunk}
 use Rattle.volume_step.proofs.ReadyData.{any_ok}
@@ -106,3 +107,35 @@ returns-in-Rmdir-clause-loads g c tells = subst (λ (k : Command). IsWithinLoad 
 
 pub returns-in-Trunc-clause-edits : goal.returns-in-Trunc-clause-edits
 returns-in-Trunc-clause-edits g c = edits_wanting _ g.met.P.SectorView.follows_refl c.requires.serves.stands
+
+-- ---- none of them but `mv` changes nothing
+
+pub returns-in-At-clause-still : goal.returns-in-At-clause-still
+returns-in-At-clause-still g c tells rests = absurd (true≢false (sym rests ∙ ap (λ (k : Command). changes_nothing (tree_of (g.P.SectorView.space c.args.space.now).content) k) c.in-At.is))
+
+pub returns-in-Chmod-clause-still : goal.returns-in-Chmod-clause-still
+returns-in-Chmod-clause-still g c tells rests = absurd (true≢false (sym rests ∙ ap (λ (k : Command). changes_nothing (tree_of (g.P.SectorView.space c.args.space.now).content) k) c.in-Chmod.is))
+
+pub returns-in-SetAttr-clause-still : goal.returns-in-SetAttr-clause-still
+returns-in-SetAttr-clause-still g c tells rests = absurd (true≢false (sym rests ∙ ap (λ (k : Command). changes_nothing (tree_of (g.P.SectorView.space c.args.space.now).content) k) c.in-SetAttr.is))
+
+pub returns-in-DelAttr-clause-still : goal.returns-in-DelAttr-clause-still
+returns-in-DelAttr-clause-still g c tells rests = absurd (true≢false (sym rests ∙ ap (λ (k : Command). changes_nothing (tree_of (g.P.SectorView.space c.args.space.now).content) k) c.in-DelAttr.is))
+
+pub returns-in-Mkdir-clause-still : goal.returns-in-Mkdir-clause-still
+returns-in-Mkdir-clause-still g c tells rests = absurd (true≢false (sym rests ∙ ap (λ (k : Command). changes_nothing (tree_of (g.P.SectorView.space c.args.space.now).content) k) c.in-Mkdir.is))
+
+pub returns-in-Create-clause-still : goal.returns-in-Create-clause-still
+returns-in-Create-clause-still g c tells rests = absurd (true≢false (sym rests ∙ ap (λ (k : Command). changes_nothing (tree_of (g.P.SectorView.space c.args.space.now).content) k) c.in-Create.is))
+
+pub returns-in-Rmdir-clause-still : goal.returns-in-Rmdir-clause-still
+returns-in-Rmdir-clause-still g c tells rests = absurd (true≢false (sym rests ∙ ap (λ (k : Command). changes_nothing (tree_of (g.P.SectorView.space c.args.space.now).content) k) c.in-Rmdir.is))
+
+pub returns-in-Rm-clause-still : goal.returns-in-Rm-clause-still
+returns-in-Rm-clause-still g c tells rests = absurd (true≢false (sym rests ∙ ap (λ (k : Command). changes_nothing (tree_of (g.P.SectorView.space c.args.space.now).content) k) c.in-Rm.is))
+
+pub returns-in-Ln-clause-still : goal.returns-in-Ln-clause-still
+returns-in-Ln-clause-still g c tells rests = absurd (true≢false (sym rests ∙ ap (λ (k : Command). changes_nothing (tree_of (g.P.SectorView.space c.args.space.now).content) k) c.in-Ln.is))
+
+pub returns-in-Mv-clause-still : goal.returns-in-Mv-clause-still
+returns-in-Mv-clause-still g c tells rests = c.move_entry.ensures.still tells (sym (ap (λ (k : Command). changes_nothing (tree_of (g.P.SectorView.space c.args.space.now).content) k) c.in-Mv.is) ∙ rests)

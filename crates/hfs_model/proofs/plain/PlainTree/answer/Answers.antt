@@ -19,3 +19,6 @@ returns-in-Read c = rw c.in-Read.is (rw (← c.as_slice-in-Read.ensures) c.read.
 
 pub returns-in-Chmod : goal.returns-in-Chmod
 returns-in-Chmod c = rw c.in-Chmod.is (rw (← c.as_slice-in-Chmod.ensures) c.chmod.ensures)
+
+pub returns-in-Trunc : goal.returns-in-Trunc
+returns-in-Trunc c = rw c.in-Trunc.is (rw (← c.as_slice-in-Trunc.ensures) c.trunc.ensures)

@@ -1,4 +1,5 @@
 use Rattle.std.proofs.Common.{◌≡◌, [], refl, sym, ◌∙◌, ap, subst, arith}
+use Rattle.std.specs.Prelude.{None}
 use Rattle.alloc_bitmap.specs.Untold.{told_none}
 use Rattle.hfs_serving.proofs.Causes.{counts_none, fine}
 use Rattle.volume_space.proofs.Sounding.{sound_here}
@@ -6,6 +7,7 @@ use Rattle.volume_base.specs.Keeping.{shrunk_of}
 use Rattle.volume_base.specs.Room.{capacity_of}
 use Rattle.volume_space.specs.Standing.{HoldsOn}
 use Rattle.volume_base.specs.declared.volume.Volume.{Volume}
+use Rattle.volume_step.proofs.Unfilled.{filled_none, service_filling, settled_filling, stands_filling}
 use Rattle.served_volume.proofs.Calls.{quiet, short}
 use Rattle.served_volume.proofs.Heading.{marks_keep}
 use Rattle.served_volume.proofs.Marked.{marked_as}
@@ -37,7 +39,8 @@ returns-clause-touches g c tells capacity committed now shrunk stands =
 pub returns-clause-marked : goal.returns-clause-marked
 returns-clause-marked g c tells capacity committed now shrunk stands =
     let v = c.args.self.now.volume in
-    let w = c.mark.new.volume in
+    let u = c.mark.new.volume in
+    let w : Volume = record u { filling = None } in
     let a = g.G.SectorView.space c.args.base.now in
     let b = g.G.SectorView.space c.mark.new.space in
     let lists = c.mark.ensures.lists tells in
@@ -45,11 +48,12 @@ returns-clause-marked g c tells capacity committed now shrunk stands =
     (record {
       touches = touches_space committed _ a b tells (c.mark.ensures.touches committed);
       keeps = marks_keep c.args.in_use a b stands.heads lists;
-      stands = c.mark.ensures.stands;
-      settled = c.mark.ensures.settled tells;
+      stands = stands_filling u None b c.mark.ensures.stands;
+      settled = settled_filling u None b.content (c.mark.ensures.settled tells);
+      filled = filled_none w b refl;
       holds = λ held. subst (λ (u : Volume). HoldsOn committed u) (sym c.mark.ensures.rest) held;
       capacity = ap capacity_of c.mark.ensures.rest;
-      sound = sound_here w b (c.mark.ensures.stands.stands ((c.mark.ensures.touches committed).same.tells ∙ tells)) (c.mark.ensures.settled tells);
+      sound = sound_here u b (c.mark.ensures.stands.stands ((c.mark.ensures.touches committed).same.tells ∙ tells)) (c.mark.ensures.settled tells);
     }) (ap shrunk_of c.mark.ensures.rest) lists (c.mark.ensures.tree tells)
 
 pub returns-clause-still : goal.returns-clause-still
@@ -69,3 +73,13 @@ returns-then-is_elsewhere-clause-faults g c = short (counts_none _ _)
 
 pub returns-then-spare-eq0-clause-faults : goal.returns-then-spare-eq0-clause-faults
 returns-then-spare-eq0-clause-faults g c = short (counts_none _ _)
+
+pub invariant_of-self : goal.invariant_of-self
+invariant_of-self g c =
+    let u = c.mark.new.volume in
+    let w : Volume = record u { filling = None } in
+    let sectors = (c.mark.ensures.touches []).same.sectors ∙ c.is_elsewhere.ensures c.if-is_elsewhere.false in
+    record {
+      sized = service_on w (g.G.SectorView.space c.mark.new.space) (told_none c.args.self.now.sectors) (sym sectors) (service_filling u None (g.G.SectorView.space c.mark.new.space) c.mark.ensures.stands.service);
+      filled = filled_none w (told_none c.args.self.now.sectors) refl;
+    }

@@ -4,6 +4,7 @@ use Rattle.alloc_bitmap.specs.Untold.{told_none}
 use Rattle.sector_disk.specs.Lists.{Content}
 use Rattle.hfs_serving.proofs.Agreeing.{committed_reads}
 use Rattle.hfs_serving.proofs.Causes.{fine}
+use Rattle.volume_step.proofs.Unfilled.{filled_none}
 use Rattle.served_volume.proofs.Committing.{committed_knows, differs, service_settled}
 use Rattle.served_volume.proofs.serving.ServedVolumeVolume.commit.Goals as goal
 
@@ -39,3 +40,11 @@ returns-in-Ok-clause-faults g c = fine c.commit.ensures.counts _
 
 pub returns-in-Err-clause-faults : goal.returns-in-Err-clause-faults
 returns-in-Err-clause-faults g c = record { counts = c.commit.ensures.counts; disk = λ is. c.in-Err.ensures.cause }
+
+pub invariant_of-self : goal.invariant_of-self
+invariant_of-self g c =
+    let there = told_none c.args.self.now.sectors in
+    record {
+      sized = service_settled c.args.self.now.volume c.settle.new.self c.settle.ensures there c.args.self.now.sized;
+      filled = filled_none c.settle.new.self there c.settle.ensures.filling;
+    }

@@ -1,5 +1,5 @@
 use Rattle.std.proofs.Common.{ℕ, [], refl, sym, ◌∙◌, subst}
-use Rattle.std.specs.Prelude.{Option, Result}
+use Rattle.std.specs.Prelude.{None, Option, Result}
 use Rattle.alloc_bitmap.specs.Untold.{told_none}
 use Rattle.hx_bytes.specs.declared.faults.Trouble.{Trouble}
 use Rattle.hfs_serving.specs.Faults.{Faults}
@@ -9,9 +9,11 @@ use Rattle.volume_space.proofs.Sounding.{sound_here}
 use Rattle.volume_base.specs.Keeping.{shrunk_of}
 use Rattle.volume_base.specs.Room.{capacity_of}
 use Rattle.volume_base.specs.Standing.{IsSettled, StandsOver}
+use Rattle.volume_base.specs.declared.volume.Volume.{Volume}
 use Rattle.volume_space.specs.declared.tidying.Tidying.{Tidying}
 use Rattle.volume_step.specs.Steps.{KeepsJournal}
 use Rattle.volume_step.specs.Tidying.{ReclaimsAs}
+use Rattle.volume_step.proofs.Unfilled.{filled_none, service_filling, settled_filling, stands_filling}
 use Rattle.served_volume.proofs.Anew.{own_then}
 use Rattle.served_volume.proofs.Calls.{faults_of_call, on_any, on_value, quiet, short, value_of}
 use Rattle.served_volume.proofs.Heading.{journal_alike}
@@ -53,14 +55,15 @@ returns-in-Err-clause-touches g c tells capacity committed now shrunk stands =
 pub returns-in-Ok-clause-tidied : goal.returns-in-Ok-clause-tidied
 returns-in-Ok-clause-tidied g c tells capacity committed now shrunk stands =
     let v = c.args.self.now.volume in
-    let w = c.tidy-came.new.volume in
+    let u = c.tidy-came.new.volume in
+    let w : Volume = record u { filling = None } in
     let a = g.G.SectorView.space c.args.base.now in
     let b = g.G.SectorView.space c.tidy-came.new.space in
     let r = c.tidy-came.result in
     let o = c.in-Ok.came in
     let is = c.in-Ok.is in
-    let there = on_value (StandsOver w b) r o is c.tidy-came.ensures.stands in
-    let settled = on_value (IsSettled w b.content) r o is (c.tidy-came.ensures.settled tells) in
+    let there : StandsOver w b = stands_filling u None b (on_value (StandsOver u b) r o is c.tidy-came.ensures.stands) in
+    let settled : IsSettled w b.content = settled_filling u None b.content (on_value (IsSettled u b.content) r o is (c.tidy-came.ensures.settled tells)) in
     let tells_then = (c.tidy-came.ensures.touches committed).same.tells ∙ tells in
     let was = value_of (λ (q : Tidying). ReclaimsAs q (capacity_of v) (shrunk_of v) a.content b.content) r o is (c.tidy-came.ensures.reclaims tells) in
     tidies_as v w capacity committed now shrunk a b stands.known stands.below stands.reads stands.heads
@@ -69,6 +72,7 @@ returns-in-Ok-clause-tidied g c tells capacity committed now shrunk stands =
       keeps = on_value (KeepsJournal a.content b.content) r o is (c.tidy-came.ensures.place tells);
       stands = there;
       settled = settled;
+      filled = filled_none w b refl;
       holds = λ held. c.tidy-came.ensures.holds committed held;
       capacity = c.tidy-came.ensures.capacity;
       sound = sound_here w b (there.stands tells_then) settled;
@@ -121,4 +125,8 @@ returns-in-Err-clause-below g c = c.tidy-came.ensures.below
 pub invariant_of-self : goal.invariant_of-self
 invariant_of-self g c =
     let sectors = (c.tidy-came.ensures.touches []).same.sectors ∙ c.is_elsewhere.ensures c.if-is_elsewhere.false in
-    record { sized = service_on c.tidy-came.new.volume (g.G.SectorView.space c.tidy-came.new.space) (told_none c.args.self.now.sectors) (sym sectors) c.tidy-came.ensures.service }
+    let w : Volume = record c.tidy-came.new.volume { filling = None } in
+    record {
+      sized = service_on w (g.G.SectorView.space c.tidy-came.new.space) (told_none c.args.self.now.sectors) (sym sectors) (service_filling c.tidy-came.new.volume None (g.G.SectorView.space c.tidy-came.new.space) c.tidy-came.ensures.service);
+      filled = filled_none w (told_none c.args.self.now.sectors) refl;
+    }

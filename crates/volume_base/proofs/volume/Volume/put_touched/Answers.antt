@@ -3,6 +3,8 @@ use Rattle.std.specs.Prelude.{Option, IfSome}
 use Rattle.cat_records.specs.Fits.{FitsRecord}
 use Rattle.cat_records.specs.declared.record.CatRecord.{CatRecord}
 use Rattle.catalog.specs.Entries.{IsOfKind}
+use Rattle.catalog.proofs.RoomLaws.{updates_none}
+use Rattle.btree_file.specs.State.{state_of}
 use Rattle.hfs_volume.specs.Records.{id_in, is_thread}
 use Rattle.volume_base.specs.Changing.{ReplacesRecord, TouchesFolder}
 use Rattle.volume_base.proofs.FoundEntry.{ok_so}
@@ -36,3 +38,9 @@ returns-in_default-clause-room g c many room = room_less many c.args.self.now (g
 
 pub returns-in_default-clause-edits : goal.returns-in_default-clause-edits
 returns-in_default-clause-edits g c = edits_none _ g.met.P.SectorView.follows_refl c.requires.stands
+
+pub returns-in_default-clause-updates : goal.returns-in_default-clause-updates
+returns-in_default-clause-updates g c names = updates_none 0 1 516 (state_of names c.args.self.now.catalog.file (g.P.SectorView.space c.args.space.now))
+
+pub returns-clause-updates : goal.returns-clause-updates
+returns-clause-updates g c = c.replace.ensures.updates

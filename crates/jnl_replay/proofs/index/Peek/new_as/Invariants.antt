@@ -9,7 +9,7 @@ use Rattle.sector_disk.specs.Disk.{OnlyReads}
 use Rattle.jnl_replay.specs.Runs.{place_in_both, AreWhole}
 use Rattle.jnl_replay.specs.Text.{words}
 use Rattle.jnl_replay.proofs.Peeks.{Indexed}
-use Rattle.jnl_replay.proofs.index.Peek.new.Given as goal
+use Rattle.jnl_replay.proofs.index.Peek.new_as.Given as goal
 
 abbrev pub invariant-loop-runs : goal.invariant-loop-runs
 invariant-loop-runs g l = record {
