@@ -6,7 +6,7 @@ import sys
 
 from . import processes
 from .proving import Prover
-from .sources import Refused, kit, sum_of
+from .sources import Refused, keeps_proofs, kit, sum_of
 
 # The exit status where a proof failed, of `./build --prove`.
 UNPROVED = 3
@@ -86,7 +86,10 @@ def keep(sources, wanted, built, folder):
 
 def prove_all(sources):
     """Proves every crate and its tests, and tries its must-fail edits, ahead of the gate, which then takes what the kit kept of that.
-    Returns the exit status."""
+    Where the kit keeps nothing, the gate's own run would prove all of it again, so nothing is proved ahead. Returns the exit status."""
+    if not keeps_proofs():
+        print("build: the kit keeps nothing here, so nothing is proved ahead of the gate", flush=True)
+        return 0
     crates = sources.needed(sources.uses)
     with processes.room() as room:
         return 0 if Prover(sources, crates, room).prove(edits=True) else UNPROVED

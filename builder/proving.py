@@ -15,6 +15,7 @@ import time
 
 from . import schedule
 from .processes import Commands
+from .sources import keeps_proofs
 
 # What a line of the kit's says of a crate.
 PROVED, KEPT, TESTED = "proved", "kept", "tested"
@@ -113,18 +114,24 @@ class Prover:
         os.chmod(self.place, 0o711)  # the kit runs programs as nobody
         os.makedirs(f"{self.place}/tmp")
         try:
+            if not keeps_proofs():
+                raise NothingKept
             with Commands() as commands:
                 self.run(commands, built)
-        except NothingKept as crate:
-            print(f"build: the kit keeps nothing here ({crate} was proved again), so one run proves all", flush=True)
-            self.running, self.selector = [], selectors.DefaultSelector()
-            with Commands() as commands:
-                self.begin(self.crates, f"{self.place}/whole", commands, {"RT_JOBS": str(self.lanes)}, is_whole=True)
-                while self.running:
-                    self.take(built)
-            for it in built:
-                os.symlink(f"{self.place}/whole", f"{self.place}/{it}")
+        except NothingKept:
+            self.prove_whole(built)
         return not self.failed
+
+    def prove_whole(self, built):
+        """Proves all crates by one run."""
+        print("build: the kit keeps nothing here, so one run proves all", flush=True)
+        self.running, self.selector = [], selectors.DefaultSelector()
+        with Commands() as commands:
+            self.begin(self.crates, f"{self.place}/whole", commands, {"RT_JOBS": str(self.lanes)}, is_whole=True)
+            while self.running:
+                self.take(built)
+        for it in built:
+            os.symlink(f"{self.place}/whole", f"{self.place}/{it}")
 
     def run(self, commands, built):
         """Proves each crate by a run of its own, once those below it are proved. Behind a failed proof nothing more is begun."""

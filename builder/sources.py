@@ -2,6 +2,7 @@
 
 import hashlib
 import os
+import re
 import shutil
 import subprocess
 
@@ -103,6 +104,12 @@ def kit():
     if not shutil.which("rt"):
         raise Refused("rt isn't on the path: it is the command of Rattle's kit")
     return subprocess.run(["rt", "version"], capture_output=True, text=True, check=False).stdout
+
+
+def keeps_proofs():
+    """Whether the kit keeps what `rt ci` proved, for later runs: its usage then has a flag that takes nothing of that."""
+    told = subprocess.run(["rt", "help"], stdout=subprocess.PIPE, stderr=subprocess.STDOUT, text=True, check=False).stdout
+    return re.search(r"rt ci\b.*--anew", told) is not None
 
 
 def sum_of(path):

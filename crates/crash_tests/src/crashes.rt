@@ -36,6 +36,14 @@ const BYTES: &[u8] =
 const READS_OF_BYTES: &[u8] =
     b"ls /\nstat /\nls /d\nstat /d\nstat /f\nread /f 0 9100\nstat /g\nread /g 0 9100\nlsattr /g\nstat /d/h\nread /d/h 0 9100\nstat /d/g\nread /d/g 0 9100\ngetattr /d/g k\nstat /d/i\nread /d/i 8998 9100\nlsattr /d/i\n";
 
+/// A run in which files take the places of others: of one that has another name too, of one that loses its last name, and of itself.
+const REPLACEMENTS: &[u8] =
+    b"create /a\nwrite /a 0 =A\ncreate /b\nwrite /b 0 =BB\nln /b /c\nmv /a /b\nread /b 0 9\nstat /c\nmv /b /c\nls /\nread /c 0 9\nmv /c /c\ncreate /z\nstat /z\nmkdir /d\nmv /c /d\nmv /z /c\nsync\n";
+
+/// What is read back behind it.
+const READS_OF_REPLACEMENTS: &[u8] =
+    b"ls /\nstat /\nstat /a\nread /a 0 9\nstat /b\nread /b 0 9\nstat /c\nread /c 0 9\nstat /z\nls /d\n";
+
 /// A file whose bytes are put three times, which come at once.
 const ONE_BATCH: &[u8] = b"create /f\nwrite /f 0 =a\nwrite /f 0 =b\nwrite /f 0 =c\n";
 
@@ -93,6 +101,17 @@ pub fn try_removals(alloc: Global, choice: u64) -> Result<Tried, OutOfMemory> {
 /// All crashes of a run that puts bytes into files and gives files names on a new volume.
 pub fn try_bytes(alloc: Global, choice: u64) -> Result<Tried, OutOfMemory> {
     try_from(alloc, &fresh_few(alloc)?, BYTES, READS_OF_BYTES, choice)
+}
+
+/// All crashes of a run in which files take the places of others on a new volume.
+pub fn try_replacements(alloc: Global, choice: u64) -> Result<Tried, OutOfMemory> {
+    try_from(
+        alloc,
+        &fresh_few(alloc)?,
+        REPLACEMENTS,
+        READS_OF_REPLACEMENTS,
+        choice,
+    )
 }
 
 /// All crashes of one batch that puts bytes into a file over and over on a new volume.

@@ -16,6 +16,8 @@ mod reclaims;
 #[cfg(test)]
 mod repairs;
 #[cfg(test)]
+mod replaces;
+#[cfg(test)]
 mod replays;
 #[cfg(test)]
 mod runs;

@@ -1,10 +1,12 @@
 // Runs that are cut off, and runs over devices that fail; each choice of a crash's image is a test of its own.
 use crate::crashes::{
-    try_all, try_bytes, try_growth, try_one_batch, try_removals, try_two_growths, try_worn, worn,
+    try_all, try_bytes, try_growth, try_one_batch, try_removals, try_replacements, try_two_growths,
+    try_worn, worn,
 };
 use crate::faults::try_faults;
 use crate::journals::{Damage, HEADER, changed_sectors, is_refused, told_before_the_journal};
 use crate::reclaims::try_reclaims;
+use crate::replaces::{LAST_OF_TWO, ONE_OF_TWO, ONLY_ONE, try_replacement};
 use crate::replays::{is_replayed_after_two_stops, start_of};
 use crate::twice::try_pairs;
 use std::test::Fail;
@@ -196,6 +198,38 @@ fn a_file_that_goes_is_there_or_gone(rt: HostRuntime) -> Result<(), Fail> {
         let tried = try_reclaims(rt.alloc(), choice)?;
         assert_eq!(rt; tried.wrong, None);
         assert!(rt; 40 < tried.crashes);
+    }
+    Ok(())
+}
+
+#[test]
+fn a_name_is_that_of_the_old_file_or_of_the_new_one(rt: HostRuntime) -> Result<(), Fail> {
+    for it in [ONE_OF_TWO, LAST_OF_TWO, ONLY_ONE] {
+        for choice in 0..8u64 {
+            let tried = try_replacement(rt.alloc(), &it, choice)?;
+            assert_eq!(rt; tried.wrong, None);
+            assert!(rt; 20 < tried.crashes);
+        }
+    }
+    Ok(())
+}
+
+#[test]
+fn files_that_take_the_places_of_others_leave_a_prefix_0_to_3(rt: HostRuntime) -> Result<(), Fail> {
+    for choice in 0..4u64 {
+        let tried = try_replacements(rt.alloc(), choice)?;
+        assert_eq!(rt; tried.wrong, None);
+        assert!(rt; 100 < tried.crashes);
+    }
+    Ok(())
+}
+
+#[test]
+fn files_that_take_the_places_of_others_leave_a_prefix_4_to_7(rt: HostRuntime) -> Result<(), Fail> {
+    for choice in 4..8u64 {
+        let tried = try_replacements(rt.alloc(), choice)?;
+        assert_eq!(rt; tried.wrong, None);
+        assert!(rt; 100 < tried.crashes);
     }
     Ok(())
 }

@@ -5,7 +5,7 @@ ghost use Rattle.flag_rows.specs.Bits.{count_set};
 ghost use Rattle.fork_map.specs.Blocks.{blocks_of, sectors_of};
 ghost use Rattle.alloc_bitmap.specs.Map.{free_of};
 ghost use Rattle.file_io.specs.Bytes.{IsBlockSize, sectors_in};
-ghost use Rattle.file_io.specs.Places.{AreUsed, blocks_for, new_blocks};
+ghost use Rattle.file_io.specs.Places.{AreUsed, blocks_for, new_blocks, zero_blocks};
 ghost use Rattle.file_io.specs.Touching.{MaySpill};
 ghost use Rattle.file_tests.specs.Untold.{told_faults};
 
@@ -73,6 +73,30 @@ pub fn has_room(map: &Bitmap, block: u32, end: u64) -> bool
         return true;
     }
     (end - 1) / (block as u64) < map.count_free() as u64
+}
+
+/// How many blocks so many bytes take.
+fn blocks_needed(block: u32, bytes: u64) -> u64
+    requires { 0 < block }
+    ensures { result ≡ blocks_for block bytes }
+{
+    if bytes == 0 {
+        return 0;
+    }
+    (bytes - 1) / block as u64 + 1
+}
+
+/// Whether a growth has so many blocks that lie wholly behind the old end.
+pub fn has_zeros(block: u32, size: u64, to: u64, zeroed: u32) -> bool
+    requires { IsBlockSize block }
+    ensures { IsTrue result → zeroed ≤ zero_blocks block size (blocks_for block to) }
+{
+    let old = blocks_needed(block, size);
+    let new = blocks_needed(block, to);
+    if new < old {
+        return false;
+    }
+    zeroed as u64 <= new - old
 }
 
 /// Whether the sectors of each free block may be spilled: they lie in the space, and none is the volume header's.

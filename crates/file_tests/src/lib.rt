@@ -10,6 +10,8 @@ mod calls;
 #[cfg(test)]
 mod file;
 #[cfg(test)]
+mod fills;
+#[cfg(test)]
 mod gates;
 #[cfg(test)]
 mod making;

@@ -1,5 +1,5 @@
 //! Commands on a file, each beside the plain array.
-use crate::calls::{grow_to, is_as_told, shrink, write_at};
+use crate::calls::{grow_over, is_as_told, shrink, write_at};
 use crate::file::File;
 use crate::making::BLOCKS;
 use crate::plain::{overwritten, pattern, resized};
@@ -82,7 +82,18 @@ pub fn cut_to(rt: &impl Abort, alloc: Global, file: &mut File, small: u64) -> Re
 
 /// Makes the file longer: what is new is zeros.
 pub fn extend_to(rt: &impl Abort, alloc: Global, file: &mut File, large: u64) -> Result<(), Fail> {
-    let fork = grow_to(rt, alloc, file, large)?;
+    extend_over(rt, alloc, file, large, 0)
+}
+
+/// The same where so many of its zero blocks hold zeros already.
+pub fn extend_over(
+    rt: &impl Abort,
+    alloc: Global,
+    file: &mut File,
+    large: u64,
+    zeroed: u32,
+) -> Result<(), Fail> {
+    let fork = grow_over(rt, alloc, file, large, zeroed)?;
     is_as_told(rt, alloc, file)?;
     let plain = resized(alloc, file.plain.as_slice(), large)?;
     end_command(rt, alloc, file, fork, plain)

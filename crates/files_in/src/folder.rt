@@ -1,11 +1,11 @@
-//! A folder of the system is put into a volume: its entries in the order of their names' bytes, then those of its folders.
+//! A folder of the system is put into a volume: its entries in the order of their names' bytes, then those of its folders. One file is put alone.
 use crate::entry::{Here, Open, Waiting};
 use crate::gathered::{Identity, Wanted};
 use crate::ground::{Ground, Wishes};
 use crate::listing::{Kind, attributes_of};
 use crate::reading::Reading;
 use files_talk::{Job, LineList, Notes, PIECE};
-use std::alloc::AllocError;
+use std::alloc::{AllocError, Global};
 use std::collections::BTreeMap;
 use std::{fs, io};
 
@@ -41,35 +41,40 @@ pub(crate) const CLAMPED: &str =
     "its date is outside of 1904 to 2040, and is kept as the nearest that a volume has";
 
 impl<'a> FolderIn<'a> {
-    /// Nothing was put yet. It is an error where the folder isn't one.
-    pub fn new(notes: Notes<'a>, folder: &str, wishes: Wishes<'_>) -> io::Result<FolderIn<'a>> {
+    /// Nothing was put yet. Of a folder all that is in it is to be put, and a file under its name. It is an error where there is neither.
+    pub fn new(notes: Notes<'a>, from: &str, wishes: Wishes<'_>) -> io::Result<FolderIn<'a>> {
         let rt = notes.rt();
         let alloc = rt.alloc();
-        let attributes = attributes_of(&fs::metadata(rt, folder)?);
-        if attributes.kind != Kind::Folder {
-            return Err(io::Error::from(io::ErrorKind::NotADirectory));
-        }
+        let attributes = attributes_of(&fs::metadata(rt, from)?);
         let date = wishes.dates.date(attributes.changed).date;
-        let ground = Ground::new(notes, wishes, Some(date))?;
-        let mut open = Vec::new(alloc);
-        open.push(Open {
-            shown: String::from_str(alloc, folder)?,
-            word: String::from_str(alloc, wishes.to)?,
-            date,
-            mode: attributes.mode,
-            has: None,
-            fresh: wishes.fresh,
-        })?;
-        Ok(FolderIn {
-            ground,
-            open,
+        let mut job = FolderIn {
+            ground: Ground::new(notes, wishes, Some(date))?,
+            open: Vec::new(alloc),
             here: None,
             waiting: None,
             reading: None,
             piece: vec![in alloc; 0u8; PIECE]?,
             seen: BTreeMap::new(alloc),
             image: None,
-        })
+        };
+        let mut top = Open {
+            shown: String::from_str(alloc, from)?,
+            word: String::from_str(alloc, wishes.to)?,
+            date,
+            mode: attributes.mode,
+            has: None,
+            fresh: wishes.fresh,
+        };
+        match attributes.kind {
+            Kind::Folder => job.open.push(top)?,
+            Kind::File => {
+                let (folder, name) = parts_of(from);
+                top.shown = String::from_str(alloc, folder)?;
+                job.here = Some(alone(alloc, top, name)?);
+            }
+            Kind::Other(_) => return Err(io::Error::from(io::ErrorKind::NotADirectory)),
+        }
+        Ok(job)
     }
 
     /// This file is the image itself, and isn't put.
@@ -134,4 +139,26 @@ impl<'a> Job for FolderIn<'a> {
         }
         Ok(())
     }
+}
+
+// The folder of a file's path, and the file's name.
+fn parts_of(path: &str) -> (&str, &str) {
+    match path.rsplit_once('/') {
+        Some((folder, name)) => (if folder.is_empty() { "/" } else { folder }, name),
+        None => (".", path),
+    }
+}
+
+// A folder of which one entry alone is put, and which keeps its date and its mode otherwise.
+fn alone(alloc: Global, folder: Open, name: &str) -> Result<Here, AllocError> {
+    let mut names = Vec::new(alloc);
+    names.push(String::from_str(alloc, name)?)?;
+    let mut open = folder;
+    open.has = Some(open.date);
+    Ok(Here {
+        open,
+        names,
+        folders: Vec::new(alloc),
+        touched: false,
+    })
 }

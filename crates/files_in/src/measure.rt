@@ -1,4 +1,4 @@
-//! How large a volume has to be that holds a folder.
+//! How large a volume has to be that holds a folder, or a file.
 use crate::gathered::Identity;
 use crate::listing::{Kind, attributes_of, list};
 use files_talk::child_of;
@@ -31,10 +31,10 @@ struct Sum {
     bytes: u64,
 }
 
-/// The sectors of a volume that has room for all that a folder holds, as it stands now, but for the image itself.
+/// The sectors of a volume that has room for a file, or for all that a folder holds, as it stands now, but for the image itself.
 pub fn sectors_for(
     rt: &HostRuntime,
-    folder: &str,
+    from: &str,
     image: Option<Identity>,
 ) -> Result<u64, AllocError> {
     let alloc = rt.alloc();
@@ -47,7 +47,13 @@ pub fn sectors_for(
         let _ = seen.insert(image.key())?;
     }
     let mut open = Vec::new(alloc);
-    open.push(String::from_str(alloc, folder)?)?;
+    match size_alone(rt, from) {
+        Some(size) => {
+            sum.add_entry(from);
+            sum.add_file(size);
+        }
+        None => open.push(String::from_str(alloc, from)?)?,
+    }
     for _ in 0..u64::MAX {
         match open.pop() {
             Some(path) => measure(rt, path.as_str(), &mut sum, &mut seen, &mut open)?,
@@ -55,6 +61,16 @@ pub fn sectors_for(
         }
     }
     Ok(sectors_of(sum))
+}
+
+// The size of what is a file.
+fn size_alone(rt: &HostRuntime, path: &str) -> Option<u64> {
+    let found = attributes_of(&fs::metadata(rt, path).ok()?);
+    if found.kind == Kind::File {
+        Some(found.size)
+    } else {
+        None
+    }
 }
 
 // Counts the entries of a folder, and opens its folders.

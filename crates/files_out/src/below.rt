@@ -3,9 +3,9 @@
 
 use files_talk::{Facts, Notes, child_of, seconds_of};
 use std::alloc::AllocError;
-use std::fs::{self, DirBuilder, File, FileTimes, OpenOptions, Permissions};
+use std::fs::{self, DirBuilder, File, FileTimes, Files, OpenOptions, Permissions};
 use std::io::{self, ErrorKind, Write};
-use std::os::unix::fs::{DirBuilderExt, MetadataExt, OpenOptionsExt, PermissionsExt};
+use std::os::unix::fs::{DirBuilderExt, MetadataExt, OpenOptionsExt, PermissionsExt, symlink};
 use std::time::{Duration, UNIX_EPOCH};
 
 /// The modes under which a folder and a file are made, until they get their own.
@@ -233,6 +233,26 @@ impl Below {
         }
     }
 
+    /// Makes a symbolic link, and answers whether it was made. What was made of one before is left as it is.
+    pub(crate) fn make_symlink(
+        &mut self,
+        notes: &mut Notes<'_>,
+        place: &str,
+        target: &str,
+    ) -> Result<bool, AllocError> {
+        if is_part(place) {
+            notes.leave_out(place, OWN_NAME);
+            return Ok(false);
+        }
+        if leads_to(notes.rt(), place, target) || self.over && !remove(notes, place)? {
+            return Ok(false);
+        }
+        match symlink(notes.rt(), target, place) {
+            Ok(()) => Ok(true),
+            Err(error) => lose_place(notes, place, error),
+        }
+    }
+
     /// Gives the folders their modes and dates, those behind first.
     pub(crate) fn finish(&mut self, notes: &mut Notes<'_>) -> Result<(), AllocError> {
         for _ in 0..u64::MAX {
@@ -270,6 +290,14 @@ fn is_one_file(rt: &HostRuntime, first: &str, second: &str) -> bool {
     ) {
         (Ok(first), Ok(second)) => first.dev() == second.dev() && first.ino() == second.ino(),
         _ => false,
+    }
+}
+
+// Whether a symbolic link with this target stands at a place.
+fn leads_to(rt: &HostRuntime, place: &str, target: &str) -> bool {
+    match rt.read_link(rt.alloc(), place) {
+        Ok(found) => found.into_string().as_str() == target,
+        Err(_) => false,
     }
 }
 

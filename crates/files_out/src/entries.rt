@@ -5,32 +5,15 @@ use crate::out::Out;
 use crate::shown::{path_below, shown_path, word_of_name};
 use crate::walk::{Next, Node};
 use crate::wish::Wish;
-use cmd_lang::print_reply;
-use files_talk::{Facts, NameLack, child_of, name_of, reason_of};
-use hfs_language::{Command, ListedName, Listing, Path, Reply};
-use hx_bytes::OutOfMemory;
+use files_talk::{Facts, NameLack, child_of, name_of};
+use hfs_language::{Command, ListedName, Listing};
 use std::alloc::AllocError;
 use std::collections::BTreeSet;
 
+/// What is told of a file whose bytes are compressed.
+const COMPRESSED: &str = "macOS keeps its bytes compressed, and they aren't unpacked here";
+
 impl<'a> Out<'a> {
-    /// Tells that an entry of the volume is left out, for the reason that a reply gives.
-    pub(crate) fn lose(&mut self, node: &Node, reply: &Reply) -> Result<(), AllocError> {
-        let alloc = self.notes.rt().alloc();
-        let text = match print_reply(alloc, reply) {
-            Ok(text) => text,
-            Err(OutOfMemory) => return Err(AllocError),
-        };
-        let why = reason_of(alloc, text.as_slice().trim_ascii_end())?;
-        self.lose_for(&node.path, why.as_str())
-    }
-
-    /// Tells that an entry of the volume is left out, for a reason.
-    pub(crate) fn lose_for(&mut self, path: &Path, why: &str) -> Result<(), AllocError> {
-        let path = shown_path(self.notes.rt().alloc(), path)?;
-        self.notes.leave_out(path.as_str(), why);
-        Ok(())
-    }
-
     /// Takes an entry whose facts are known, and answers what is asked for it, if anything is.
     pub(crate) fn take_entry(
         &mut self,
@@ -80,11 +63,22 @@ impl<'a> Out<'a> {
     // Takes a file.
     fn take_file(&mut self, node: Node, facts: Facts) -> Result<(), AllocError> {
         match self.wish {
-            Wish::Cat => self.start_file(node, facts),
-            Wish::Get { .. } | Wish::Tar => self.take_out(node, facts),
             Wish::List { long, .. } => self.list(&node, &facts, long),
             Wish::Stat => self.tell_facts(&node, &facts),
+            _ => self.take_bytes(node, facts),
         }
+    }
+
+    // Takes a file of which the bytes are wanted.
+    fn take_bytes(&mut self, node: Node, facts: Facts) -> Result<(), AllocError> {
+        if self.extra_of(&facts).is_compressed {
+            self.walk.values.clear();
+            return self.lose_for(&node.path, COMPRESSED);
+        }
+        if self.wish == Wish::Cat {
+            return self.start_file(node, facts);
+        }
+        self.take_out(node, facts)
     }
 
     // Takes a file out: its bytes are asked, or it becomes another name of one that was made.
@@ -100,32 +94,20 @@ impl<'a> Out<'a> {
             let place = String::from_str(self.notes.rt().alloc(), node.place.as_str())?;
             self.made.insert(facts.id, place)?;
         }
-        if matches!(self.wish, Wish::Get { .. })
-            && self
-                .below
-                .has_same(self.notes.rt(), node.place.as_str(), facts)
-        {
+        if self.is_there(&node, facts) {
             return Ok(());
         }
         self.lose_attributes(&mut node)?;
+        self.lose_resources(&node, &facts)?;
         self.start_file(node, facts)
     }
 
-    // Tells the attributes that the system's files don't get.
-    fn lose_attributes(&mut self, node: &mut Node) -> Result<(), AllocError> {
-        let alloc = self.notes.rt().alloc();
-        for _ in 0..u64::MAX {
-            let Some(name) = node.attributes.pop() else {
-                break;
-            };
-            let word = word_of_name(alloc, &name)?;
-            let why = format!(in alloc;
-                "its attribute {}, which a tar archive would have",
-                word.as_str()
-            )?;
-            self.lose_for(&node.path, why.as_str())?;
-        }
-        Ok(())
+    // Whether a file is there already. Of a symbolic link that is asked when its path is known.
+    fn is_there(&self, node: &Node, facts: Facts) -> bool {
+        let place = node.place.as_str();
+        matches!(self.wish, Wish::Get { .. })
+            && !self.extra_of(&facts).is_symlink
+            && self.below.has_same(self.notes.rt(), place, facts)
     }
 
     // Gives a file that the user named its place in the folder, and answers whether it has one.
@@ -155,7 +137,8 @@ impl<'a> Out<'a> {
     fn list(&mut self, node: &Node, facts: &Facts, long: bool) -> Result<(), AllocError> {
         let alloc = self.notes.rt().alloc();
         let path = shown_path(alloc, &node.path)?;
-        let line = list_line(alloc, path.as_str(), facts, long)?;
+        let extra = self.extra_of(facts);
+        let line = list_line(alloc, path.as_str(), facts, &extra, long)?;
         self.output.put(line.as_bytes())
     }
 
@@ -167,7 +150,8 @@ impl<'a> Out<'a> {
         for name in node.attributes.as_slice() {
             attributes.push(word_of_name(alloc, name)?)?;
         }
-        let text = facts_lines(alloc, path.as_str(), facts, attributes.as_slice())?;
+        let extra = self.extra_of(facts);
+        let text = facts_lines(alloc, path.as_str(), facts, &extra, attributes.as_slice())?;
         self.output.put(text.as_bytes())
     }
 

@@ -123,6 +123,9 @@ impl<'a> Out<'a> {
 
     /// Begins a file.
     pub(crate) fn start_file(&mut self, node: Node, facts: Facts) -> Result<(), AllocError> {
+        if self.wish.takes_out() && self.extra_of(&facts).is_symlink {
+            return self.start_link(node, facts);
+        }
         let place = node.place.as_str();
         let whole = match self.wish {
             Wish::Get { .. } => self.below.start(&mut self.notes, place)?,
@@ -140,6 +143,7 @@ impl<'a> Out<'a> {
             node,
             facts,
             whole,
+            target: None,
             from: 0,
         }))
     }
@@ -147,9 +151,13 @@ impl<'a> Out<'a> {
     /// Writes a piece of a file, and answers whether it was written.
     pub(crate) fn put_piece(
         &mut self,
-        current: &Current,
+        current: &mut Current,
         bytes: &[u8],
     ) -> Result<bool, AllocError> {
+        if let Some(target) = &mut current.target {
+            target.extend_from_slice(bytes)?;
+            return Ok(true);
+        }
         let written = match self.wish {
             Wish::Get { .. } => self
                 .below
@@ -176,8 +184,12 @@ impl<'a> Out<'a> {
             node,
             facts,
             whole,
+            target,
             ..
         } = current;
+        if let Some(target) = target {
+            return self.end_link(node, facts, whole, target.as_slice());
+        }
         let place = node.place.as_str();
         if self.wish == Wish::Tar {
             self.tape.end(&mut self.output)?;
@@ -193,12 +205,17 @@ impl<'a> Out<'a> {
             let _ = self.made.remove(&facts.id);
             return Ok(());
         }
+        self.count_file(place);
+        Ok(())
+    }
+
+    /// Counts a file that is there.
+    pub(crate) fn count_file(&mut self, place: &str) {
         count(&mut self.notes.counts.files);
         if self.wish.takes_out() {
             self.notes.name(place);
         }
         self.notes.progress();
-        Ok(())
     }
 }
 

@@ -143,7 +143,7 @@ impl<'a> Out<'a> {
         let mut current = current;
         match reply {
             Reply::Content(bytes) => {
-                if !self.put_piece(&current, bytes.as_slice())? {
+                if !self.put_piece(&mut current, bytes.as_slice())? {
                     current.whole = false;
                 }
             }

@@ -2,6 +2,7 @@
 
 use crate::moment::moment;
 use files_talk::Facts;
+use salvage_tree::Extra;
 use std::alloc::{AllocError, Global};
 
 /// The letters of the nine rights, from the highest on.
@@ -43,13 +44,14 @@ pub(crate) fn list_line(
     alloc: Global,
     path: &str,
     facts: &Facts,
+    extra: &Extra,
     long: bool,
 ) -> Result<String, AllocError> {
     let slash = if facts.folder && path != "/" { "/" } else { "" };
     if !long {
         return format!(in alloc; "{path}{slash}\n");
     }
-    let mode = mode_text(alloc, facts)?;
+    let mode = mode_text(alloc, facts, extra)?;
     let links = links_text(alloc, facts)?;
     let date = moment(alloc, facts.changed)?;
     let size = facts.size;
@@ -66,9 +68,10 @@ pub(crate) fn facts_lines(
     alloc: Global,
     path: &str,
     facts: &Facts,
+    extra: &Extra,
     attributes: &[String],
 ) -> Result<String, AllocError> {
-    let kind = if facts.folder { "folder" } else { "file" };
+    let kind = kind_of(facts, extra);
     let counted = if facts.folder { "entries" } else { "size" };
     let created = moment(alloc, facts.created)?;
     let changed = moment(alloc, facts.changed)?;
@@ -82,6 +85,10 @@ pub(crate) fn facts_lines(
         let links = format!(in alloc; "links: {}\n", facts.links)?;
         text.push_str(links.as_str())?;
     }
+    if extra.resources > 0 {
+        let resources = format!(in alloc; "resource fork: {}\n", extra.resources)?;
+        text.push_str(resources.as_str())?;
+    }
     for name in attributes {
         text.push_str("attribute: ")?;
         text.push_str(name.as_str())?;
@@ -90,10 +97,34 @@ pub(crate) fn facts_lines(
     Ok(text)
 }
 
-// The mode as `ls` tells it, behind the letter of a folder or a dash.
-fn mode_text(alloc: Global, facts: &Facts) -> Result<String, AllocError> {
+// What an entry is.
+fn kind_of(facts: &Facts, extra: &Extra) -> &'static str {
+    if facts.folder {
+        "folder"
+    } else if extra.is_symlink {
+        "symbolic link"
+    } else if extra.is_compressed {
+        "compressed file"
+    } else {
+        "file"
+    }
+}
+
+// The letter of an entry's kind.
+fn kind_letter(facts: &Facts, extra: &Extra) -> char {
+    if facts.folder {
+        'd'
+    } else if extra.is_symlink {
+        'l'
+    } else {
+        '-'
+    }
+}
+
+// The mode as `ls` tells it, behind the letter of the entry's kind.
+fn mode_text(alloc: Global, facts: &Facts, extra: &Extra) -> Result<String, AllocError> {
     let mut text = String::new(alloc);
-    text.push(if facts.folder { 'd' } else { '-' })?;
+    text.push(kind_letter(facts, extra))?;
     let mut bit: u32 = 0o400;
     for right in RIGHTS.iter() {
         text.push(right_letter(facts.mode, bit, *right))?;

@@ -5,8 +5,9 @@ use crate::output::Output;
 use crate::tape::Tape;
 use crate::walk::{Node, Walk};
 use crate::wish::Wish;
-use files_talk::{Counts, Notes};
+use files_talk::{Counts, Facts, Notes};
 use hfs_language::Path;
+use salvage_tree::{Extra, Extras};
 use std::alloc::AllocError;
 use std::collections::BTreeMap;
 
@@ -26,6 +27,8 @@ pub struct Out<'a> {
     pub(crate) output: Output<'a>,
     /// Where the first name of each file with several names was made, by the number of the file.
     pub(crate) made: BTreeMap<u64, String>,
+    /// The files that have something besides their bytes.
+    extras: Extras,
 }
 
 impl<'a> Out<'a> {
@@ -46,6 +49,7 @@ impl<'a> Out<'a> {
             tape: Tape::new(),
             output: Output::new(rt),
             made: BTreeMap::new(rt.alloc()),
+            extras: BTreeMap::new(rt.alloc()),
         };
         for path in paths {
             let place = String::from_str(rt.alloc(), folder)?;
@@ -53,6 +57,23 @@ impl<'a> Out<'a> {
         }
         out.walk.settle()?;
         Ok(out)
+    }
+
+    /// Keeps what the volume's files have besides their bytes.
+    pub fn know(&mut self, extras: Extras) {
+        self.extras = extras;
+    }
+
+    /// What a file has besides its bytes.
+    pub(crate) fn extra_of(&self, facts: &Facts) -> Extra {
+        let found = match u32::try_from(facts.id) {
+            Ok(id) => self.extras.get(&id),
+            Err(_) => None,
+        };
+        match found {
+            Some(extra) => *extra,
+            None => Extra::none(),
+        }
     }
 
     /// Ends the work: folders get their modes and dates, and standard output what is left for it. Where the volume was served to the end, an

@@ -4,6 +4,7 @@ use crate::moment::moment;
 use crate::path_of;
 use crate::shown::{shown_path, word_of_name};
 use files_talk::Facts;
+use salvage_tree::Extra;
 use std::alloc::{AllocError, Global};
 use std::process::Abort;
 use std::test::Fail;
@@ -79,7 +80,7 @@ fn line(alloc: Global, mode: u32) -> Result<String, AllocError> {
         created: 0,
         changed: 3_782_844_800,
     };
-    list_line(alloc, "/a", &facts, true)
+    list_line(alloc, "/a", &facts, &Extra::none(), true)
 }
 
 #[test]

@@ -38,6 +38,8 @@ pub(crate) struct Current {
     pub(crate) facts: Facts,
     /// Whether its bytes are written; else they are passed over.
     pub(crate) whole: bool,
+    /// Of a symbolic link that is taken out, as much as was heard of the path to which it leads.
+    pub(crate) target: Option<Vec<u8>>,
     /// Where the next piece of it begins.
     pub(crate) from: u64,
 }

@@ -25,7 +25,7 @@ use Rattle.hfs_serving.specs.Grounds.{anchor_of}
 use Rattle.hfs_serving.specs.Opening.{MayServe, Opens}
 use Rattle.hfs_serving.specs.Outside.{Outside, outside_of}
 use Rattle.hfs_serving.specs.Readying.{IsVersioned, mounted_plan}
-use Rattle.hfs_serving.specs.Runs.{Crashes, IsMarked, KeepsPlace, LeadsToRest, Serves, StandsAs}
+use Rattle.hfs_serving.specs.Runs.{Crashes, IsMarked, KeepsPlace, LeadsToRest, Serves, StandsAs, plain_answers}
 use Rattle.hfs_serving.specs.Stages.{Turns}
 use Rattle.hfs_language.specs.declared.reply.Change.{Change}
 use Rattle.hfs_serving.specs.Steps.{ServesStep, stop_of}
@@ -37,13 +37,15 @@ use Rattle.hfs_serving.specs.declared.telling.Stop.TheVariants as stop
 use Rattle.hfs_serving.proofs.Attached.{mount_serves}
 use Rattle.hfs_serving.proofs.Causes.{the_fault}
 use Rattle.hfs_serving.proofs.Grounding.{outside_by}
-use Rattle.hfs_serving.proofs.Lists.{replies_of-none, shrunk_in-none}
+use Rattle.hfs_serving.proofs.Lists.{shrunk_in-none}
 use Rattle.hfs_serving.proofs.Leading.{leads_to_rest, place_both, tidies_of}
-use Rattle.hfs_serving.proofs.Mounting.{found_in_run, keeps_promises, promises_all}
+use Rattle.hfs_serving.proofs.Mounting.{found_in_run, plain_keeps, promises_all}
+use Rattle.hfs_serving.proofs.Plain.{served_plain}
 use Rattle.hfs_serving.proofs.Promising.{finds_by}
 use Rattle.hfs_serving.proofs.Served.{finds_mounted}
-use Rattle.hfs_serving.proofs.Staging.{mark_stage_crashes}
-use Rattle.hfs_serving.proofs.Stretches.{crashes_both, serves_crashes}
+use Rattle.hfs_serving.proofs.Staging.{end_crashes}
+use Rattle.hfs_serving.proofs.Stretches.{plain_crashes_both, serves_crashes}
+use Rattle.hfs_serving.proofs.Texts.{texts_of-none}
 
 -- ---- which ends are final
 
@@ -101,16 +103,16 @@ step_rests count capacity shrunk start old texts knows space new step = record {
 pub answers_ends : (capacity : ℕ) (shrunk : Option ℕ) (start : Content) (old : Outside) (texts : List (List ℕ)) (knows : Knowing) (space : Space) (new : Outside) → ServesStep (length texts) capacity knows start shrunk old texts space new → AnswersStep capacity start shrunk old texts new
 answers_ends capacity shrunk start old texts knows space new step = record {
   run = step.run;
-  crashes = serves_crashes capacity shrunk start old new step.run step.now step.serves;
+  crashes = serves_crashes capacity shrunk start old new step.run (plain_answers step.run) step.now step.serves;
   asked = step.asked ∙ take_all (length texts) texts (omega arith);
-  told = step.serves.told;
+  told = served_plain old.told new.told step.run step.serves.told;
   rested = step_rests (length texts) capacity shrunk start old texts knows space new step;
 }
 
 -- the first of some lines were
 pub answers_front : (count capacity : ℕ) (shrunk : Option ℕ) (start : Content) (old : Outside) (texts : List (List ℕ)) (knows : Knowing) (space : Space) (new : Outside) → ServesStep count capacity knows start shrunk old texts space new → AnswersStep capacity start shrunk old (take count texts) new
 answers_front count capacity shrunk start old texts knows space new step =
-    record { run = step.run; crashes = serves_crashes capacity shrunk start old new step.run step.now step.serves; asked = step.asked; told = step.serves.told; rested = step_rests count capacity shrunk start old texts knows space new step }
+    record { run = step.run; crashes = serves_crashes capacity shrunk start old new step.run (plain_answers step.run) step.now step.serves; asked = step.asked; told = served_plain old.told new.told step.run step.serves.told; rested = step_rests count capacity shrunk start old texts knows space new step }
 
 pub front_heard : (heard : List Change) (count capacity : ℕ) (shrunk : Option ℕ) (start : Content) (old : Outside) (texts : List (List ℕ)) (knows : Knowing) (space : Space) (new : Outside) → ServesHeard 0 heard count capacity knows start shrunk old texts space new → AnswersHeard heard capacity start shrunk old (take count texts) new
 unfolding answers_front
@@ -120,13 +122,9 @@ front_heard heard count capacity shrunk start old texts knows space new step = (
 pub answers_finish : (capacity : ℕ) (start : Content) (old mid new : Outside) (texts : List (List ℕ)) (knows : Knowing) (space : Space) (step : ServesStep (length texts) capacity knows start None old texts space mid) → Finishes step.now mid new → AnswersStep capacity start None old texts new
 answers_finish capacity start old mid new texts knows space step finishes = record {
   run = step.run;
-  crashes =
-      let no_more : length step.run + 0 ≡ length step.run = omega arith in
-      subst (λ (n : ℕ). Crashes capacity None start old step.run n new) no_more
-      (subst (λ (r : List Entry). Crashes capacity None start old r (length step.run + 0) new) (append-nil step.run)
-      (crashes_both capacity None start old mid new step.run [] step.now step.serves 0 (mark_stage_crashes capacity (shrunk_in None step.run) step.now finishes.ended mid new finishes.turns.may (inr (inr finishes.sets)) finishes.place)));
+  crashes = end_crashes capacity None start step.run (plain_answers step.run) step.now finishes.ended old mid new step.serves (inr (inr finishes.sets)) finishes.place finishes.turns.may;
   asked = step.asked ∙ take_all (length texts) texts (omega arith);
-  told = finishes.turns.may.told ∙ step.serves.told;
+  told = finishes.turns.may.told ∙ served_plain old.told mid.told step.run step.serves.told;
   rested = record { last = step.now; rests = step.rests; stood = finishes.ended; marked = inr (inr finishes.sets); place = place_both start step.now finishes.ended step.rests.place finishes.place; leaves = finishes.turns.leaves };
 }
 
@@ -140,13 +138,13 @@ pub answers_seen : {heard : List Change} (capacity : ℕ) (start : Content) (pla
 answers_seen {heard} capacity start plan plan_new before new texts same step = subst (λ (f : Content → Content). AnswersHeard heard capacity start None before texts (outside_by f new)) (finds_by plan_new plan same) step
 
 -- a mount before it
-pub answers_joins : (capacity : ℕ) (start now : Content) (texts : List (List ℕ)) (before mid after : Outside) → Serves capacity None start before [] now mid → AnswersStep capacity now None mid texts after → AnswersStep capacity start None before texts after
+pub answers_joins : (capacity : ℕ) (start now : Content) (texts : List (List ℕ)) (before mid after : Outside) → Serves capacity None start before [] [] now mid → AnswersStep capacity now None mid texts after → AnswersStep capacity start None before texts after
 answers_joins capacity start now texts before mid after mounts step = record {
   run = step.run;
   crashes =
       let no_more : 0 + length step.run ≡ length step.run = omega arith in
-      subst (λ (n : ℕ). Crashes capacity None start before step.run n after) no_more
-      (crashes_both capacity None start before mid after [] step.run now mounts (length step.run) (subst (λ (s : Option ℕ). Crashes capacity s now mid step.run (length step.run) after) (sym (shrunk_in-none None)) step.crashes));
+      subst (λ (n : ℕ). Crashes capacity None start before step.run (plain_answers step.run) n after) no_more
+      (plain_crashes_both capacity None start before mid after [] step.run now mounts (length step.run) (subst (λ (s : Option ℕ). Crashes capacity s now mid step.run (plain_answers step.run) (length step.run) after) (sym (shrunk_in-none None)) step.crashes));
   asked = step.asked;
   rested =
       let it = step.rested in
@@ -158,10 +156,10 @@ answers_joins capacity start now texts before mid after mounts step = record {
         place = place_both start now it.stood mounts.leads.place it.place;
         leaves = it.leaves;
       };
-  told = step.told ∙ ap (λ (l : List ℕ). l ++ replies_of step.run) (mounts.told ∙ ap (λ (l : List ℕ). before.told ++ l) replies_of-none ∙ append-nil before.told);
+  told = step.told ∙ ap (λ (l : List ℕ). l ++ replies_of step.run) (mounts.told ∙ ap (λ (l : List ℕ). before.told ++ l) texts_of-none ∙ append-nil before.told);
 }
 
-joins_heard : {heard : List Change} (capacity : ℕ) (start now : Content) (texts : List (List ℕ)) (before mid after : Outside) → Serves capacity None start before [] now mid → AnswersHeard heard capacity now None mid texts after → AnswersHeard heard capacity start None before texts after
+joins_heard : {heard : List Change} (capacity : ℕ) (start now : Content) (texts : List (List ℕ)) (before mid after : Outside) → Serves capacity None start before [] [] now mid → AnswersHeard heard capacity now None mid texts after → AnswersHeard heard capacity start None before texts after
 unfolding answers_joins
 joins_heard capacity start now texts before mid after mounts step = (answers_joins capacity start now texts before mid after mounts step.0, step.1)
 
@@ -220,8 +218,8 @@ pub answers_rig : (law : AsideIsFree) (capacity : ℕ) (start : Content) (plan :
 answers_rig law capacity start plan old new texts only_now starts sound may source source_new taken step = record {
   run = step.run;
   keeps =
-      keeps_promises law capacity start old source step.run (length step.run) new source_new sound
-      (promises_all law plan capacity start old new step.run (length step.run) step.crashes starts only_now sound may source source_new (λ tells. taken_all source source_new texts step.run step.asked (taken tells)));
+      plain_keeps capacity start old source step.run (length step.run) new source_new (promises_all law plan capacity start old new step.run (plain_answers step.run) (length step.run) step.crashes starts only_now sound may)
+      (λ tells. taken_all source source_new texts step.run step.asked (taken tells));
   asked = step.asked;
   told = step.told;
   rested = λ image is.

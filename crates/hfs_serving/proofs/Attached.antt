@@ -71,7 +71,7 @@ mark_from start version begun sets marks = record {
 module _ (capacity : ℕ) (start now : Content) (first mid : Outside) (place : KeepsPlace start now) (turns : Turns start now first mid) where
   -- ended before the first line
   module _ (last : Outside) where
-    version_stops : SetsVersion start now → MayBegin now mid last → Crashes capacity None start first [] 0 last
+    version_stops : SetsVersion start now → MayBegin now mid last → Crashes capacity None start first [] [] 0 last
     version_stops sets begin = ⊎_elim
         (λ (same : begin.begun ≡ now).
         let still : MayTurn now now mid last = subst (λ (x : Content). MayTurn now x mid last) same begin.may in
@@ -88,32 +88,32 @@ module _ (capacity : ℕ) (start now : Content) (first mid : Outside) (place : K
           told = still.told ∙ turns.may.told;
         }
 
-    same_stops : now ≡ start → MayBegin now mid last → Crashes capacity None start first [] 0 last
+    same_stops : now ≡ start → MayBegin now mid last → Crashes capacity None start first [] [] 0 last
     same_stops same begin = by (subst (λ (x : Content). Turns start x first mid) same turns) (subst (λ (x : Content). MayBegin x mid last) same begin)
       where
-        by : Turns start start first mid → MayBegin start mid last → Crashes capacity None start first [] 0 last
+        by : Turns start start first mid → MayBegin start mid last → Crashes capacity None start first [] [] 0 last
         by stays begins = ⊎_elim
             (λ (still : begins.begun ≡ start). tidy_stage_crashes capacity None start start first last (may_on start start first mid last stays (subst (λ (x : Content). MayTurn start x mid last) still begins.may)) (no_step start) (place_none start))
             (λ marks. tidy_stage_crashes capacity None start begins.begun first last (may_on start begins.begun first mid last stays begins.may) (one_step start begins.begun begins.begun (inr (inr (inr (inr marks)))) (no_step begins.begun)) begins.place)
             begins.marked
 
-    pub mount_stops : IsVersioned start now → MayBegin now mid last → Crashes capacity None start first [] 0 last
+    pub mount_stops : IsVersioned start now → MayBegin now mid last → Crashes capacity None start first [] [] 0 last
     mount_stops (inl same) begin = same_stops same begin
     mount_stops (inr sets) begin = version_stops sets begin
 
   -- or the run was begun
   module _ (knows : Knowing) (space : Space) (last : Outside) (begins : BeginsRun capacity knows now None mid space last) where
-    same_serves : now ≡ start → Serves capacity None start first [] begins.begun last
+    same_serves : now ≡ start → Serves capacity None start first [] [] begins.begun last
     same_serves same =
         tidy_stage_serves capacity None start begins.begun first last
         (turns_on start begins.begun first mid last (subst (λ (x : Content). Turns start x first mid) same turns) (subst (λ (x : Content). Turns x begins.begun mid last) same begins.turns))
         (one_step start begins.begun begins.begun (inr (inr (inr (inr (subst (λ (x : Content). MarksHeader x begins.begun) same begins.marks))))) (no_step begins.begun)) (subst (λ (x : Content). KeepsPlace x begins.begun) same begins.place)
 
-    version_serves : SetsVersion start now → Serves capacity None start first [] begins.begun last
+    version_serves : SetsVersion start now → Serves capacity None start first [] [] begins.begun last
     version_serves sets =
         version_stage_serves capacity None start now begins.begun first mid last turns sets place (one_step start begins.begun begins.begun (inr (inr (inr (inr (mark_from start now begins.begun sets begins.marks))))) (no_step begins.begun))
         (place_both start now begins.begun place begins.place) begins.turns
 
-    pub mount_serves : IsVersioned start now → Serves capacity None start first [] begins.begun last
+    pub mount_serves : IsVersioned start now → Serves capacity None start first [] [] begins.begun last
     mount_serves (inl same) = same_serves same
     mount_serves (inr sets) = version_serves sets

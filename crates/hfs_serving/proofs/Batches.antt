@@ -1,4 +1,4 @@
--- A batch: lines are done in memory, one commit makes them durable, watchers and replies are told.
+-- A batch: lines are done in memory, one commit makes them durable, watchers are told, and then the answers.
 use Rattle.std.proofs.Common.{◌≡◌, ◌⊎◌, ◌+◌, [], ◌++◌, ℕ, List, inl, inr, ⊎_elim, length, take, drop, refl, sym, ◌∙◌, ap, subst, arith, length-append, take-append-drop}
 use Rattle.std.specs.Prelude.{Option, None}
 use Rattle.std.proofs.Math.Seq.{take-append-add}
@@ -10,8 +10,8 @@ use Rattle.sector_disk.proofs.Passing.{none_passes, both_pass, passes_with}
 use Rattle.jnl_format.specs.Recovery.{Content}
 use Rattle.hfs_language.specs.declared.command.Command.{Command}
 use Rattle.hfs_volume.specs.Reclaim.{Tidies, none}
-use Rattle.volume_runs.specs.Run.{Entry, IsRunFrom, content_after, shrunk_in, replies_of}
-use Rattle.hfs_serving.specs.Runs.{IsPrefix, StandsAs, Leads, StandsIn, SurvivesFrom, Crashes, Serves}
+use Rattle.volume_runs.specs.Run.{Entry, IsRunFrom, content_after, shrunk_in}
+use Rattle.hfs_serving.specs.Runs.{Answer, AreAnswers, IsPrefix, StandsAs, Leads, StandsIn, SurvivesFrom, Crashes, Serves, texts_of}
 use Rattle.hfs_serving.specs.Outside.{Outside}
 use Rattle.hfs_serving.specs.Serving.{IsDurable, IsRead, IsAsDurable, Touches, MayCommit, IsEither, Commits, TellsOut, IsServing, WasCommitted, StandsWithin, Goes, Stops}
 use Rattle.hfs_serving.proofs.Lists.{content_after-none}
@@ -199,40 +199,42 @@ module _ (capacity : ℕ) (shrunk : Option ℕ) (start : Content) (old : Outside
   within_start run recovered within =
       ⊎_elim (λ stands. stands_on capacity shrunk start [] run 0 recovered (stands_now capacity shrunk start [] start recovered (leads_none capacity shrunk start) stands)) (λ in_run. in_run) within
 
-  -- a fault before anything is told
-  pub stops_crashes : (run : List Entry) (new : Outside) → Stops capacity shrunk start start old run new → Crashes capacity shrunk start old run 0 new
-  stops_crashes run new stops = record {
+  -- a fault before anything is told, whatever the answers would have been
+  pub stops_crashes : (run : List Entry) (answers : List Answer) (new : Outside) → AreAnswers (length run) answers → Stops capacity shrunk start start old run new → Crashes capacity shrunk start old run answers 0 new
+  stops_crashes run answers new are stops = record {
     run_is = stops.run_is;
-    time = passes_with old.clock new.clock _ _ stops.time (λ recovered told p. survives_early capacity shrunk start old.told run recovered told (within_start run recovered p.0) p.1);
-    told = ([], (replies_of run, refl), stops.told ∙ sym (append-nil old.told));
+    are = are;
+    time = passes_with old.clock new.clock _ _ stops.time (λ recovered told p. survives_early capacity shrunk start old.told run answers recovered told are (within_start run recovered p.0) p.1);
+    told = ([], (texts_of answers, refl), stops.told ∙ sym (append-nil old.told));
     few = omega arith;
     knows = λ recovered left. within_start run recovered (stops.leaves recovered left);
   }
 
-  -- All is committed, and watchers know it: then the replies are told.
-  module _ (run : List Entry) (now : Content) (space : Space) (mid after : Outside) (goes : Goes capacity shrunk None start start old run now now space mid) (tells : TellsOut mid (replies_of run) after) where
+  -- All is committed, and watchers know it: then the answers are told.
+  module _ (run : List Entry) (answers : List Answer) (now : Content) (space : Space) (mid after : Outside) (are : AreAnswers (length run) answers) (goes : Goes capacity shrunk None start start old run now now space mid) (tells : TellsOut mid (texts_of answers) after) where
     stands_whole : (recovered : Content) → mid.leaves recovered → StandsIn capacity shrunk start run (length run) recovered
     stands_whole recovered leaves = stands_now capacity shrunk start run now recovered goes.leads (stands_durable now space goes.below recovered (goes.leaves recovered leaves))
 
-    front_of : (told : List ℕ) → ToldPrefix mid.told (replies_of run) told → (w : List ℕ) × IsPrefix w (replies_of run) × (told ≡ old.told ++ w)
+    front_of : (told : List ℕ) → ToldPrefix mid.told (texts_of answers) told → (w : List ℕ) × IsPrefix w (texts_of answers) × (told ≡ old.told ++ w)
     front_of told front = (
-      take front.0 (replies_of run),
-      (drop front.0 (replies_of run), sym (take-append-drop front.0 (replies_of run))),
-      front.2 ∙ ap (λ (l : List ℕ). l ++ take front.0 (replies_of run)) goes.told,
+      take front.0 (texts_of answers),
+      (drop front.0 (texts_of answers), sym (take-append-drop front.0 (texts_of answers))),
+      front.2 ∙ ap (λ (l : List ℕ). l ++ take front.0 (texts_of answers)) goes.told,
     )
 
-    told_time : TimePasses old.clock after.clock (SurvivesFrom capacity shrunk start old.told run)
+    told_time : TimePasses old.clock after.clock (SurvivesFrom capacity shrunk start old.told run answers)
     told_time =
         both_pass old.clock mid.clock after.clock _ _ _ goes.time tells.time
-        (λ recovered told p. survives_early capacity shrunk start old.told run recovered told (within_start run recovered p.0) p.1)
+        (λ recovered told p. survives_early capacity shrunk start old.told run answers recovered told are (within_start run recovered p.0) p.1)
         (λ recovered told p.
         let w = front_of told p.1 in
-        survives_late capacity shrunk start old.told w.0 run recovered told (stands_whole recovered p.0) w.1 w.2)
+        survives_late capacity shrunk start old.told w.0 run answers recovered told are (stands_whole recovered p.0) w.1 w.2)
 
     -- the sink failed
-    pub batch_tells_partly : Crashes capacity shrunk start old run (length run) after
+    pub batch_tells_partly : Crashes capacity shrunk start old run answers (length run) after
     batch_tells_partly = record {
       run_is = goes.leads.run_is;
+      are = are;
       time = told_time;
       told = front_of after.told tells.told;
       few = omega arith;
@@ -240,11 +242,12 @@ module _ (capacity : ℕ) (shrunk : Option ℕ) (start : Content) (old : Outside
     }
 
     -- all was told
-    pub batch_ends : after.told ≡ mid.told ++ replies_of run → Serves capacity shrunk start old run now after
+    pub batch_ends : after.told ≡ mid.told ++ texts_of answers → Serves capacity shrunk start old run answers now after
     batch_ends told = record {
       leads = goes.leads;
+      are = are;
       time = told_time;
-      told = told ∙ ap (λ (l : List ℕ). l ++ replies_of run) goes.told;
+      told = told ∙ ap (λ (l : List ℕ). l ++ texts_of answers) goes.told;
       rests = λ recovered leaves. stands_durable now space goes.below recovered (goes.leaves recovered (tells.leaves recovered leaves));
     }
 

@@ -1,5 +1,5 @@
 -- What calls add to a stretch within a batch, without entries of their own.
-use Rattle.std.proofs.Common.{◌≡◌, ◌+◌, [], ℕ, List, length, sym, subst, arith}
+use Rattle.std.proofs.Common.{[], ℕ, List, sym, subst}
 use Rattle.std.specs.Prelude.{Option}
 use Rattle.std.proofs.lemmas.List.{append-nil}
 use Rattle.sector_disk.specs.Space.{Space}
@@ -7,11 +7,9 @@ use Rattle.jnl_format.specs.Recovery.{Content}
 use Rattle.hfs_language.specs.declared.command.Command.{Command}
 use Rattle.volume_runs.specs.Run.{Entry, IsRunFrom, shrunk_in}
 use Rattle.hfs_serving.specs.Outside.{Outside}
-use Rattle.hfs_serving.specs.Runs.{Crashes, KeepsPlace, Leads, Serves, SetsUnmounted}
+use Rattle.hfs_serving.specs.Runs.{Leads}
 use Rattle.hfs_serving.specs.Serving.{Commits, Goes, MayCommit, Stops, Touches}
-use Rattle.hfs_serving.specs.Stages.{MayTurn}
 use Rattle.hfs_serving.proofs.Batches.{commit_goes, commit_stops, goes_as, stops_as, touch_stops}
-use Rattle.hfs_serving.proofs.Staging.{end_crashes}
 
 module _ (capacity : ℕ) (shrunk : Option ℕ) (committed from : Content) (old : Outside) (run : List Entry) (middle between : Content) (space : Space) (mid : Outside) {asked : Option Command} (goes : Goes capacity shrunk asked committed from old run middle between space mid) where
   abbrev here : Option ℕ
@@ -35,11 +33,3 @@ module _ (capacity : ℕ) (shrunk : Option ℕ) (committed from : Content) (old 
 
   pub commit_stops_here : (after : Outside) → MayCommit space mid after → Stops capacity shrunk committed from old run after
   commit_stops_here after may = stops_here after (commit_stops capacity here middle between mid space goes.below goes.reads after may)
-
--- the end of a run
-pub run_ends : (capacity : ℕ) (shrunk : Option ℕ) (start : Content) (run : List Entry) (now ended : Content) (old mid new : Outside) → Serves capacity shrunk start old run now mid → SetsUnmounted now ended → KeepsPlace now ended → MayTurn now ended mid new
-    → Crashes capacity shrunk start old run (length run) new
-run_ends capacity shrunk start run now ended old mid new serves ends place may =
-    let no_more : length run + 0 ≡ length run = omega arith in
-    subst (λ (n : ℕ). Crashes capacity shrunk start old run n new) no_more
-    (subst (λ (r : List Entry). Crashes capacity shrunk start old r (length run + 0) new) (append-nil run) (end_crashes capacity shrunk start run now ended old mid new serves ends place may))

@@ -1,8 +1,8 @@
 -- A keep of a store and an undo, as a space shows them.
-use Rattle.std.proofs.Common.{◌≡◌, ◌≢◌, ◌⊎◌, ◌<◌, ◌≤◌, ◌+◌, ◌-◌, ℕ, Bool, true, false, List, [], ◌∷◌, inl, inr, ⊎_elim, length, set, get_or, get_or-set_same, get_or-set_other, length-set, refl, sym, ◌∙◌, ap, subst, arith}
+use Rattle.std.proofs.Common.{◌≡◌, ◌≢◌, ◌⊎◌, ◌<◌, ◌-◌, ℕ, Bool, true, false, List, [], ◌∷◌, inl, inr, ⊎_elim, length, set, get_or-set_same, get_or-set_other, length-set, refl, sym, ◌∙◌, ap, subst, arith}
 use Rattle.std.specs.Prelude.{◌==◌, IsTrue, Option, None, Some, if◌then◌else◌}
-use Rattle.std.proofs.lemmas.Bool.{cases_eq, cases_lt, eq-eqb, eqb-true}
-use Rattle.sector_disk.specs.Disk.{State, IsDisk, SameDisk, content}
+use Rattle.std.proofs.lemmas.Bool.{cases_eq, eq-eqb, eqb-true}
+use Rattle.sector_disk.specs.Disk.{State, IsDisk, content}
 use Rattle.sector_disk.specs.Lists.{sector}
 use Rattle.sector_disk.specs.Space.{AgreesOutside}
 use Rattle.sector_disk.proofs.Passing.{none_passes}
@@ -18,7 +18,7 @@ use Rattle.jnl_store.specs.Overlay.{overlay}
 use Rattle.jnl_store.specs.Plan.{IsCapacityOf}
 use Rattle.jnl_store.specs.SpaceLaws.{length-durable, length-overlay}
 use Rattle.jnl_store.specs.Spaces.{over}
-use Rattle.jnl_store.specs.Store.{IsLive, Keeps, KeepsOn, SameButBatch, content_over, durable_of, kept_of, plan_of, puts_of, room_of}
+use Rattle.jnl_store.specs.Store.{Keeps, SameButBatch, content_over, durable_of, kept_of, plan_of, puts_of, room_of}
 use Rattle.jnl_store.specs.declared.puts.Put.{Put}
 use Rattle.jnl_store.specs.declared.store.Store.{Store}
 use Rattle.jnl_store.proofs.Images.{overlay_agrees}

@@ -1,11 +1,9 @@
 -- Runs as lists: what is behind them, and their replies.
-use Rattle.std.proofs.Common.{◌≡◌, ◌<◌, ◌≤◌, ◌+◌, ◌-◌, ◌∷◌, [], ◌++◌, ℕ, List, length, take, refl, sym, ◌∙◌, ap, subst, arith, append_assoc, length-append}
+use Rattle.std.proofs.Common.{◌≡◌, ◌≤◌, ◌∷◌, [], ◌++◌, ℕ, List, length, refl, sym, ◌∙◌, ap, arith, append_assoc, length-append}
 use Rattle.std.specs.Prelude.{Option}
-use Rattle.std.proofs.Math.Seq.{take-append-add}
 use Rattle.std.proofs.lemmas.List.{append_cancel_left}
 use Rattle.jnl_format.specs.Recovery.{Content}
-use Rattle.hfs_language.specs.Text.{reply_text, body_text}
-use Rattle.hfs_language.specs.declared.reply.Reply.{Reply}
+use Rattle.hfs_language.specs.Text.{reply_text}
 use Rattle.volume_runs.specs.Run.{Entry, content_after, shrunk_in, shrunk_after, lines_of, replies_of}
 use Rattle.hfs_serving.specs.Runs.{IsPrefix}
 
@@ -54,16 +52,6 @@ unfolding replies_of
 replies_of-append [] more = refl
 replies_of-append (entry ∷ run) more = ap (λ (l : List ℕ). reply_text entry.reply ++ l) (replies_of-append run more) ∙ sym (append_assoc (reply_text entry.reply) (replies_of run) (replies_of more))
 
-some_text : (reply : Reply) → 0 < length (reply_text reply)
-unfolding reply_text
-some_text reply = omega (arith, length-append (body_text reply) (10 ∷ []))
-
--- each reply has a byte at least
-pub length-replies : (run : List Entry) → length run ≤ length (replies_of run)
-unfolding replies_of
-length-replies [] = omega arith
-length-replies (entry ∷ run) = omega (arith, length-replies run, some_text entry.reply, length-append (reply_text entry.reply) (replies_of run))
-
 -- what a front of some bytes is no longer than
 pub front_length : (front whole : List ℕ) → IsPrefix front whole → length front ≤ length whole
 front_length front whole is = omega (arith, ap (λ (l : List ℕ). length l) is.1, length-append front is.0)
@@ -71,12 +59,3 @@ front_length front whole is = omega (arith, ap (λ (l : List ℕ). length l) is.
 -- a list that begins with another one, behind the same front
 pub front_behind : (a b told : List ℕ) → IsPrefix (a ++ b) (a ++ told) → IsPrefix b told
 front_behind a b told is = (is.0, append_cancel_left a told (b ++ is.0) (is.1 ∙ append_assoc a b is.0))
-
-pub take_past : (run more : List Entry) (k : ℕ) → length run ≤ k → take k (run ++ more) ≡ run ++ take (k - length run) more
-take_past run more k past =
-    let same : length run + (k - length run) ≡ k = omega (arith, past) in
-    subst (λ n. take n (run ++ more) ≡ run ++ take (k - length run) more) same (take-append-add run more (k - length run))
-
-pub take_none : (run : List Entry) → take 0 run ≡ []
-take_none [] = refl
-take_none (entry ∷ run) = refl

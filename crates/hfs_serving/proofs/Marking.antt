@@ -27,7 +27,7 @@ module _ (capacity : ℕ) (knows : Knowing) (start : Content) (shrunk : Option �
   }
 
   -- a fault while it was put
-  pub mark_put_stops : Crashes capacity shrunk start before [] 0 mid
+  pub mark_put_stops : Crashes capacity shrunk start before [] [] 0 mid
   mark_put_stops = tidy_stage_crashes capacity shrunk start start before mid same_turn (no_step start) (place_none start)
 
   pub put_may : MayBegin start before mid
@@ -55,7 +55,7 @@ module _ (capacity : ℕ) (knows : Knowing) (start : Content) (shrunk : Option �
       begun_may = record { begun = marked.begun; marked = inr marked.marks; place = marked.place; may = begun_turn }
 
       -- a commit of it, whatever ended it
-      pub mark_stops : Crashes capacity shrunk start before [] 0 after
+      pub mark_stops : Crashes capacity shrunk start before [] [] 0 after
       mark_stops = tidy_stage_crashes capacity shrunk start marked.begun before after begun_turn tidies marked.place
 
     pub mark_begins : (knows_new : Knowing) (last : Space) (after : Outside) → Commits new mid last after → Stays knows_new marked.begun marked.begun shrunk last → BeginsRun capacity knows_new start shrunk before last after

@@ -1,5 +1,5 @@
 -- An image made ready, whatever its content is: what the replay and the version leave of it.
-use Rattle.std.proofs.Common.{◌≡◌, ◌≢◌, ◌⊎◌, ◌<◌, ◌/◌, ◌*◌, ℕ, Bool, true, false, List, [], ◌∷◌, inl, inr, ⊎_elim, length, refl, sym, ◌∙◌, ap, subst, arith, eqb, cond}
+use Rattle.std.proofs.Common.{◌≡◌, ◌≢◌, ◌⊎◌, ◌<◌, ◌/◌, ◌*◌, ℕ, Bool, true, false, inl, inr, ⊎_elim, length, refl, sym, ◌∙◌, ap, subst, eqb, cond}
 use Rattle.std.specs.Prelude.{Ok, IsTrue}
 use Rattle.std.proofs.lemmas.Bool.{cases_eq, eqb-true}
 use Rattle.volume_header.specs.Header.{FitsHeader, header_bytes, header_of}

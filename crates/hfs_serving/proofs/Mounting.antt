@@ -17,12 +17,13 @@ use Rattle.hfs_volume.specs.Reclaim.{Tidies, none, one_more, IsTidied, KeepsTree
 use Rattle.volume_runs.specs.Run.{Entry, IsServed, IsRunFrom, asked_by, content_after, shrunk_in, shrunk_after, spelled, tree_after}
 use Rattle.hfs_serving.specs.Outside.{outside_of}
 use Rattle.hfs_serving.specs.Opening.{MayServe, Opens}
-use Rattle.hfs_serving.specs.Runs.{Crashes, IsMarked, StandsAs, StandsIn}
-use Rattle.hfs_serving.specs.Top.{AreTaken, KeepsPromises, KnowsAs, KnowsTo, Promises, SurvivesAs, SurvivesTo}
+use Rattle.hfs_serving.specs.Runs.{Answer, Crashes, IsMarked, StandsAs, StandsIn, plain_answers}
+use Rattle.hfs_serving.specs.Top.{AreTaken, HoldsAnswered, KeepsAnswers, KeepsPromises, KnowsAs, KnowsTo, Promises, SurvivesAs, SurvivesTo}
 use Rattle.hfs_serving.proofs.Bridging.{found_names, found_opens}
 use Rattle.hfs_serving.proofs.Capacities.{holds_at_most}
 use Rattle.hfs_serving.proofs.Heading.{promises_of}
 use Rattle.hfs_serving.proofs.Leading.{tidies_of}
+use Rattle.hfs_serving.proofs.Plain.{answered_by_number, texts_of_plain}
 
 -- each step of housekeeping keeps the tree, and leaves a sound volume
 pub step_keeps : (capacity : ℕ) (shrunk : Option ℕ) (a b : Content) → IsTidied capacity shrunk a b → KeepsTree a b
@@ -125,8 +126,8 @@ module _ (law : AsideIsFree) (capacity : ℕ) (start : Content) (run : List Entr
       )
 
   -- what the server proves of a crash is what users read of it
-  pub survives_tree : (image : Content) (told : List ℕ) → SurvivesAs capacity start run image told → SurvivesTo start run image told
-  survives_tree image told holds = record {
+  pub survives_tree : (answers : List Answer) (image : Content) (told : List ℕ) → SurvivesAs capacity start run answers image told → HoldsAnswered start run answers image told
+  survives_tree answers image told holds = record {
     count = holds.survives.within.count;
     some = holds.survives.within.some;
     mounts = mounts_to image holds.recovered 0 holds.opens holds.survives.within holds.names;
@@ -161,19 +162,39 @@ module _ (law : AsideIsFree) (capacity : ℕ) (start : Content) (run : List Entr
         )
 
 -- what a run promises over contents, it keeps over trees
-pub keeps_promises : (law : AsideIsFree) (capacity : ℕ) (start : Content) (old : State) (source : Stream) (run : List Entry) (known : ℕ) (new : State) (source_new : Stream) → IsSound start → Promises capacity start old source run known new source_new
-    → KeepsPromises capacity start old source run known new source_new
-keeps_promises law capacity start old source run known new source_new sound promises = record {
+pub keeps_answers : (law : AsideIsFree) (capacity : ℕ) (start : Content) (old : State) (run : List Entry) (answers : List Answer) (known : ℕ) (new : State) → IsSound start → Promises capacity start old run answers known new → KeepsAnswers capacity start old run answers known new
+keeps_answers law capacity start old run answers known new sound promises = record {
   run_is = promises.run_is;
-  lines_are = promises.lines_are;
-  crash = λ image told left. survives_tree law capacity start run promises.run_is sound image told (promises.crash image told left);
+  crash = λ image told left. survives_tree law capacity start run promises.run_is sound answers image told (promises.crash image told left);
   told = promises.told;
   knows = λ image is. knows_tree law capacity start run promises.run_is sound known image (promises.knows image is);
 }
 
 -- From what is proved of a stretch: at its start a crash leaves what the image stands for, and since this moment there is no other.
-pub promises_all : (law : AsideIsFree) (plan : Plan) (capacity : ℕ) (start : Content) (old new : State) (run : List Entry) (known : ℕ) → Crashes capacity None start (outside_of plan old) run known (outside_of plan new)
+pub promises_all : (law : AsideIsFree) (plan : Plan) (capacity : ℕ) (start : Content) (old new : State) (run : List Entry) (answers : List Answer) (known : ℕ) → Crashes capacity None start (outside_of plan old) run answers known (outside_of plan new)
     → ((image : Content) → IsImage old.candidates image → StandsAs start (found plan image)) → ((image : Content) (told : List ℕ) → old.clock.left old.clock.moment image told → LeftNow old image told)
-    → IsSound start → MayServe plan capacity start → (source source_new : Stream) → (IsTrue source.tells → AreTaken source run source_new) → Promises capacity start old source run known new source_new
-promises_all law plan capacity start old new run known crashes starts only_now sound may source source_new taken =
-    promises_of capacity start plan old new run known crashes starts only_now (found_in_run law capacity start run crashes.run_is sound plan may) source source_new taken
+    → IsSound start → MayServe plan capacity start → KeepsAnswers capacity start old run answers known new
+promises_all law plan capacity start old new run answers known crashes starts only_now sound may =
+    keeps_answers law capacity start old run answers known new sound (promises_of capacity start plan old new run answers known crashes starts only_now (found_in_run law capacity start run crashes.run_is sound plan may))
+
+-- ---- plain lines
+
+pub plain_survives : (start : Content) (run : List Entry) (image : Content) (told : List ℕ) → HoldsAnswered start run (plain_answers run) image told → SurvivesTo start run image told
+plain_survives start run image told holds = record {
+  count = holds.count;
+  some = holds.some;
+  mounts = holds.mounts;
+  front = (holds.front.0, sym (texts_of_plain 0 run) ∙ holds.front.1);
+  answered = λ k some front. let there = answered_by_number told holds.count run [] 0 (λ _. omega arith) holds.answered k some front in omega (arith, there);
+}
+
+-- what users read of a run of them is what it keeps by its answers
+pub plain_keeps : (capacity : ℕ) (start : Content) (old : State) (source : Stream) (run : List Entry) (known : ℕ) (new : State) (source_new : Stream) → KeepsAnswers capacity start old run (plain_answers run) known new → (IsTrue source.tells → AreTaken source run source_new)
+    → KeepsPromises capacity start old source run known new source_new
+plain_keeps capacity start old source run known new source_new keeps taken = record {
+  run_is = keeps.run_is;
+  lines_are = taken;
+  crash = λ image told left. plain_survives start run image told (keeps.crash image told left);
+  told = let w = keeps.told in (w.0, (w.1.0, sym (texts_of_plain 0 run) ∙ w.1.1), w.2);
+  knows = keeps.knows;
+}

@@ -9,14 +9,14 @@ use Rattle.jnl_format.specs.Recovery.{Content}
 use Rattle.jnl_replay.specs.declared.plan.Plan.{Plan}
 use Rattle.jnl_store.specs.Spaces.{found}
 use Rattle.hfs_volume.specs.Aside.{AsideIsFree}
-use Rattle.volume_runs.specs.Run.{Entry, lines_of, shrunk_in}
+use Rattle.volume_runs.specs.Run.{Entry, lines_of}
 use Rattle.hfs_volume.specs.Sound.{IsSound}
 use Rattle.hfs_serving.specs.Closing.{Finishes, MayFinish}
 use Rattle.hfs_serving.specs.Going.{Knowing, Stands}
 use Rattle.hfs_serving.specs.Grounds.{anchor_of}
 use Rattle.hfs_serving.specs.Opening.{MayServe}
 use Rattle.hfs_serving.specs.Outside.{Outside, outside_of}
-use Rattle.hfs_serving.specs.Runs.{Crashes, Serves, StandsAs}
+use Rattle.hfs_serving.specs.Runs.{Crashes, Serves, StandsAs, plain_answers}
 use Rattle.hfs_language.specs.declared.reply.Change.{Change}
 use Rattle.hfs_serving.specs.Steps.{CrashesStep, EndsRun, KeepsRun, ServesStep}
 use Rattle.hfs_serving.specs.Watching.{CrashesHeard, HeardOf, KeepsHeard, ServesHeard}
@@ -28,11 +28,13 @@ use Rattle.line_source.proofs.Cuts.{front_cut, none_left}
 use Rattle.hfs_serving.proofs.Agreeing.{stands_durable}
 use Rattle.hfs_serving.proofs.Bridging.{found_by}
 use Rattle.hfs_serving.proofs.Grounding.{outside_by}
-use Rattle.hfs_serving.proofs.Lists.{replies_of-none, shrunk_in-none}
-use Rattle.hfs_serving.proofs.Mounting.{keeps_promises, promises_all}
-use Rattle.hfs_serving.proofs.Staging.{mark_stage_crashes}
+use Rattle.hfs_serving.proofs.Lists.{shrunk_in-none}
+use Rattle.hfs_serving.proofs.Mounting.{plain_keeps, promises_all}
+use Rattle.hfs_serving.proofs.Plain.{served_plain, told_plain}
+use Rattle.hfs_serving.proofs.Staging.{end_crashes}
 use Rattle.hfs_serving.proofs.Stepping.{whole_heard}
-use Rattle.hfs_serving.proofs.Stretches.{crashes_both}
+use Rattle.hfs_serving.proofs.Stretches.{plain_crashes_both}
+use Rattle.hfs_serving.proofs.Texts.{texts_of-none}
 
 -- what a mount finds hangs on the anchor alone
 pub finds_by : (a b : Plan) → anchor_of a ≡ anchor_of b → found a ≡ found b
@@ -74,9 +76,8 @@ keeps_from law capacity start plan old new texts only_now starts sound may sourc
   run = step.run;
   known = step.known;
   keeps =
-      keeps_promises law capacity start old source step.run step.known new source_new sound
-      (promises_all law plan capacity start old new step.run step.known step.crashes starts only_now sound may source source_new
-      (λ tells. are_taken source source_new texts step.run step.count step.asked (taken tells)));
+      plain_keeps capacity start old source step.run step.known new source_new (promises_all law plan capacity start old new step.run (plain_answers step.run) step.known step.crashes starts only_now sound may)
+      (λ tells. are_taken source source_new texts step.run step.count step.asked (taken tells));
 }
 
 pub keeps_heard : {heard : List Change} (law : AsideIsFree) (capacity : ℕ) (start : Content) (plan : Plan) (old new : State) (texts : List (List ℕ)) → ((image : Content) (told : List ℕ) → old.clock.left old.clock.moment image told → LeftNow old image told)
@@ -99,24 +100,24 @@ crash_keeps law capacity start plan plan_new old new texts knows space same only
     (crash_seen capacity start plan plan_new (outside_of plan old) new texts same step)
 
 -- a mount before the run
-pub mount_joins : (capacity : ℕ) (start now : Content) (texts : List (List ℕ)) (before mid after : Outside) → Serves capacity None start before [] now mid → CrashesStep capacity now None mid texts after → CrashesStep capacity start None before texts after
+pub mount_joins : (capacity : ℕ) (start now : Content) (texts : List (List ℕ)) (before mid after : Outside) → Serves capacity None start before [] [] now mid → CrashesStep capacity now None mid texts after → CrashesStep capacity start None before texts after
 mount_joins capacity start now texts before mid after mounts step = record {
   run = step.run;
   known = step.known;
   count = step.count;
   crashes =
       let no_more : 0 + step.known ≡ step.known = omega arith in
-      subst (λ (n : ℕ). Crashes capacity None start before step.run n after) no_more
-      (crashes_both capacity None start before mid after [] step.run now mounts step.known (subst (λ (s : Option ℕ). Crashes capacity s now mid step.run step.known after) (sym (shrunk_in-none None)) step.crashes));
+      subst (λ (n : ℕ). Crashes capacity None start before step.run (plain_answers step.run) n after) no_more
+      (plain_crashes_both capacity None start before mid after [] step.run now mounts step.known (subst (λ (s : Option ℕ). Crashes capacity s now mid step.run (plain_answers step.run) step.known after) (sym (shrunk_in-none None)) step.crashes));
   asked = step.asked;
 }
 
-pub mount_heard : {heard : List Change} (capacity : ℕ) (start now : Content) (texts : List (List ℕ)) (before mid after : Outside) → Serves capacity None start before [] now mid → CrashesHeard 0 heard capacity now None mid texts after
+pub mount_heard : {heard : List Change} (capacity : ℕ) (start now : Content) (texts : List (List ℕ)) (before mid after : Outside) → Serves capacity None start before [] [] now mid → CrashesHeard 0 heard capacity now None mid texts after
     → CrashesHeard 0 heard capacity start None before texts after
 unfolding mount_joins
 mount_heard {heard} capacity start now texts before mid after mounts step = (
   mount_joins capacity start now texts before mid after mounts step.0,
-  subst (λ (t : List ℕ). HeardOf 0 heard step.0.run step.0.known t after.told) (mounts.told ∙ ap (λ (l : List ℕ). before.told ++ l) replies_of-none ∙ append-nil before.told) step.1,
+  subst (λ (t : List ℕ). HeardOf 0 heard step.0.run step.0.known t after.told) (mounts.told ∙ ap (λ (l : List ℕ). before.told ++ l) texts_of-none ∙ append-nil before.told) step.1,
 )
 
 -- the end behind the last batch, whatever ended it
@@ -125,11 +126,7 @@ finish_crashes capacity start old mid new lines count knows space step may = rec
   run = step.run;
   known = length step.run;
   count = count;
-  crashes =
-      let no_more : length step.run + 0 ≡ length step.run = omega arith in
-      subst (λ (n : ℕ). Crashes capacity None start old step.run n new) no_more
-      (subst (λ (r : List Entry). Crashes capacity None start old r (length step.run + 0) new) (append-nil step.run)
-      (crashes_both capacity None start old mid new step.run [] step.now step.serves 0 (mark_stage_crashes capacity (shrunk_in None step.run) step.now may.ended mid new may.may may.marked may.place)));
+  crashes = end_crashes capacity None start step.run (plain_answers step.run) step.now may.ended old mid new step.serves may.marked may.place may.may;
   asked = step.asked;
 }
 
@@ -138,7 +135,7 @@ pub finish_heard : (heard : List Change) (capacity : ℕ) (start : Content) (old
 unfolding finish_crashes
 finish_heard heard capacity start old mid new lines count knows space step may =
     let ends = finish_crashes capacity start old mid new lines count knows space step.0 may in
-    (ends, whole_heard 0 heard step.0.run old.told new.told step.1 ends.crashes.told)
+    (ends, whole_heard 0 heard step.0.run old.told new.told step.1 (told_plain old.told new.told step.0.run ends.crashes.told))
 
 pub finish_ends : (capacity : ℕ) (start : Content) (old mid new : Outside) (texts : List (List ℕ)) (knows : Knowing) (space : Space) (source : Stream) → (IsTrue source.tells → texts ≡ lines source.left)
     → (step : ServesStep (length texts) capacity knows start None old texts space mid) → Finishes step.now mid new → EndsRun capacity start old source new
@@ -147,7 +144,7 @@ finish_ends capacity start old mid new texts knows space source all step finishe
   asked = λ tells. step.asked ∙ take_all (length texts) texts (omega arith) ∙ all tells;
   now = step.now;
   rests = step.rests;
-  told = finishes.turns.may.told ∙ step.serves.told;
+  told = finishes.turns.may.told ∙ served_plain old.told mid.told step.run step.serves.told;
   ended = finishes.ended;
   sets = finishes.sets;
   leaves = finishes.turns.leaves;

@@ -19,7 +19,7 @@ use Rattle.hfs_volume.specs.Reclaim.{Tidies}
 use Rattle.volume_runs.specs.Rest.{Rests, TidiesFor}
 use Rattle.volume_runs.specs.Run.{DoesLine, Entry, IsAnswered, IsRunFrom, IsServed, LacksMemory, LacksResource, asked_by, content_after, is_ok, lines_of, or_before, replies_of, reply_to, shrunk_after, shrunk_by, shrunk_in, spelled}
 use Rattle.hfs_serving.specs.Outside.{Outside}
-use Rattle.hfs_serving.specs.Runs.{Crashes, IsPrefix, Leads, LeadsToRest, Serves, StandsIn, Survives, SurvivesFrom}
+use Rattle.hfs_serving.specs.Runs.{Answer, AreAnswers, Crashes, Leads, LeadsToRest, Serves, StandsIn, Survives, SurvivesFrom, plain_answers, replies_from}
 use Rattle.line_source.specs.Batch.{held}
 
 -- ---- one line
@@ -97,6 +97,13 @@ unfolding relabel replies_of with_text
 relabel_replies [] texts holds = refl
 relabel_replies (entry ∷ run) [] holds = absurd (cc holds)
 relabel_replies (entry ∷ run) (text ∷ texts) holds = ap (λ (l : List ℕ). reply_text entry.reply ++ l) (relabel_replies run texts (rest_held entry run text texts holds))
+
+pub relabel_answers : (before : ℕ) (run : List Entry) (texts : List (List ℕ)) → Holds run texts → replies_from before (relabel run texts) ≡ replies_from before run
+unfolding relabel with_text
+relabel_answers before [] texts holds = refl
+relabel_answers before (entry ∷ run) [] holds = absurd (cc holds)
+relabel_answers before (entry ∷ run) (text ∷ texts) holds =
+    ap (λ (l : List Answer). record { text = reply_text entry.reply; upto = before + 1 } ∷ l) (relabel_answers (before + 1) run texts (rest_held entry run text texts holds))
 
 changes_text : (entry : Entry) (text : List ℕ) → entry.line ≡ take (most_bytes + 1) text → (number : ℕ) → changes_by number (with_text entry text) ≡ changes_by number entry
 unfolding with_text
@@ -198,35 +205,40 @@ module _ (capacity : ℕ) (shrunk : Option ℕ) (start : Content) (run : List En
     stands = within.stands;
   }
 
-  prefix_text : (w : List ℕ) → IsPrefix w (replies_of run) → IsPrefix w (replies_of (relabel run texts))
-  prefix_text w front = subst (λ (l : List ℕ). IsPrefix w l) (sym (relabel_replies run texts holds)) front
-
-  survives_text : (recovered : Content) (told : List ℕ) → Survives capacity shrunk start run recovered told → Survives capacity shrunk start (relabel run texts) recovered told
+  survives_text : (answers : List Answer) (recovered : Content) (told : List ℕ) → Survives capacity shrunk start run answers recovered told → Survives capacity shrunk start (relabel run texts) answers recovered told
   unfolding stands_text
-  survives_text recovered told survives = record {
-    within = stands_text 0 recovered survives.within;
-    front = prefix_text told survives.front;
-    answered = λ k some front.
-        survives.answered k (omega (arith, some, relabel_length run texts holds))
-        (subst (λ (l : List ℕ). IsPrefix l told) (ap replies_of (relabel_take k run texts) ∙ relabel_replies (take k run) (take k texts) (holds_take k run texts holds)) front);
-  }
+  survives_text answers recovered told survives = record { within = stands_text 0 recovered survives.within; front = survives.front; answered = survives.answered }
 
-  survives_from : (before : List ℕ) (recovered : Content) (told : List ℕ) → SurvivesFrom capacity shrunk start before run recovered told → SurvivesFrom capacity shrunk start before (relabel run texts) recovered told
-  survives_from before recovered told survives = (survives.0, survives.1, survives_text recovered survives.0 survives.2)
+  survives_from : (answers : List Answer) (before : List ℕ) (recovered : Content) (told : List ℕ) → SurvivesFrom capacity shrunk start before run answers recovered told → SurvivesFrom capacity shrunk start before (relabel run texts) answers recovered told
+  survives_from answers before recovered told survives = (survives.0, survives.1, survives_text answers recovered survives.0 survives.2)
 
-  pub serves_text : (old new : Outside) (now : Content) → Serves capacity shrunk start old run now new → Serves capacity shrunk start old (relabel run texts) now new
-  serves_text old new now serves = record {
+  are_text : (answers : List Answer) → AreAnswers (length run) answers → AreAnswers (length (relabel run texts)) answers
+  are_text answers are = subst (λ (n : ℕ). AreAnswers n answers) (sym (relabel_length run texts holds)) are
+
+  serves_by : (old new : Outside) (answers : List Answer) (now : Content) → Serves capacity shrunk start old run answers now new → Serves capacity shrunk start old (relabel run texts) answers now new
+  serves_by old new answers now serves = record {
     leads = leads_text now serves.leads;
-    time = passes_with old.clock new.clock (SurvivesFrom capacity shrunk start old.told run) (SurvivesFrom capacity shrunk start old.told (relabel run texts)) serves.time (λ image told. survives_from old.told image told);
-    told = serves.told ∙ ap (λ (l : List ℕ). old.told ++ l) (sym (relabel_replies run texts holds));
+    are = are_text answers serves.are;
+    time = passes_with old.clock new.clock _ _ serves.time (λ image told. survives_from answers old.told image told);
+    told = serves.told;
     rests = serves.rests;
   }
 
-  pub crashes_text : (old new : Outside) (known : ℕ) → Crashes capacity shrunk start old run known new → Crashes capacity shrunk start old (relabel run texts) known new
-  crashes_text old new known crashes = record {
+  crashes_by : (old new : Outside) (answers : List Answer) (known : ℕ) → Crashes capacity shrunk start old run answers known new → Crashes capacity shrunk start old (relabel run texts) answers known new
+  crashes_by old new answers known crashes = record {
     run_is = relabel_run capacity shrunk start run texts holds crashes.run_is;
-    time = passes_with old.clock new.clock (SurvivesFrom capacity shrunk start old.told run) (SurvivesFrom capacity shrunk start old.told (relabel run texts)) crashes.time (λ image told. survives_from old.told image told);
-    told = (crashes.told.0, prefix_text crashes.told.0 crashes.told.1, crashes.told.2);
+    are = are_text answers crashes.are;
+    time = passes_with old.clock new.clock _ _ crashes.time (λ image told. survives_from answers old.told image told);
+    told = crashes.told;
     few = omega (arith, crashes.few, relabel_length run texts holds);
     knows = λ recovered left. stands_text known recovered (crashes.knows recovered left);
   }
+
+  -- of plain lines
+  pub serves_text : (old new : Outside) (now : Content) → Serves capacity shrunk start old run (plain_answers run) now new → Serves capacity shrunk start old (relabel run texts) (plain_answers (relabel run texts)) now new
+  serves_text old new now serves =
+      subst (λ (a : List Answer). Serves capacity shrunk start old (relabel run texts) a now new) (sym (relabel_answers 0 run texts holds)) (serves_by old new (plain_answers run) now serves)
+
+  pub crashes_text : (old new : Outside) (known : ℕ) → Crashes capacity shrunk start old run (plain_answers run) known new → Crashes capacity shrunk start old (relabel run texts) (plain_answers (relabel run texts)) known new
+  crashes_text old new known crashes =
+      subst (λ (a : List Answer). Crashes capacity shrunk start old (relabel run texts) a known new) (sym (relabel_answers 0 run texts holds)) (crashes_by old new (plain_answers run) known crashes)

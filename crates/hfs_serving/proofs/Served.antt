@@ -47,6 +47,7 @@ use Rattle.hfs_serving.proofs.Grounding.{outside_by}
 use Rattle.hfs_serving.proofs.Leading.{place_none}
 use Rattle.hfs_serving.proofs.Lists.{content_after-none, replies_of-none}
 use Rattle.hfs_serving.proofs.Mounting.{keeps_case}
+use Rattle.hfs_serving.proofs.Plain.{told_plain}
 use Rattle.hfs_serving.proofs.Promising.{finds_by, mount_heard}
 use Rattle.hfs_serving.proofs.Recoveries.{recovery_parts}
 use Rattle.hfs_serving.proofs.Replays.{journal_lies}
@@ -56,8 +57,8 @@ use Rattle.hfs_serving.proofs.Versions.{found_like}
 
 -- ---- ended before the first line
 
-no_line : (capacity : ℕ) (start : Content) (old new : Outside) → Crashes capacity None start old [] 0 new → CrashesHeard 0 [] capacity start None old [] new
-no_line capacity start old new crashes = (record { run = []; known = 0; count = 0; crashes = crashes; asked = refl }, record { changes = changes_in-none 0; behind = crashes.told })
+no_line : (capacity : ℕ) (start : Content) (old new : Outside) → Crashes capacity None start old [] [] 0 new → CrashesHeard 0 [] capacity start None old [] new
+no_line capacity start old new crashes = (record { run = []; known = 0; count = 0; crashes = crashes; asked = refl }, record { changes = changes_in-none 0; behind = told_plain old.told new.told [] crashes.told })
 
 module _ (capacity : ℕ) (start now : Content) (plan : Plan) (first disk : State) (versioned : IsVersioned start now) (place : KeepsPlace start now) (turns : Turns start now (outside_of plan first) (outside_of plan disk)) where
   stop_here : (last : State) → MayBegin now (outside_of plan disk) (outside_of plan last) → CrashesHeard 0 [] capacity start None (outside_of plan first) [] (outside_of plan last)
@@ -102,7 +103,7 @@ pub versioned_sound : (start now : Content) → IsVersioned start now → IsSoun
 versioned_sound start now (inl same) sound = subst IsSound (sym same) sound
 versioned_sound start now (inr sets) sound = sets.keeps.sound
 
-ready_crashes : (capacity : ℕ) (start now : Content) (old new : Outside) → IsVersioned start now → KeepsPlace start now → MayTurn start now old new → Crashes capacity None start old [] 0 new
+ready_crashes : (capacity : ℕ) (start now : Content) (old new : Outside) → IsVersioned start now → KeepsPlace start now → MayTurn start now old new → Crashes capacity None start old [] [] 0 new
 ready_crashes capacity start now old new (inl same) place may =
     tidy_stage_crashes capacity None start start old new (subst (λ (x : Content). MayTurn start x old new) same may) (no_step start) (place_none start)
 ready_crashes capacity start now old new (inr sets) place may = mark_stage_crashes capacity None start now old new may (inr (inl sets)) place

@@ -5,7 +5,7 @@ use Rattle.std.proofs.Math.Seq.{take-append-add}
 use Rattle.hfs_language.specs.declared.reply.Change.{Change}
 use Rattle.volume_runs.specs.Told.{changes_in}
 use Rattle.hfs_serving.specs.Said.{untold}
-use Rattle.hfs_serving.specs.Runs.{IsPrefix}
+use Rattle.hfs_serving.specs.Runs.{IsPrefix, plain_answers, texts_of}
 use Rattle.hfs_serving.specs.Watching.{CrashesHeard, HeardOf, ServesHeard}
 use Rattle.hfs_serving.specs.declared.volume.ToTell.{ToTell}
 use Rattle.hfs_serving.proofs.Saying.{changes_in-append, changes_in-none}
@@ -21,7 +21,8 @@ use Rattle.hfs_serving.specs.Serving.{TellsOut}
 use Rattle.hfs_serving.specs.Steps.{CrashesStep, IsStill, ServesStep}
 use Rattle.hfs_serving.proofs.Agreeing.{agrees_more, stands_durable}
 use Rattle.hfs_serving.proofs.Lists.{lines_of-append, replies_of-append, shrunk_in-append}
-use Rattle.hfs_serving.proofs.Stretches.{crashes_both, serves_both, serves_crashes, serves_none}
+use Rattle.hfs_serving.proofs.Stretches.{plain_crashes_both, plain_serves_both, serves_crashes, serves_none}
+use Rattle.hfs_serving.proofs.Plain.{plain_are, served_plain, texts_of_plain, told_plain}
 use Rattle.hfs_serving.proofs.Leading.{leads_to_rest}
 use Rattle.hfs_serving.proofs.Batches.{stops_crashes, batch_tells_partly, batch_ends}
 
@@ -59,13 +60,13 @@ still_stands knows knows_new committed now shrunk space new mid after stands sti
 }
 
 module _ (count capacity : ℕ) (shrunk : Option ℕ) (start : Content) (old : Outside) (number : ℕ) (lines : List (List ℕ)) (knows : Knowing) (told : ToTell) (space : Space) (mid : Outside) (batch : ServesBatch count capacity knows start shrunk old number lines untold told space mid) (after : Outside) (tells : TellsOut mid told.replies after) where
-  text_is : told.replies ≡ replies_of batch.whole.run
-  text_is = ap (λ (t : ToTell). t.replies) batch.told ∙ sym (ap (λ (t : ToTell). t.replies) batch.whole.told)
+  text_is : told.replies ≡ texts_of (plain_answers batch.whole.run)
+  text_is = ap (λ (t : ToTell). t.replies) batch.told ∙ sym (ap (λ (t : ToTell). t.replies) batch.whole.told) ∙ sym (texts_of_plain 0 batch.whole.run)
 
   changes_are : changes_in number batch.whole.run ≡ told.changes
   changes_are = sym (ap (λ (t : ToTell). t.changes) batch.told ∙ sym (ap (λ (t : ToTell). t.changes) batch.whole.told))
 
-  tells_text : TellsOut mid (replies_of batch.whole.run) after
+  tells_text : TellsOut mid (texts_of (plain_answers batch.whole.run)) after
   tells_text = subst (λ (l : List ℕ). TellsOut mid l after) text_is tells
 
   pub step_serves : (knows_new : Knowing) (new : Space) → after.told ≡ mid.told ++ told.replies → IsStill space new → ((committed now : Content) (s : Option ℕ) → knows committed now s → knows_new committed now s) → ServesStep count capacity knows_new start shrunk old lines new after
@@ -75,7 +76,7 @@ module _ (count capacity : ℕ) (shrunk : Option ℕ) (start : Content) (old : O
       record {
         run = whole.run;
         now = whole.now;
-        serves = batch_ends capacity shrunk start old whole.run whole.now space mid after whole.goes tells_text (is_told ∙ ap (λ (l : List ℕ). mid.told ++ l) text_is);
+        serves = batch_ends capacity shrunk start old whole.run (plain_answers whole.run) whole.now space mid after (plain_are whole.run) whole.goes tells_text (is_told ∙ ap (λ (l : List ℕ). mid.told ++ l) text_is);
         stands =
             still_stands knows knows_new whole.now whole.now last space new mid after
             (record { known = whole.known; below = whole.goes.below; reads = whole.goes.reads; heads = whole.heads; leaves = whole.goes.leaves }) still (carries whole.now whole.now last) tells.leaves;
@@ -92,20 +93,20 @@ module _ (count capacity : ℕ) (shrunk : Option ℕ) (start : Content) (old : O
     run = batch.whole.run;
     known = length batch.whole.run;
     count = count;
-    crashes = batch_tells_partly capacity shrunk start old batch.whole.run batch.whole.now space mid after batch.whole.goes tells_text;
+    crashes = batch_tells_partly capacity shrunk start old batch.whole.run (plain_answers batch.whole.run) batch.whole.now space mid after (plain_are batch.whole.run) batch.whole.goes tells_text;
     asked = batch.whole.asked;
   }
 
   pub partly_heard : CrashesHeard number told.changes capacity start shrunk old lines after
   unfolding step_tells_partly
-  partly_heard = (step_tells_partly, whole_heard number told.changes batch.whole.run old.told after.told changes_are step_tells_partly.crashes.told)
+  partly_heard = (step_tells_partly, whole_heard number told.changes batch.whole.run old.told after.told changes_are (told_plain old.told after.told batch.whole.run step_tells_partly.crashes.told))
 
 pub step_stops : (capacity : ℕ) (shrunk : Option ℕ) (start : Content) (old : Outside) (lines : List (List ℕ)) (after : Outside) → StopsLines capacity start start shrunk old lines after → CrashesStep capacity start shrunk old lines after
 step_stops capacity shrunk start old lines after stopped = record {
   run = stopped.stops.more;
   known = 0;
   count = stopped.count;
-  crashes = stops_crashes capacity shrunk start old stopped.stops.more after stopped.stops.stops;
+  crashes = stops_crashes capacity shrunk start old stopped.stops.more (plain_answers stopped.stops.more) after (plain_are stopped.stops.more) stopped.stops.stops;
   asked = stopped.stops.asked;
 }
 
@@ -125,7 +126,7 @@ module _ (capacity : ℕ) (shrunk : Option ℕ) (start : Content) (old : Outside
     run = step.run;
     known = length step.run;
     count = count;
-    crashes = serves_crashes capacity shrunk start old new step.run step.now step.serves;
+    crashes = serves_crashes capacity shrunk start old new step.run (plain_answers step.run) step.now step.serves;
     asked = step.asked;
   }
 
@@ -133,14 +134,14 @@ module _ (capacity : ℕ) (shrunk : Option ℕ) (start : Content) (old : Outside
   pub none_heard : (knows : Knowing) (space : Space) → Stands knows start start shrunk space old → CrashesHeard 0 [] capacity start shrunk old lines old
   none_heard knows space stands =
       let serves = serves_none capacity shrunk start old (λ recovered left. stands_durable start space stands.below recovered (stands.leaves recovered left)) in
-      let crashes = serves_crashes capacity shrunk start old old [] start serves in
-      (record { run = []; known = 0; count = 0; crashes = crashes; asked = refl }, whole_heard 0 [] [] old.told old.told (changes_in-none 0) crashes.told)
+      let crashes = serves_crashes capacity shrunk start old old [] [] start serves in
+      (record { run = []; known = 0; count = 0; crashes = crashes; asked = refl }, whole_heard 0 [] [] old.told old.told (changes_in-none 0) (told_plain old.told old.told [] crashes.told))
 
   pub ends_heard : (number : ℕ) (heard : List Change) (count : ℕ) (knows : Knowing) (space : Space) (new : Outside) → ServesHeard number heard count capacity knows start shrunk old lines space new → CrashesHeard number heard capacity start shrunk old lines new
   unfolding step_ends
   ends_heard number heard count knows space new step =
       let ends = step_ends count knows space new step.0 in
-      (ends, whole_heard number heard step.0.run old.told new.told step.1 ends.crashes.told)
+      (ends, whole_heard number heard step.0.run old.told new.told step.1 (told_plain old.told new.told step.0.run ends.crashes.told))
 
   module _ (at : ℕ) (knows : Knowing) (space : Space) (mid : Outside) (first : ServesStep at capacity knows start shrunk old lines space mid) where
     asked_both : (run : List Entry) (count : ℕ) → lines_of run ≡ take count (drop at lines) → lines_of (first.run ++ run) ≡ take (at + count) lines
@@ -151,7 +152,7 @@ module _ (capacity : ℕ) (shrunk : Option ℕ) (start : Content) (old : Outside
     step_both count knows_new new after second = record {
       run = first.run ++ second.run;
       now = second.now;
-      serves = serves_both capacity shrunk start old mid after first.run second.run first.now first.serves second.now second.serves;
+      serves = plain_serves_both capacity shrunk start old mid after first.run second.run first.now first.serves second.now second.serves;
       stands = subst (λ (s : Option ℕ). Stands knows_new second.now second.now s new after) (sym (shrunk_in-append shrunk first.run second.run)) second.stands;
       asked = asked_both second.run count second.asked;
       rests = leads_to_rest capacity shrunk start first.run second.run first.now first.serves.leads None second.now second.rests;
@@ -162,7 +163,7 @@ module _ (capacity : ℕ) (shrunk : Option ℕ) (start : Content) (old : Outside
       run = first.run ++ second.run;
       known = length first.run + second.known;
       count = at + second.count;
-      crashes = crashes_both capacity shrunk start old mid after first.run second.run first.now first.serves second.known second.crashes;
+      crashes = plain_crashes_both capacity shrunk start old mid after first.run second.run first.now first.serves second.known second.crashes;
       asked = asked_both second.run second.count second.asked;
     }
 
@@ -195,7 +196,7 @@ module _ (capacity : ℕ) (shrunk : Option ℕ) (start : Content) (old : Outside
                   w.1.0,
                   ap replies_of both ∙ replies_of-append first.run behind ∙ ap (λ (l : List ℕ). replies_of first.run ++ l) w.1.1 ∙ sym (append_assoc (replies_of first.run) w.0 w.1.0),
                 ),
-                w.2 ∙ ap (λ (l : List ℕ). l ++ w.0) first.serves.told ∙ append_assoc old.told (replies_of first.run) w.0,
+                w.2 ∙ ap (λ (l : List ℕ). l ++ w.0) (served_plain old.told mid.told first.run first.serves.told) ∙ append_assoc old.told (replies_of first.run) w.0,
               );
             },
           )

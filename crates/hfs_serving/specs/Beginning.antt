@@ -25,7 +25,7 @@ pub record BeginsRun (capacity : ℕ) (knows : Knowing) (start : Content) (shrun
   pub marks : MarksHeader start begun
   pub place : KeepsPlace start begun
   pub turns : Turns start begun old new
-  pub serves : Serves capacity shrunk start old [] begun new
+  pub serves : Serves capacity shrunk start old [] [] begun new
   pub stands : Stands knows begun begun shrunk space new
 
 -- The begin of a run, whatever ended it: a crash leaves the content as it was, or with the mark of a mount.

@@ -11,7 +11,7 @@ use Rattle.volume_runs.specs.Rest.{Rests}
 use Rattle.volume_runs.specs.Run.{Entry, IsRun, content_after, lines_of, replies_of, shrunk_in, tree_after}
 use Rattle.hfs_serving.specs.Opening.{Opens}
 use Rattle.hfs_serving.specs.Outside.{Outside}
-use Rattle.hfs_serving.specs.Runs.{Crashes, IsMarked, KeepsPlace, LeadsToRest, StandsAs}
+use Rattle.hfs_serving.specs.Runs.{Crashes, IsMarked, KeepsPlace, LeadsToRest, StandsAs, plain_answers}
 use Rattle.hfs_serving.specs.declared.telling.Stop.{Stop}
 use Rattle.hfs_serving.specs.declared.telling.Stop.TheVariants as stop
 use Rattle.line_source.specs.Input.{SplitsIntoLines, ahead}
@@ -31,7 +31,7 @@ pub record EndsAtRest (capacity : ℕ) (shrunk : Option ℕ) (start : Content) (
 -- Each of these lines was served and answered, housekeeping came to rest behind the last of them, and no crash leaves less from then on.
 pub record AnswersStep (capacity : ℕ) (start : Content) (shrunk : Option ℕ) (old : Outside) (lines : List (List ℕ)) (new : Outside) : Type 0 where
   pub run : List Entry
-  pub crashes : Crashes capacity shrunk start old run (length run) new
+  pub crashes : Crashes capacity shrunk start old run (plain_answers run) (length run) new
   pub asked : lines_of run ≡ lines
   pub told : new.told ≡ old.told ++ replies_of run
   pub rested : EndsAtRest capacity shrunk start run new

@@ -1,9 +1,10 @@
--- A run over stretches of calls, and what a crash leaves of it. What an entry may be, what housekeeping is, and when a volume is sound stand
+-- A run over stretches of calls, what its lines are told, and what a crash leaves of it. What an entry may be, what housekeeping is, and when a volume is sound stand
 -- in the definitions of whole volumes.
-use Rattle.std.specs.Prelude.{◌≡◌, ◌⊎◌, ◌≤◌, ℕ, bit_or, List, ◌++◌, length, take, Option, None}
+use Rattle.std.specs.Prelude.{◌≡◌, ◌⊎◌, ◌<◌, ◌≤◌, ◌+◌, ℕ, bit_or, List, [], ◌∷◌, ◌++◌, length, take, Option, None}
 use Rattle.sector_disk.specs.Clock.{TimePasses}
 use Rattle.sector_disk.specs.Space.{AgreesOutside}
 use Rattle.jnl_format.specs.Recovery.{Content, journaling_version}
+use Rattle.hfs_language.specs.Text.{reply_text}
 use Rattle.hfs_language.specs.declared.command.Command.{Command}
 use Rattle.volume_header.specs.Refusal.{is_locked}
 use Rattle.volume_header.specs.declared.header.VolumeHeader.{VolumeHeader}
@@ -11,7 +12,7 @@ use Rattle.hfs_volume.specs.Aside.{IsAside}
 use Rattle.hfs_volume.specs.Content.{volume_of}
 use Rattle.hfs_volume.specs.Reclaim.{Tidies, KeepsTree}
 use Rattle.volume_runs.specs.Rest.{Rests, TidiesFor}
-use Rattle.volume_runs.specs.Run.{Entry, IsRunFrom, content_after, shrunk_in, replies_of}
+use Rattle.volume_runs.specs.Run.{Entry, IsRunFrom, content_after, shrunk_in}
 use Rattle.hfs_serving.specs.Outside.{Outside}
 
 -- the one list begins with the other
@@ -66,6 +67,42 @@ pub record SetsUnmounted (old new : Content) : Type 0 where
 abbrev pub IsMarked : Content → Content → Type 0
 IsMarked old new = (new ≡ old) ⊎ SetsVersion old new ⊎ SetsUnmounted old new
 
+-- ---- what lines are told
+
+-- What a line is told, and how many entries of the run there are by then: all that were made for this line and for those before it.
+pub record Answer : Type 0 where
+  pub text : List ℕ
+  pub upto : ℕ
+
+-- the texts, one behind the other
+unfoldable pub texts_of : List Answer → List ℕ
+texts_of [] = []
+texts_of (answer ∷ answers) = answer.text ++ texts_of answers
+
+-- of a run of so many entries: each answer has a byte at least, and comes behind some of the entries
+abbrev pub AreAnswers : ℕ → List Answer → Type 0
+AreAnswers most [] = Unit {0}
+AreAnswers most (answer ∷ answers) = (answer.upto ≤ most) × (0 < length answer.text) × AreAnswers most answers
+
+-- Behind these bytes, each answer that was told whole has its entries among the first `count`.
+abbrev pub AreAnswered : List ℕ → List Answer → List ℕ → ℕ → Type 0
+AreAnswered before [] told count = Unit {0}
+AreAnswered before (answer ∷ answers) told count = (IsPrefix (before ++ answer.text) told → answer.upto ≤ count) × AreAnswered (before ++ answer.text) answers told count
+
+-- the answers of a later stretch, before which there were so many entries
+abbrev pub shifted : ℕ → List Answer → List Answer
+shifted before [] = []
+shifted before (answer ∷ answers) = record { text = answer.text; upto = before + answer.upto } ∷ shifted before answers
+
+-- where each line makes one entry and is told its reply, behind so many other entries
+abbrev pub replies_from : ℕ → List Entry → List Answer
+replies_from before [] = []
+replies_from before (entry ∷ run) = record { text = reply_text entry.reply; upto = before + 1 } ∷ replies_from (before + 1) run
+
+-- the same from a run's first line on
+abbrev pub plain_answers : List Entry → List Answer
+plain_answers run = replies_from 0 run
+
 -- ---- what a crash leaves
 
 -- The content after some of the run's entries, the first `least` of them at least, after housekeeping behind them, and maybe with a mark.
@@ -80,31 +117,33 @@ pub record StandsIn (capacity : ℕ) (shrunk : Option ℕ) (start : Content) (ru
   pub place : KeepsPlace start stood
   pub stands : StandsAs stood recovered
 
--- With just these bytes told, a crash left the content after some of the run's entries, among which is each whose reply was told. What was
--- told are replies of the run, in order, the last maybe in part.
-pub record Survives (capacity : ℕ) (shrunk : Option ℕ) (start : Content) (run : List Entry) (recovered : Content) (told : List ℕ) : Type 0 where
+-- With just these bytes told, a crash left the content after some of the run's entries, among which are those of each line that was answered.
+-- What was told are these answers, in order, the last maybe in part.
+pub record Survives (capacity : ℕ) (shrunk : Option ℕ) (start : Content) (run : List Entry) (answers : List Answer) (recovered : Content) (told : List ℕ) : Type 0 where
   pub within : StandsIn capacity shrunk start run 0 recovered
-  pub front : IsPrefix told (replies_of run)
-  pub answered : (k : ℕ) → k ≤ length run → IsPrefix (replies_of (take k run)) told → k ≤ within.count
+  pub front : IsPrefix told (texts_of answers)
+  pub answered : AreAnswered [] answers told within.count
 
 -- what a crash leaves, over all that was told, of which this was told before
-abbrev pub SurvivesFrom : ℕ → Option ℕ → Content → List ℕ → List Entry → Content → List ℕ → Type 0
-SurvivesFrom capacity shrunk start before run recovered told = (w : List ℕ) × (told ≡ before ++ w) × Survives capacity shrunk start run recovered w
+abbrev pub SurvivesFrom : ℕ → Option ℕ → Content → List ℕ → List Entry → List Answer → Content → List ℕ → Type 0
+SurvivesFrom capacity shrunk start before run answers recovered told = (w : List ℕ) × (told ≡ before ++ w) × Survives capacity shrunk start run answers recovered w
 
 -- ---- stretches of calls
 
 -- A stretch that something ended: at every moment of it and at its end. What the first `known` entries changed was told to watchers, and no
 -- crash leaves less from then on.
-pub record Crashes (capacity : ℕ) (shrunk : Option ℕ) (start : Content) (old : Outside) (run : List Entry) (known : ℕ) (new : Outside) : Type 0 where
+pub record Crashes (capacity : ℕ) (shrunk : Option ℕ) (start : Content) (old : Outside) (run : List Entry) (answers : List Answer) (known : ℕ) (new : Outside) : Type 0 where
   pub run_is : IsRunFrom capacity shrunk start run
-  pub time : TimePasses old.clock new.clock (SurvivesFrom capacity shrunk start old.told run)
-  pub told : (w : List ℕ) × IsPrefix w (replies_of run) × (new.told ≡ old.told ++ w)
+  pub are : AreAnswers (length run) answers
+  pub time : TimePasses old.clock new.clock (SurvivesFrom capacity shrunk start old.told run answers)
+  pub told : (w : List ℕ) × IsPrefix w (texts_of answers) × (new.told ≡ old.told ++ w)
   pub few : known ≤ length run
   pub knows : (recovered : Content) → new.leaves recovered → StandsIn capacity shrunk start run known recovered
 
--- A stretch that was served to its end: all replies were told, all changes too, and a crash leaves what the volume stands for now.
-pub record Serves (capacity : ℕ) (shrunk : Option ℕ) (start : Content) (old : Outside) (run : List Entry) (now : Content) (new : Outside) : Type 0 where
+-- A stretch that was served to its end: all answers were told, all changes too, and a crash leaves what the volume stands for now.
+pub record Serves (capacity : ℕ) (shrunk : Option ℕ) (start : Content) (old : Outside) (run : List Entry) (answers : List Answer) (now : Content) (new : Outside) : Type 0 where
   pub leads : Leads capacity shrunk None start run now
-  pub time : TimePasses old.clock new.clock (SurvivesFrom capacity shrunk start old.told run)
-  pub told : new.told ≡ old.told ++ replies_of run
+  pub are : AreAnswers (length run) answers
+  pub time : TimePasses old.clock new.clock (SurvivesFrom capacity shrunk start old.told run answers)
+  pub told : new.told ≡ old.told ++ texts_of answers
   pub rests : (recovered : Content) → new.leaves recovered → StandsAs now recovered

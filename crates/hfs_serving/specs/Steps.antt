@@ -10,7 +10,7 @@ use Rattle.hfs_language.specs.Lines.{lines}
 use Rattle.volume_runs.specs.Run.{Entry, lines_of, replies_of, shrunk_in}
 use Rattle.hfs_serving.specs.Going.{Knowing, Stands}
 use Rattle.hfs_serving.specs.Outside.{Outside}
-use Rattle.hfs_serving.specs.Runs.{Crashes, LeadsToRest, Serves, SetsUnmounted, StandsAs}
+use Rattle.hfs_serving.specs.Runs.{Crashes, LeadsToRest, Serves, SetsUnmounted, StandsAs, plain_answers}
 use Rattle.hfs_serving.specs.Top.{KeepsPromises}
 use Rattle.line_source.specs.declared.input.InputFault.{InputFault}
 use Rattle.line_source.specs.declared.input.InputFault.TheVariants as input
@@ -50,7 +50,7 @@ SomeWhole knows space outside = (capacity : ℕ) × (start : Content) × (shrunk
 pub record ServesStep (count capacity : ℕ) (knows : Knowing) (start : Content) (shrunk : Option ℕ) (old : Outside) (lines : List (List ℕ)) (space : Space) (new : Outside) : Type 0 where
   pub run : List Entry
   pub now : Content
-  pub serves : Serves capacity shrunk start old run now new
+  pub serves : Serves capacity shrunk start old run (plain_answers run) now new
   pub stands : Stands knows now now (shrunk_in shrunk run) space new
   pub asked : lines_of run ≡ take count lines
   pub rests : LeadsToRest capacity shrunk None start run now
@@ -60,7 +60,7 @@ pub record CrashesStep (capacity : ℕ) (start : Content) (shrunk : Option ℕ) 
   pub run : List Entry
   pub known : ℕ
   pub count : ℕ
-  pub crashes : Crashes capacity shrunk start old run known new
+  pub crashes : Crashes capacity shrunk start old run (plain_answers run) known new
   pub asked : lines_of run ≡ take count lines
 
 -- What a run over a rig and a source promises, whatever ended it: some of the source's lines were served, and of them it keeps its promises.

@@ -11,12 +11,12 @@ ghost use Rattle.volume_runs.specs.Run.{Entry, IsRun, IsServed, asked_by, shrunk
 ghost use Rattle.hfs_volume.specs.Sound.{IsSound};
 ghost use Rattle.hfs_serving.specs.Opening.{MayServe};
 ghost use Rattle.hfs_serving.specs.Outside.{outside_of};
-ghost use Rattle.hfs_serving.specs.Runs.{Crashes, KeepsPlace, Leads, LeadsToRest, Serves, SetsUnmounted, SetsVersion, StandsAs};
+ghost use Rattle.hfs_serving.specs.Runs.{Answer, AreAnswers, Crashes, KeepsPlace, Leads, LeadsToRest, Serves, SetsUnmounted, SetsVersion, StandsAs, plain_answers, shifted, texts_of};
 ghost use Rattle.hfs_serving.specs.Serving.{Commits, Goes, IsDurable, IsRead, IsAsDurable, IsServing, MayCommit, Stops, TellsOut, Touches};
 ghost use Rattle.hfs_serving.specs.Stages.{MayTurn, Turns};
 ghost use Rattle.hfs_serving.specs.Steps.{CrashesStep, KeepsRun};
 ghost use Rattle.hfs_serving.specs.Taking.{HasTaken};
-ghost use Rattle.hfs_serving.specs.Top.{AreTaken, KeepsPromises, KnowsAs, KnowsTo, SurvivesAs, SurvivesTo};
+ghost use Rattle.hfs_serving.specs.Top.{AreTaken, HoldsAnswered, KeepsAnswers, KeepsPromises, KnowsAs, KnowsTo, SurvivesAs};
 
 use crate::basis::Ground;
 use hfs_volume::aside_is_free;
@@ -24,7 +24,7 @@ use sector_disk::SectorDisk;
 
 /// What a crash leaves mounts to the tree of the content that it stands for.
 pub fn contents_tell_trees()
-    ensures survives { (capacity : ℕ) (start : Content) (run : List Entry) (image : Content) (told : List ℕ) → IsRun capacity start run → IsSound start → SurvivesAs capacity start run image told → SurvivesTo start run image told }
+    ensures survives { (capacity : ℕ) (start : Content) (run : List Entry) (answers : List Answer) (image : Content) (told : List ℕ) → IsRun capacity start run → IsSound start → SurvivesAs capacity start run answers image told → HoldsAnswered start run answers image told }
     ensures knows { (capacity : ℕ) (start : Content) (run : List Entry) (known : ℕ) (image : Content) → IsRun capacity start run → IsSound start → KnowsAs capacity start run known image → KnowsTo start run known image }
 {
     aside_is_free();
@@ -32,10 +32,12 @@ pub fn contents_tell_trees()
 
 /// Two stretches of calls, of which the first was served to its end, are one.
 pub fn stretches_join<G: Ground>()
-    ensures serves { (capacity : ℕ) (shrunk : Option ℕ) (start middle now : Content) (run more : List Entry) (a b c : G) → Serves capacity shrunk start (G.outside a) run middle (G.outside b)
-        → Serves capacity (shrunk_in shrunk run) middle (G.outside b) more now (G.outside c) → Serves capacity shrunk start (G.outside a) (run ++ more) now (G.outside c) }
-    ensures crashes { (capacity : ℕ) (shrunk : Option ℕ) (start middle : Content) (run more : List Entry) (known : ℕ) (a b c : G) → Serves capacity shrunk start (G.outside a) run middle (G.outside b)
-        → Crashes capacity (shrunk_in shrunk run) middle (G.outside b) more known (G.outside c) → Crashes capacity shrunk start (G.outside a) (run ++ more) (length run + known) (G.outside c) }
+    ensures serves { (capacity : ℕ) (shrunk : Option ℕ) (start middle now : Content) (run more : List Entry) (answers others : List Answer) (a b c : G) → Serves capacity shrunk start (G.outside a) run answers middle (G.outside b)
+        → Serves capacity (shrunk_in shrunk run) middle (G.outside b) more others now (G.outside c) → Serves capacity shrunk start (G.outside a) (run ++ more) (answers ++ shifted (length run) others) now (G.outside c) }
+    ensures crashes { (capacity : ℕ) (shrunk : Option ℕ) (start middle : Content) (run more : List Entry) (answers others : List Answer) (known : ℕ) (a b c : G) → Serves capacity shrunk start (G.outside a) run answers middle (G.outside b)
+        → Crashes capacity (shrunk_in shrunk run) middle (G.outside b) more others known (G.outside c) → Crashes capacity shrunk start (G.outside a) (run ++ more) (answers ++ shifted (length run) others) (length run + known) (G.outside c) }
+    // The answers of plain lines are joined to those of all of them.
+    ensures plain { (run more : List Entry) → plain_answers run ++ shifted (length run) (plain_answers more) ≡ plain_answers (run ++ more) }
 {}
 
 /// Puts and spills go on within a batch, as a step of housekeeping or an entry; a fault in them stops it.
@@ -63,37 +65,42 @@ pub fn commits_go_on<G: Ground>()
         → MayCommit (G.space b) (G.outside b) (G.outside c) → Stops capacity shrunk committed from (G.outside a) run (G.outside c) }
 {}
 
-/// The end of a batch: a fault before anything was told, one while the replies were told, and none.
+/// The end of a batch, whatever its lines are told: a fault before anything was told, one while the answers were told, and none.
 pub fn batches_end<G: Ground>()
-    ensures stopped { (capacity : ℕ) (shrunk : Option ℕ) (start : Content) (run : List Entry) (a b : G) → Stops capacity shrunk start start (G.outside a) run (G.outside b) → Crashes capacity shrunk start (G.outside a) run 0 (G.outside b) }
-    ensures partly { (capacity : ℕ) (shrunk : Option ℕ) (start now : Content) (run : List Entry) (a b c : G) → Goes capacity shrunk None start start (G.outside a) run now now (G.space b) (G.outside b)
-        → TellsOut (G.outside b) (replies_of run) (G.outside c) → Crashes capacity shrunk start (G.outside a) run (length run) (G.outside c) }
-    ensures served { (capacity : ℕ) (shrunk : Option ℕ) (start now : Content) (run : List Entry) (a b c : G) → Goes capacity shrunk None start start (G.outside a) run now now (G.space b) (G.outside b)
-        → TellsOut (G.outside b) (replies_of run) (G.outside c) → (G.outside c).told ≡ (G.outside b).told ++ replies_of run
-        → Serves capacity shrunk start (G.outside a) run now (G.outside c) × IsServing now (G.space b) (G.outside c) }
+    ensures stopped { (capacity : ℕ) (shrunk : Option ℕ) (start : Content) (run : List Entry) (answers : List Answer) (a b : G) → AreAnswers (length run) answers → Stops capacity shrunk start start (G.outside a) run (G.outside b) → Crashes capacity shrunk start (G.outside a) run answers 0 (G.outside b) }
+    ensures partly { (capacity : ℕ) (shrunk : Option ℕ) (start now : Content) (run : List Entry) (answers : List Answer) (a b c : G) → AreAnswers (length run) answers → Goes capacity shrunk None start start (G.outside a) run now now (G.space b) (G.outside b)
+        → TellsOut (G.outside b) (texts_of answers) (G.outside c) → Crashes capacity shrunk start (G.outside a) run answers (length run) (G.outside c) }
+    ensures served { (capacity : ℕ) (shrunk : Option ℕ) (start now : Content) (run : List Entry) (answers : List Answer) (a b c : G) → AreAnswers (length run) answers → Goes capacity shrunk None start start (G.outside a) run now now (G.space b) (G.outside b)
+        → TellsOut (G.outside b) (texts_of answers) (G.outside c) → (G.outside c).told ≡ (G.outside b).told ++ texts_of answers
+        → Serves capacity shrunk start (G.outside a) run answers now (G.outside c) × IsServing now (G.space b) (G.outside c) }
+    // Plain lines are told their replies, and each comes behind its entry.
+    ensures plain { (run : List Entry) → AreAnswers (length run) (plain_answers run) × (texts_of (plain_answers run) ≡ replies_of run) }
 {}
 
 /// The stages of a mount: housekeeping, and the version that is written before it.
 pub fn mounts_serve<G: Ground>()
-    ensures tidied { (capacity : ℕ) (shrunk : Option ℕ) (start now : Content) (a b : G) → Turns start now (G.outside a) (G.outside b) → TidiesFor capacity shrunk None start now → KeepsPlace start now → Serves capacity shrunk start (G.outside a) [] now (G.outside b) }
-    ensures tidied_crashes { (capacity : ℕ) (shrunk : Option ℕ) (start now : Content) (a b : G) → MayTurn start now (G.outside a) (G.outside b) → TidiesFor capacity shrunk None start now → KeepsPlace start now → Crashes capacity shrunk start (G.outside a) [] 0 (G.outside b) }
+    ensures tidied { (capacity : ℕ) (shrunk : Option ℕ) (start now : Content) (a b : G) → Turns start now (G.outside a) (G.outside b) → TidiesFor capacity shrunk None start now → KeepsPlace start now → Serves capacity shrunk start (G.outside a) [] [] now (G.outside b) }
+    ensures tidied_crashes { (capacity : ℕ) (shrunk : Option ℕ) (start now : Content) (a b : G) → MayTurn start now (G.outside a) (G.outside b) → TidiesFor capacity shrunk None start now → KeepsPlace start now → Crashes capacity shrunk start (G.outside a) [] [] 0 (G.outside b) }
     ensures version { (capacity : ℕ) (shrunk : Option ℕ) (start version now : Content) (a b c : G) → Turns start version (G.outside a) (G.outside b) → SetsVersion start version → KeepsPlace start version → TidiesFor capacity shrunk None start now → KeepsPlace start now
-        → Turns version now (G.outside b) (G.outside c) → Serves capacity shrunk start (G.outside a) [] now (G.outside c) }
+        → Turns version now (G.outside b) (G.outside c) → Serves capacity shrunk start (G.outside a) [] [] now (G.outside c) }
     ensures version_crashes { (capacity : ℕ) (shrunk : Option ℕ) (start version now : Content) (a b c : G) → Turns start version (G.outside a) (G.outside b) → SetsVersion start version → KeepsPlace start version → TidiesFor capacity shrunk None start now → KeepsPlace start now
-        → MayTurn version now (G.outside b) (G.outside c) → Crashes capacity shrunk start (G.outside a) [] 0 (G.outside c) }
-    ensures half_version { (capacity : ℕ) (shrunk : Option ℕ) (start version : Content) (a b : G) → MayTurn start version (G.outside a) (G.outside b) → SetsVersion start version → KeepsPlace start version → Crashes capacity shrunk start (G.outside a) [] 0 (G.outside b) }
+        → MayTurn version now (G.outside b) (G.outside c) → Crashes capacity shrunk start (G.outside a) [] [] 0 (G.outside c) }
+    ensures half_version { (capacity : ℕ) (shrunk : Option ℕ) (start version : Content) (a b : G) → MayTurn start version (G.outside a) (G.outside b) → SetsVersion start version → KeepsPlace start version → Crashes capacity shrunk start (G.outside a) [] [] 0 (G.outside b) }
 {}
 
 /// The end of a run, which sets bit 8 of the header's attributes.
 pub fn runs_end<G: Ground>()
-    ensures { (capacity : ℕ) (shrunk : Option ℕ) (start now ended : Content) (run : List Entry) (a b c : G) → Serves capacity shrunk start (G.outside a) run now (G.outside b) → SetsUnmounted now ended → KeepsPlace now ended
-        → MayTurn now ended (G.outside b) (G.outside c) → Crashes capacity shrunk start (G.outside a) run (length run) (G.outside c) }
+    ensures { (capacity : ℕ) (shrunk : Option ℕ) (start now ended : Content) (run : List Entry) (answers : List Answer) (a b c : G) → Serves capacity shrunk start (G.outside a) run answers now (G.outside b) → SetsUnmounted now ended → KeepsPlace now ended
+        → MayTurn now ended (G.outside b) (G.outside c) → Crashes capacity shrunk start (G.outside a) run answers (length run) (G.outside c) }
 {}
 
 /// A run of a disk from which crashes leave what stands for its start: what a stretch of it says of contents, its users read of trees.
 pub fn runs_keep_promises<D: SectorDisk>()
-    ensures { (capacity : ℕ) (plan : Plan) (start : Content) (run : List Entry) (known : ℕ) (source source_new : Stream) (a b : D) → IsSound start → MayServe plan capacity start
-        → ((image : Content) → IsImage (D.state a).candidates image → StandsAs start (found plan image)) → Crashes capacity None start (outside_of plan (D.state a)) run known (outside_of plan (D.state b))
+    ensures answers { (capacity : ℕ) (plan : Plan) (start : Content) (run : List Entry) (answers : List Answer) (known : ℕ) (a b : D) → IsSound start → MayServe plan capacity start
+        → ((image : Content) → IsImage (D.state a).candidates image → StandsAs start (found plan image)) → Crashes capacity None start (outside_of plan (D.state a)) run answers known (outside_of plan (D.state b))
+        → KeepsAnswers capacity start (D.state a) run answers known (D.state b) }
+    // Of plain lines, users read it by their replies.
+    ensures plain { (capacity : ℕ) (start : Content) (run : List Entry) (known : ℕ) (source source_new : Stream) (a b : D) → KeepsAnswers capacity start (D.state a) run (plain_answers run) known (D.state b)
         → (IsTrue source.tells → AreTaken source run source_new) → KeepsPromises capacity start (D.state a) source run known (D.state b) source_new }
 {
     aside_is_free();
@@ -102,7 +109,7 @@ pub fn runs_keep_promises<D: SectorDisk>()
 /// A mount and a run behind it: the run's promises begin at the image that was mounted. What the mount did is a stretch without an entry.
 pub fn mounted_runs_keep_promises<D: SectorDisk>()
     ensures { (capacity : ℕ) (plan : Plan) (start now : Content) (texts : List (List ℕ)) (source source_new : Stream) (a b c : D) → IsSound start → MayServe plan capacity start
-        → ((image : Content) → IsImage (D.state a).candidates image → StandsAs start (found plan image)) → Serves capacity None start (outside_of plan (D.state a)) [] now (outside_of plan (D.state b))
+        → ((image : Content) → IsImage (D.state a).candidates image → StandsAs start (found plan image)) → Serves capacity None start (outside_of plan (D.state a)) [] [] now (outside_of plan (D.state b))
         → CrashesStep capacity now None (outside_of plan (D.state b)) texts (outside_of plan (D.state c)) → (IsTrue source.tells → HasTaken [] source texts source_new) → KeepsRun capacity start (D.state a) source (D.state c) source_new }
 {
     aside_is_free();

@@ -17,7 +17,7 @@ pub fn begin_run<V: Volume, G: Ground>(volume: &mut V, base: &mut G) -> Result<(
     requires stands { IsTrue (G.space base.old).tells → SomeWhole (V.knows volume.old (G.space base.old)) (G.space base.old) (G.outside base.old) }
     // Whatever ends it, a crash leaves the content as it was, or with the mark.
     ensures crash { IsTrue (G.space base.old).tells → (capacity : ℕ) (start : Content) (shrunk : Option ℕ) → Stands (V.knows volume.old (G.space base.old) capacity) start start shrunk (G.space base.old) (G.outside base.old)
-        → Crashes capacity shrunk start (G.outside base.old) [] 0 (G.outside base.new) }
+        → Crashes capacity shrunk start (G.outside base.old) [] [] 0 (G.outside base.new) }
     ensures may { IsTrue (G.space base.old).tells → (capacity : ℕ) (start : Content) (shrunk : Option ℕ) → Stands (V.knows volume.old (G.space base.old) capacity) start start shrunk (G.space base.old) (G.outside base.old)
         → MayBegin start (G.outside base.old) (G.outside base.new) }
     // At Ok the mark is committed, and the volume stands for the content with it.

@@ -4,14 +4,17 @@ ghost use Rattle.std.specs.Prelude.{◌≤◌, length};
 use crate::finding::{Finding, Line, read_line};
 use crate::hearing::Ear;
 use crate::names::Names;
-use crate::refusal::{refusal_help, refusal_text};
+use crate::refusal::{ADOPT_HELP, refusal_help, refusal_text};
 use crate::repair::{Repair, contains};
 use crate::report::Report;
 use crate::runs::runs_of;
 use crate::words::say;
 use file_rig::{FileRig, Image, Store};
+use hfsx_adopt::InMemory;
 use hfsx_salvage::{ImageSectors, tell_unopened};
 use hfsx_server::{Status, check};
+use hx_bytes::Failed;
+use image_adopt::{AdoptRefusal, Adopted, adopt_image};
 use salvage_tree::read_survey;
 use std::alloc::{AllocError, Global};
 use std::cell::RefCell;
@@ -32,7 +35,7 @@ pub fn explain(rt: &HostRuntime, image: &str, json: bool) -> Result<u8, AllocErr
         }
     };
     let kept = RefCell::new(Vec::new(rt.alloc()));
-    let store = Store::new(rt.alloc(), place, sectors)?;
+    let store = Store::new(rt.alloc(), InMemory::new(rt.alloc(), place), sectors)?;
     let mut rig = FileRig::new(store, Ear(&kept));
     let status = check(rt.alloc(), &mut rig);
     match status {
@@ -53,20 +56,35 @@ pub fn explain(rt: &HostRuntime, image: &str, json: bool) -> Result<u8, AllocErr
         Status::Refused => Repair::of(rt.alloc(), &mut rig)?,
         _ => Repair::Unknown,
     };
+    // What an adoption writes stays in memory.
+    let may_be_adopted = status == Status::Refused && is_adopted(adopt_image(&mut rig));
     let mut report = Report::new(rt, json);
-    tell_all(rt, image, told.as_str(), &repair, &mut report)?;
+    tell_all(
+        rt,
+        image,
+        told.as_str(),
+        &repair,
+        may_be_adopted,
+        &mut report,
+    )?;
     if report.failed {
         return Ok(NO_OUTPUT);
     }
     Ok(status.code())
 }
 
-// Tells what each line of the check says.
+// Whether an adoption changed the volume.
+fn is_adopted(done: Result<Result<Adopted, AdoptRefusal>, Failed>) -> bool {
+    matches!(done, Ok(Ok(Adopted::Anew(_))))
+}
+
+// Tells what each line of the check says, and of a volume that was judged the notes.
 fn tell_all(
     rt: &HostRuntime,
     image: &str,
     told: &str,
     repair: &Repair,
+    may_be_adopted: bool,
     report: &mut Report<'_>,
 ) -> Result<(), AllocError> {
     let mut findings = Vec::new(rt.alloc());
@@ -84,17 +102,35 @@ fn tell_all(
                 second,
             } => {
                 let text = refusal_text(rt.alloc(), word, first, second)?;
-                report.tell_refusal(word, text.as_str(), refusal_help(word))?;
+                let help = if may_be_adopted {
+                    ADOPT_HELP
+                } else {
+                    refusal_help(word)
+                };
+                return report.tell_refusal(word, text.as_str(), help);
             }
             Line::Finding(finding) => findings.push(finding)?,
             Line::Findings(_) | Line::Other => {}
         }
     }
-    if findings.is_empty() {
-        return Ok(());
+    let names = names_of(rt, image)?;
+    if !findings.is_empty() {
+        let findings = with_left(rt.alloc(), findings.as_slice(), repair.left())?;
+        tell_findings(rt, &names, findings.as_slice(), repair, report)?;
     }
-    let findings = with_left(rt.alloc(), findings.as_slice(), repair.left())?;
-    tell_findings(rt, image, findings.as_slice(), repair, report)
+    for note in names.notes()?.as_slice() {
+        report.tell_note(note)?;
+    }
+    Ok(())
+}
+
+// The names that the image's catalog tells.
+fn names_of(rt: &HostRuntime, image: &str) -> Result<Names, AllocError> {
+    let survey = match ImageSectors::open(rt, image) {
+        Ok(mut source) => read_survey(rt.alloc(), &mut source)?,
+        Err(_) => None,
+    };
+    Names::new(rt.alloc(), survey)
 }
 
 // Findings in order, with those that a repair would leave: some are judged only where the first ones are mended.
@@ -132,20 +168,15 @@ fn place_of(all: &[Finding], one: &Finding) -> usize
 // Tells of findings, with the paths that the image's catalog tells.
 fn tell_findings(
     rt: &HostRuntime,
-    image: &str,
+    names: &Names,
     findings: &[Finding],
     repair: &Repair,
     report: &mut Report<'_>,
 ) -> Result<(), AllocError> {
-    let survey = match ImageSectors::open(rt, image) {
-        Ok(mut source) => read_survey(rt.alloc(), &mut source)?,
-        Err(_) => None,
-    };
-    let names = Names::new(rt.alloc(), survey)?;
     let mut mendable: u64 = 0;
     let runs = runs_of(rt.alloc(), findings, repair)?;
     for run in runs.as_slice() {
-        let said = say(rt.alloc(), &names, run)?;
+        let said = say(rt.alloc(), names, run)?;
         if said.mends {
             mendable = mendable.saturating_add(run.count());
         }

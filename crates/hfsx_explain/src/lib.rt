@@ -5,6 +5,7 @@ mod finding;
 mod hearing;
 mod image;
 mod names;
+mod notes;
 mod refusal;
 mod repair;
 mod report;

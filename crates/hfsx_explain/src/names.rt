@@ -1,5 +1,6 @@
 //! The paths of ids, and the files that use a block, as far as the catalog's records tell.
 
+use crate::notes::{Note, notes_of};
 use salvage_tree::{Base, ForkKind, Path, Survey, file_path, folder_path, push_shown};
 use std::alloc::{AllocError, Global};
 use std::collections::BTreeMap;
@@ -50,6 +51,14 @@ impl Names {
         })
     }
 
+    /// The notes on what macOS shows otherwise than lines do.
+    pub(crate) fn notes(&self) -> Result<Vec<Note>, AllocError> {
+        match &self.survey {
+            Some(survey) => notes_of(self.alloc, survey),
+            None => Ok(Vec::new(self.alloc)),
+        }
+    }
+
     /// The path of a file or folder, if one can be told.
     pub(crate) fn path(&self, id: u64) -> Result<Option<String>, AllocError> {
         if id == ROOT {
@@ -79,8 +88,8 @@ impl Names {
     }
 }
 
-// A path as text, if it begins at the root.
-fn shown(alloc: Global, path: &Path) -> Result<Option<String>, AllocError> {
+/// A path as text, if it begins at the root.
+pub(crate) fn shown(alloc: Global, path: &Path) -> Result<Option<String>, AllocError> {
     if path.base != Base::Root || path.names.is_empty() {
         return Ok(None);
     }

@@ -57,6 +57,10 @@ pub(crate) fn header_field(offset: u64) -> &'static str {
     }
 }
 
+/// What can be done about a journal that later systems wrote.
+pub(crate) const ADOPT_HELP: &str =
+    "later systems write such a journal: `hfsx-files adopt` makes the volume one that `hfsx` serves";
+
 /// What can be done about a refusal.
 pub(crate) fn refusal_help(word: &str) -> &'static str {
     match word {

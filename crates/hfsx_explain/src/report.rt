@@ -1,5 +1,6 @@
 //! What is told of an image, as lines or as JSON.
 
+use crate::notes::Note;
 use crate::repair::Repair;
 use crate::runs::Run;
 use crate::words::Said;
@@ -68,6 +69,27 @@ impl<'a> Report<'a> {
             line.push_str(text)?;
             line.push_str(": ")?;
             line.push_str(help)?;
+        }
+        self.print(line.as_str());
+        Ok(())
+    }
+
+    /// Tells a note.
+    pub(crate) fn tell_note(&mut self, note: &Note) -> Result<(), AllocError> {
+        let mut line = String::new(self.rt.alloc());
+        if self.json {
+            line.push_str("{\"note\":")?;
+            push_json(&mut line, note.kind)?;
+            line.push_str(",\"text\":")?;
+            push_json(&mut line, note.text.as_str())?;
+            if let Some(path) = &note.path {
+                line.push_str(",\"path\":")?;
+                push_json(&mut line, path.as_str())?;
+            }
+            line.push('}')?;
+        } else {
+            line.push_str("note: ")?;
+            line.push_str(note.text.as_str())?;
         }
         self.print(line.as_str());
         Ok(())

@@ -11,6 +11,7 @@ pub(crate) enum Verb {
     Stat,
     Salvage,
     Explain,
+    Adopt,
     Help,
     Version,
 }
@@ -85,7 +86,7 @@ impl Call {
     /// Whether there are fewer words than the verb wants.
     pub(crate) fn has_too_few(&self) -> bool {
         let least = match self.verb {
-            Verb::List | Verb::Explain => 1,
+            Verb::List | Verb::Explain | Verb::Adopt => 1,
             Verb::Put | Verb::Get | Verb::Cat | Verb::Stat | Verb::Salvage => 2,
             Verb::Help | Verb::Version => 0,
         };
@@ -95,7 +96,7 @@ impl Call {
     /// Whether there are more words than the verb wants.
     pub(crate) fn has_too_many(&self) -> bool {
         match self.verb {
-            Verb::Explain => self.plain.len() > 1,
+            Verb::Explain | Verb::Adopt => self.plain.len() > 1,
             Verb::Put | Verb::Cat | Verb::Salvage => self.plain.len() > 2,
             Verb::Get => self.plain.len() > 3,
             Verb::List | Verb::Stat | Verb::Help | Verb::Version => false,
@@ -165,7 +166,7 @@ impl Call {
         if self.verbose {
             return Some("--verbose");
         }
-        if self.json && (self.verb == Verb::Cat || self.verb == Verb::Stat) {
+        if self.json && self.verb != Verb::Salvage && self.verb != Verb::Explain {
             return Some("--json");
         }
         if self.to.is_some() || self.size.is_some() || self.date.is_some() {

@@ -17,6 +17,7 @@ mod words;
 
 use call::{Call, Verb};
 use file_rig::take_closed;
+use hfsx_adopt::adopt;
 use hfsx_explain::explain;
 use hfsx_salvage::salvage;
 use options::read_options;
@@ -70,6 +71,7 @@ fn work(rt: &HostRuntime, call: Call) -> Result<u8, AllocError> {
         },
         Verb::Salvage => salvage(rt, call.image(), call.word(1), call.json),
         Verb::Explain => explain(rt, call.image(), call.json),
+        Verb::Adopt => adopt(rt, call.image()),
         Verb::Get | Verb::List | Verb::Cat | Verb::Stat => out::take_out(rt, &call),
     }
 }

@@ -2,7 +2,8 @@
 use crate::call::Call;
 use files_in::Dates;
 use files_out::path_word;
-use std::alloc::AllocError;
+use files_talk::NameLack;
+use std::alloc::{AllocError, Global};
 use std::env::{self, VarError};
 
 /// The size of an image that is made.
@@ -33,7 +34,10 @@ pub(crate) fn read_options(
     let to = match &call.to {
         Some(path) => match path_word(alloc, path.as_str())? {
             Ok(word) => word,
-            Err(lack) => return Ok(Err(format!(in alloc; "--to {path}: {lack}")?)),
+            Err(lack) => {
+                let why = lack_of(alloc, path.as_str(), lack)?;
+                return Ok(Err(format!(in alloc; "--to {path}: {}", why.as_str())?));
+            }
         },
         None => String::new(alloc),
     };
@@ -57,6 +61,14 @@ pub(crate) fn read_options(
         Err(why) => return Ok(Err(why)),
     };
     Ok(Ok(Options { to, size, dates }))
+}
+
+/// Why a word is no path in a volume.
+pub(crate) fn lack_of(alloc: Global, path: &str, lack: NameLack) -> Result<String, AllocError> {
+    if path.starts_with('/') {
+        return format!(in alloc; "{lack}");
+    }
+    String::from_str(alloc, "a path in the volume begins with /")
 }
 
 fn size_of(word: &str) -> Option<Size> {

@@ -1,5 +1,6 @@
 //! A volume's files are taken out, listed and told. No byte of the image changes.
 use crate::call::{Call, Verb};
+use crate::options::lack_of;
 use crate::serving::look;
 use crate::status::WRONG_WORDS;
 use files_out::{Out, Wish, path_of};
@@ -16,7 +17,8 @@ pub(crate) fn take_out(rt: &HostRuntime, call: &Call) -> Result<u8, AllocError> 
         match path_of(alloc, path.as_str())? {
             Ok(found) => paths.push(found)?,
             Err(lack) => {
-                let _ = eprintln!(rt; "hfsx-files: {path}: {lack}");
+                let why = lack_of(alloc, path.as_str(), lack)?;
+                let _ = eprintln!(rt; "hfsx-files: {path}: {}", why.as_str());
                 return Ok(WRONG_WORDS);
             }
         }

@@ -4,9 +4,13 @@ use crate::status::{NO_IMAGE, NO_MEMORY};
 use file_rig::{Failure, FileRig, Image, Sparse, Store, tell};
 use files_out::Out;
 use files_talk::{LineList, Lines, Replies, Talk};
+use hfsx_adopt::{InMemory, extras_of};
 use hfsx_server::{Status, hfsx};
+use hx_bytes::{Failed, Trouble};
+use image_adopt::adopt_image;
 use std::alloc::AllocError;
 use std::cell::RefCell;
+use std::io::ErrorKind;
 use watchers::Watcher;
 
 /// Serves the volume of an image, which may be changed, and gives the exit status.
@@ -20,7 +24,8 @@ pub(crate) fn serve(
     run(rt, words.as_slice(), image, opened, talk)
 }
 
-/// Lets a job look at what the volume of an image holds, of which no byte is changed, and gives the exit status.
+/// Lets a job look at what the volume of an image holds, of which no byte is changed, and gives the exit status. A volume that `adopt` would
+/// change is looked at as it would be then: that is done in memory.
 pub(crate) fn look(rt: &HostRuntime, image: &str, job: &mut Out<'_>) -> Result<u8, AllocError> {
     let (place, sectors) = match Image::to_check(rt, image) {
         Ok(found) => found,
@@ -35,8 +40,19 @@ pub(crate) fn look(rt: &HostRuntime, image: &str, job: &mut Out<'_>) -> Result<u
         LineList::new(alloc),
         Vec::new(alloc),
     );
-    let store = Store::new(alloc, Sparse::new(place), sectors)?;
+    let store = Store::new(alloc, InMemory::new(alloc, place), sectors)?;
     let mut rig = FileRig::new(store, Replies(&talk));
+    if let Err(Failed) = adopt_image(&mut rig) {
+        return Ok(tell_disk(rt, image, rig.failure(), Status::Disk));
+    }
+    match extras_of(alloc, &mut rig) {
+        Ok(extras) => job.know(extras),
+        Err(Trouble::Memory) => return Ok(NO_MEMORY),
+        Err(Trouble::Disk) => return Ok(tell_disk(rt, image, rig.failure(), Status::Disk)),
+    }
+    if rig.failure().is_some() {
+        return Ok(tell_disk(rt, image, rig.failure(), Status::Disk));
+    }
     let status = hfsx_server::look(alloc, &mut rig, job);
     tell_end(rt, image, status, rig.failure(), &talk)
 }
@@ -110,6 +126,7 @@ fn tell_end(
 // Tells what failed of the image.
 fn tell_disk(rt: &HostRuntime, image: &str, failure: Option<Failure>, status: Status) -> u8 {
     match failure {
+        Some(failure) if failure.error.kind() == ErrorKind::OutOfMemory => NO_MEMORY,
         Some(failure) => {
             tell(rt, &failure, image);
             if failure.act.is_before_work() {

@@ -2,26 +2,28 @@
 
 /// The ways to call it.
 pub(crate) const USAGE: &str =
-    "usage: hfsx-files put IMAGE FOLDER|- [--to /P] [--size auto|SECTORS] [--date keep|SECONDS] [--over] [--verbose]
+    "usage: hfsx-files put IMAGE FOLDER|FILE|- [--to /P] [--size auto|SECTORS] [--date keep|SECONDS] [--over] [--verbose]
        hfsx-files get IMAGE [/P] FOLDER|- [--over] [--verbose]
        hfsx-files ls [-lR] IMAGE [/P ..]
        hfsx-files cat IMAGE /P
        hfsx-files stat IMAGE /P ..
        hfsx-files salvage IMAGE FOLDER [--json]
        hfsx-files explain IMAGE [--json]
+       hfsx-files adopt IMAGE
        hfsx-files --help | --version";
 
 /// What `--help` tells behind the ways to call it.
 pub(crate) const HELP: &str = "\n
 Puts files into a journaled HFSX volume in an image or on a block device, and takes them out.
 
-  put      puts what FOLDER holds, or the tar archive of standard input, into the volume
+  put      puts what FOLDER holds, FILE, or the tar archive of standard input into the volume
   get      makes what the volume holds in FOLDER, or writes it to standard output as a tar archive
   ls       lists folders
   cat      writes a file's bytes to standard output
   stat     tells what is known of entries
   salvage  makes in FOLDER what can still be read of a damaged volume
   explain  says in words what is wrong with a volume
+  adopt    makes a volume whose journal a Mac wrote one that hfsx serves
 
   --to /P        put: into this folder of the volume, which is made where it is missing
   --size auto    put: makes the image anew, just large enough for FOLDER
@@ -33,7 +35,7 @@ Puts files into a journaled HFSX volume in an image or on a block device, and ta
   --json         salvage, explain: lines for programs
   -l, -R         ls: modes, sizes and dates; all that is below
 
-What can't be kept is told on standard error with its reason, and then the exit status is 9. All but put never change the image.
+What can't be kept is told on standard error with its reason, and then the exit status is 9. All but put and adopt never change the image.
 The manual is hfsx-files(1).
 ";
 

@@ -112,7 +112,7 @@ impl Reading {
             return refused(
                 alloc,
                 "a verb is missing",
-                "put, get, ls, cat, stat, salvage or explain",
+                "put, get, ls, cat, stat, salvage, explain or adopt",
             );
         };
         if wanted.is_some() {
@@ -164,6 +164,7 @@ fn verb_of(word: &str) -> Option<Verb> {
         "stat" => Some(Verb::Stat),
         "salvage" => Some(Verb::Salvage),
         "explain" => Some(Verb::Explain),
+        "adopt" => Some(Verb::Adopt),
         "help" => Some(Verb::Help),
         _ => None,
     }

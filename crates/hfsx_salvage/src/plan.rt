@@ -3,7 +3,8 @@
 use crate::folder::Facts;
 use cat_records::EntryFields;
 use salvage_tree::{
-    Base, Catalog, Fork, ForkKind, FoundFile, Links, Path, Survey, file_path, folder_path, is_link,
+    Base, Catalog, Extra, Fork, ForkKind, FoundFile, Links, Path, Survey, file_path, folder_path,
+    is_link,
 };
 use std::alloc::{AllocError, Global};
 use std::collections::BTreeSet;
@@ -67,9 +68,6 @@ pub(crate) struct Plan {
 }
 
 const ROOT: u32 = 2;
-
-/// The owner's flag of a file whose bytes are kept compressed in an attribute.
-const COMPRESSED: u8 = 0x20;
 
 /// `.journal`.
 const JOURNAL: [u16; 8] = [0x2E, 0x6A, 0x6F, 0x75, 0x72, 0x6E, 0x61, 0x6C];
@@ -210,7 +208,8 @@ impl Plan {
             return Ok(());
         };
         let fields = &file.record.fields;
-        if file.record.resource_fork.logical_size > 0 {
+        let extra = Extra::of(&file.record);
+        if extra.resources > 0 {
             let mut beside = String::from_str(alloc, path.as_str())?;
             beside.push_str(".rsrc")?;
             self.items.push(Item {
@@ -231,9 +230,8 @@ impl Plan {
             id: fields.id,
             facts: facts_of(fields),
             is_linked,
-            is_symlink: fields.mode & 0xF000 == 0xA000,
-            is_compressed: fields.owner_flags & COMPRESSED != 0
-                && file.record.data_fork.logical_size == 0,
+            is_symlink: extra.is_symlink,
+            is_compressed: extra.is_compressed,
         })?;
         Ok(())
     }

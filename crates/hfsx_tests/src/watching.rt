@@ -14,13 +14,13 @@ use watchers::{Keep, Watcher};
 #[derive(Drop)]
 struct Expecting {
     alloc: Global,
-    lines: [u64; 2],
+    lines: [u64; 3],
     heard: Changes,
     gone: bool,
 }
 
 impl Expecting {
-    fn new(alloc: Global, lines: [u64; 2]) -> Expecting {
+    fn new(alloc: Global, lines: [u64; 3]) -> Expecting {
         Expecting {
             alloc,
             lines,
@@ -73,12 +73,12 @@ fn copied(alloc: Global, change: &Change) -> Result<Change, OutOfMemory>
     })
 }
 
-// Serves lines on a new volume, with a watcher for each of these pairs, that stays as long as the changes that it is told are those of the two
+// Serves lines on a new volume, with a watcher for each of these rows, that stays as long as the changes that it is told are those of these
 // lines. Answers what was told, and how many watchers are left; nothing where the run ended otherwise than at the end of its lines.
 fn served_with(
     alloc: Global,
     input: &[u8],
-    expected: &[[u64; 2]],
+    expected: &[[u64; 3]],
 ) -> Result<Option<(Vec<u8>, usize)>, OutOfMemory> {
     let mut rig = fresh_rig(alloc)?;
     let mut source = MemSource::new(alloc, input, 64, None)?;
@@ -104,7 +104,7 @@ fn served_with(
 #[test]
 fn watchers_are_told_changes_in_order(rt: HostRuntime) -> Result<(), Fail> {
     let lines = b"mkdir /a\nls /\nmkdir /b\n";
-    let served = served_with(rt.alloc(), lines, &[[0, 2], [9, 9], [0, 9]])?;
+    let served = served_with(rt.alloc(), lines, &[[0, 2, 9], [9, 9, 9], [0, 9, 9]])?;
     assert!(rt;
         matches!(&served, Some((told, left)) if told.as_slice() == b"ok\nok 1 a/\nok\n".as_slice() && *left == 1)
     );
@@ -115,9 +115,21 @@ fn watchers_are_told_changes_in_order(rt: HostRuntime) -> Result<(), Fail> {
 #[test]
 fn watchers_that_leave_are_told_no_more(rt: HostRuntime) -> Result<(), Fail> {
     let lines = b"mkdir /a\ncreate /a\n";
-    let served = served_with(rt.alloc(), lines, &[[9, 9], [9, 9], [0, 9]])?;
+    let served = served_with(rt.alloc(), lines, &[[9, 9, 9], [9, 9, 9], [0, 9, 9]])?;
     assert!(rt;
         matches!(&served, Some((told, left)) if told.as_slice() == b"ok\nno Exists\n".as_slice() && *left == 1)
+    );
+    Ok(())
+}
+
+// A file that takes the place of another is told as moved, and the other isn't told; a file that is moved onto itself isn't told either. The first watcher
+// leaves at the third change, and the other two stay, since there is no fourth one.
+#[test]
+fn a_replaced_file_is_told_as_one_move(rt: HostRuntime) -> Result<(), Fail> {
+    let lines = b"create /a\ncreate /b\nmv /a /b\nmv /b /b\n";
+    let served = served_with(rt.alloc(), lines, &[[0, 1, 9], [0, 1, 2], [0, 1, 2]])?;
+    assert!(rt;
+        matches!(&served, Some((told, left)) if told.as_slice() == b"ok\nok\nok\nok\n".as_slice() && *left == 2)
     );
     Ok(())
 }

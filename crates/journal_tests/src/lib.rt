@@ -3,6 +3,10 @@
 #![tactic(auto)]
 
 #[cfg(test)]
+mod adoption;
+#[cfg(test)]
 mod replays;
 #[cfg(test)]
 mod ring;
+#[cfg(test)]
+mod wide;

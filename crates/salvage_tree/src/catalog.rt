@@ -45,7 +45,7 @@ const MOST_NAME: usize = 255;
 
 const FOLDER: u16 = 1;
 
-const FILE: u16 = 2;
+pub(crate) const FILE: u16 = 2;
 
 const FOLDER_THREAD: u16 = 3;
 
@@ -115,15 +115,20 @@ fn name_of(alloc: Global, key: &[u8]) -> Result<Units, AllocError> {
     Ok(Units::from_vec(units))
 }
 
+/// The lengths of the record of a catalog that begins at a place, if one does.
+pub(crate) fn record_length(bytes: &[u8], at: usize) -> Option<Length> {
+    let key = usize::from(number16(bytes, at)?);
+    let units = usize::from(number16(bytes, at.saturating_add(6))?);
+    if units > MOST_NAME || key != KEY_FRONT + 2 * units {
+        return None;
+    }
+    let value = value_length(bytes, at.saturating_add(2).saturating_add(key))?;
+    Some(Length { key, value })
+}
+
 impl Takes for Catalog {
     fn length(&self, bytes: &[u8], at: usize) -> Option<Length> {
-        let key = usize::from(number16(bytes, at)?);
-        let units = usize::from(number16(bytes, at.saturating_add(6))?);
-        if units > MOST_NAME || key != KEY_FRONT + 2 * units {
-            return None;
-        }
-        let value = value_length(bytes, at.saturating_add(2).saturating_add(key))?;
-        Some(Length { key, value })
+        record_length(bytes, at)
     }
 
     fn take(&mut self, key: &[u8], value: &[u8]) -> Result<(), AllocError> {

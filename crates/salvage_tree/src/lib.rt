@@ -4,6 +4,7 @@
 
 mod bitmap;
 mod catalog;
+mod extras;
 mod field;
 mod fork;
 mod leaves;
@@ -22,6 +23,7 @@ mod volume;
 
 pub use bitmap::Bits;
 pub use catalog::{Catalog, FoundFile, FoundFolder, Placed};
+pub use extras::{Extra, Extras, read_extras};
 pub use fork::{Fork, ForkKind};
 pub use links::{Links, is_link};
 pub use names::file_name;

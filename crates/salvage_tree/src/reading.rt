@@ -70,15 +70,14 @@ fn survey_by<S: Sectors>(
         return Ok(None);
     };
     let mut overflow = Overflow::new(alloc);
-    let none = Overflow::new(alloc);
-    let extents = special_fork(alloc, &none, EXTENTS_FILE, &volume.head.extents_fork)?;
+    let extents = extents_fork(alloc, &volume)?;
     let file = TreeFile {
         per_block: volume.per_block,
         extents: extents.extents.as_slice(),
     };
     take_records(alloc, source, file, &mut overflow)?;
     let mut catalog = Catalog::new(alloc);
-    let fork = special_fork(alloc, &overflow, CATALOG_FILE, &volume.head.catalog_fork)?;
+    let fork = catalog_fork(alloc, &overflow, &volume)?;
     let file = TreeFile {
         per_block: volume.per_block,
         extents: fork.extents.as_slice(),
@@ -117,6 +116,21 @@ fn special_fork(
     fork: &ForkRecord,
 ) -> Result<Fork, AllocError> {
     Fork::whole(alloc, overflow, id, ForkKind::Data, fork)
+}
+
+/// The extents overflow file, which has no extents elsewhere.
+pub(crate) fn extents_fork(alloc: Global, volume: &Volume) -> Result<Fork, AllocError> {
+    let none = Overflow::new(alloc);
+    special_fork(alloc, &none, EXTENTS_FILE, &volume.head.extents_fork)
+}
+
+/// The catalog's file, with all of its extents.
+pub(crate) fn catalog_fork(
+    alloc: Global,
+    overflow: &Overflow,
+    volume: &Volume,
+) -> Result<Fork, AllocError> {
+    special_fork(alloc, overflow, CATALOG_FILE, &volume.head.catalog_fork)
 }
 
 // Reads the allocation file, as far as the source has blocks for it.

@@ -24,6 +24,9 @@ pub(crate) const MOST_NODE_SECTORS: usize = 64;
 /// Where the header node keeps the size of the nodes.
 const NODE_SIZE_AT: usize = 32;
 
+/// Where the header node keeps the number of the first leaf.
+const FIRST_LEAF_AT: usize = 24;
+
 /// Where the header node's bits begin.
 const HEADER_MAP_AT: usize = 248;
 
@@ -317,4 +320,33 @@ pub(crate) fn take_records<S: Sectors, T: Takes>(
             take_sized(alloc, source, file, size, false, taker)
         }
     }
+}
+
+/// Hands over the records of a sound tree's leaves, from the first leaf to the last, each of which names the next.
+pub(crate) fn take_in_order<S: Sectors, T: Takes>(
+    alloc: Global,
+    source: &mut S,
+    file: TreeFile<'_>,
+    taker: &mut T,
+) -> Result<(), AllocError> {
+    let Some(size) = file.told_size(source) else {
+        return Ok(());
+    };
+    let mut room: [Sector; MOST_NODE_SECTORS] = [[0; 512]; MOST_NODE_SECTORS];
+    let Some(sectors) = room.get_mut(..size as usize) else {
+        return Ok(());
+    };
+    file.read(source, 0, size, sectors);
+    let mut leaf = number32(sectors.as_flattened(), FIRST_LEAF_AT).unwrap_or(0);
+    for _ in 0..file.sectors(source) {
+        if leaf == 0 {
+            break;
+        }
+        file.read(source, u64::from(leaf), size, sectors);
+        let bytes = sectors.as_flattened();
+        let spans = spans_of(alloc, taker, bytes)?;
+        hand_over(bytes, spans.as_slice(), taker)?;
+        leaf = number32(bytes, 0).unwrap_or(0);
+    }
+    Ok(())
 }

@@ -1,11 +1,11 @@
 //! The plan of a volume, as a mount looks for it.
 ghost use Rattle.std.specs.Prelude.{◌≡◌, ◌≤◌, ◌*◌, ◌/◌, IsTrue, IfOk};
 ghost use Rattle.sector_disk.specs.Disk.{content};
-ghost use Rattle.jnl_replay.specs.Plan.{FitsPlan, IsPlan};
+ghost use Rattle.jnl_replay.specs.Plan.{FitsPlan, FitsPlanAs, IsPlan, IsPlanAs};
 ghost use Rattle.sector_disk.specs.Disk.{OnlyReads};
 
-use jnl_format::JnlRefusal;
-use jnl_replay::{Place, Plan, ReplayFault, validate};
+use jnl_format::{Dialect, JnlRefusal};
+use jnl_replay::{Place, Plan, ReplayFault, validate_as};
 use sector_disk::SectorDisk;
 use volume_header::read_header;
 
@@ -14,6 +14,15 @@ use volume_header::read_header;
 pub fn find_plan<D: SectorDisk>(disk: &mut D) -> Result<Plan, ReplayFault>
     ensures plan { IsTrue (D.state disk.old).tells → IfOk result (λ plan. IsPlan (content (D.state disk.old)) plan) }
     ensures fits { IfOk result (λ plan. FitsPlan (D.state disk.old).sectors plan) }
+    ensures reads { OnlyReads (D.state disk.old) (D.state disk.new) }
+{
+    find_plan_as(disk, Dialect::Plain)
+}
+
+/// The same in a dialect.
+pub fn find_plan_as<D: SectorDisk>(disk: &mut D, dialect: Dialect) -> Result<Plan, ReplayFault>
+    ensures plan { IsTrue (D.state disk.old).tells → IfOk result (λ plan. IsPlanAs dialect (content (D.state disk.old)) plan) }
+    ensures fits { IfOk result (λ plan. FitsPlanAs dialect (D.state disk.old).sectors plan) }
     ensures reads { OnlyReads (D.state disk.old) (D.state disk.new) }
 {
     let sectors = disk.sectors();
@@ -38,5 +47,5 @@ pub fn find_plan<D: SectorDisk>(disk: &mut D) -> Result<Plan, ReplayFault>
         info_sector,
         last_mounted: head.last_mounted_version,
     };
-    validate(disk, &place)
+    validate_as(disk, &place, dialect)
 }

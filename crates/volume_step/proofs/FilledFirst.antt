@@ -1,7 +1,8 @@
 -- Zero blocks that are filled ahead of a command, and what stands of it behind them.
-use Rattle.std.proofs.Common.{◌≡◌, ◌≢◌, ◌<◌, ◌≤◌, ℕ, ◌+◌, true, false, List, [], ◌∷◌, inl, inr, refl, sym, ◌∙◌, ap, subst, arith}
-use Rattle.std.specs.Prelude.{◌||◌, slice_index, IfOk, Option, None, Some, Result, Ok, Err}
+use Rattle.std.proofs.Common.{◌≡◌, ◌≢◌, ◌<◌, ℕ, ◌+◌, Bool, true, false, List, [], ◌∷◌, inl, inr, refl, sym, ◌∙◌, ap, subst, arith}
+use Rattle.std.specs.Prelude.{◌||◌, slice_index, IfOk, OnOk, Option, None, Some, Result, Ok, Err, if◌then◌else◌}
 use Rattle.std.proofs.lemmas.Bool.{true≢false}
+use Rattle.hx_bytes.specs.declared.faults.Trouble.{Trouble}
 use Rattle.jnl_format.specs.Recovery.{Content}
 use Rattle.sector_disk.specs.Space.{Space}
 use Rattle.hfs_language.specs.declared.command.Command.{Command}
@@ -19,12 +20,15 @@ use Rattle.hfs_volume.specs.declared.cost.Cost.TheVariants as cost
 use Rattle.volume_base.specs.Room.{capacity_of}
 use Rattle.volume_base.specs.declared.volume.Filling.{Filling}
 use Rattle.volume_base.specs.declared.volume.Volume.{Volume}
-use Rattle.volume_space.specs.Spilling.{IsLaidOutAs}
+use Rattle.volume_space.specs.Zeroing.{done_of, is_growth_of}
+use Rattle.volume_space.specs.declared.ahead.Growth.{Growth}
+use Rattle.volume_space.specs.declared.ahead.Growth.TheVariants as growing
 use Rattle.volume_space.specs.declared.ahead.WhichTree.{WhichTree}
+use Rattle.volume_space.specs.declared.cutting_ahead.CutAhead.{CutAhead}
+use Rattle.volume_space.specs.declared.cutting_ahead.CutAhead.TheVariants as ahead
 use Rattle.volume_space.specs.declared.zeroing.Zeros.{Zeros}
 use Rattle.volume_space.specs.declared.zeroing.Zeros.TheVariants as zeros
-use Rattle.volume_step.specs.Anew.{FitsAnew, IsAnew}
-use Rattle.volume_step.specs.Steps.{Affords, FillsMore, FitsNow, GoesFurther, HasFewZeros, KeepsJournal, PutsNow, StepsNow, StepsTo, WaitsForGrowth, may_put}
+use Rattle.volume_step.specs.Steps.{Affords, AreFewLeft, FillsMore, FitsNow, GoesFurther, HasFewLeft, HasFewZeros, IsDoneOk, KeepsGrowth, KeepsJournal, StepsNow, StepsTo, WaitsForGrowth, grown, outcome_of}
 use Rattle.volume_step.specs.declared.outcome.Outcome.{Outcome}
 use Rattle.volume_step.specs.declared.outcome.Outcome.TheVariants as outcome
 use Rattle.volume_step.proofs.Kept.{Keeps, keeps_none}
@@ -101,18 +105,6 @@ module _ (v : Volume) (f : Option Filling) where
   pub now_filling : (asked : Command) (a : Space) → (now : FitsNow asked v a) → (it : FitsNow asked (record v { filling = f }) a) × (it.grow ≡ now.grow)
   now_filling asked a now = (record { no_data = now.no_data; load = now.load; grow = now.grow; costs = now.costs; within = now.within }, refl)
 
-  pub puts_filling : (asked : Command) (a : Space) → PutsNow asked v a → PutsNow asked (record v { filling = f }) a
-  puts_filling asked a puts = record { met = puts.met; alike = puts.alike; few = puts.few }
-
-  pub anew_filling : (a : Space) → IsAnew v a → IsAnew (record v { filling = f }) a
-  anew_filling a anew = record { held = anew.held; whole = anew.whole }
-
-  pub laid_filling : (committed : Content) → IsLaidOutAs committed v → IsLaidOutAs committed (record v { filling = f })
-  laid_filling committed laid = record { block = laid.block; total = laid.total }
-
-  pub fits_filling : (asked : Command) (content : Content) → FitsAnew asked v content → FitsAnew asked (record v { filling = f }) content
-  fits_filling asked content fits = record { load = fits.load; grow = fits.grow; affords = fits.affords }
-
 -- ---- each time that it is to be tried again
 
 abbrev grown_in : Cost → List ℕ
@@ -169,36 +161,45 @@ module _ (capacity number : ℕ) (asked : Command) (before after : Content) (old
       nothing_grows : (grow : List ℕ) → grow ≡ 0 ∷ 0 ∷ 0 ∷ [] → 0 < slice_index grow 0 + slice_index grow 1 + slice_index grow 2 → ⊥
       nothing_grows grow flat some = let none : 0 < 0 = subst (λ (l : List ℕ). 0 < slice_index l 0 + slice_index l 1 + slice_index l 2) flat some in omega (arith, none)
 
-pub puts_none : (tree : PlainTree) (asked : Command) → may_put asked ≡ false → data_of tree asked ≡ None
-puts_none tree (command.Write path from value) none = absurd (true≢false none)
-puts_none tree (command.Trunc path size) none = absurd (true≢false none)
-puts_none tree (command.Mkdir p) none = refl
-puts_none tree (command.Create p) none = refl
-puts_none tree (command.Rm p) none = refl
-puts_none tree (command.Rmdir p) none = refl
-puts_none tree (command.Mv p q) none = refl
-puts_none tree (command.Ln p q) none = refl
-puts_none tree (command.Read p n m) none = refl
-puts_none tree (command.Ls p) none = refl
-puts_none tree (command.Stat p) none = refl
-puts_none tree (command.Chmod p m) none = refl
-puts_none tree (command.SetAttr p n v) none = refl
-puts_none tree (command.GetAttr p n) none = refl
-puts_none tree (command.DelAttr p n) none = refl
-puts_none tree (command.LsAttr p) none = refl
-puts_none tree (command.At n) none = refl
-puts_none tree command.Df none = refl
-puts_none tree command.Sync none = refl
+-- ---- the growth in hand
 
--- what puts no data fills nothing
-pub fills_none : (tree : PlainTree) (asked : Command) (old new : Option Filling) {P : Type 0} → data_of tree asked ≡ None → FillsMore (data_of tree asked) old new → P
-fills_none tree asked old new none fills = absurd (subst (λ (d : Option Data). FillsMore d old new) none fills)
+-- where none is in hand
+pub hand_none : (it : Outcome) (puts : Option Data) (filling : Option Filling) → filling ≡ None → KeepsGrowth it puts filling
+hand_none it puts filling none = subst (λ (f : Option Filling). KeepsGrowth it puts f) (sym none) tt
 
-pub further_afresh : (capacity : ℕ) (asked : Command) (before after : Content) (old new : Option Filling) → data_of (tree_of before) asked ≡ None → GoesFurther capacity asked None new before after → GoesFurther capacity asked old new before after
-further_afresh capacity asked before after old new none goes = elim goes [
-  | inl cuts ↦ inl cuts
-  | inr later ↦ elim later [
-    | inl grows ↦ inr (inl grows)
-    | inr fills ↦ fills_none (tree_of before) asked None new none fills
-  ]
-]
+pub hand_dropped : (result : Result Outcome Trouble) (puts : Option Data) (filling : Option Filling) → OnOk result (filling ≡ None) → IfOk result (λ it. KeepsGrowth it puts filling)
+hand_dropped (Ok it) puts filling none = hand_none it puts filling none
+hand_dropped (Err why) puts filling none = tt
+
+-- where more of its zero blocks are filled, it is its own
+pub hand_fills : (puts : Option Data) (old new : Option Filling) → FillsMore puts old new → KeepsGrowth outcome.Again puts new
+hand_fills None old new more = absurd more
+hand_fills (Some put) old None more = tt
+hand_fills (Some put) old (Some it) more = by (is_growth_of it put.id put.old_size put.new_size) refl
+  where
+    never : (n : ℕ) → 0 ≡ n + most_zeros → ⊥
+    never n same = omega (arith, same)
+
+    by : (b : Bool) → is_growth_of it put.id put.old_size put.new_size ≡ b → is_growth_of it put.id put.old_size put.new_size ≡ true
+    by true is = is
+    by false is = absurd (never (done_of old put.id put.old_size put.new_size) (sym (ap (λ b. if b then it.done else 0) is) ∙ more))
+
+-- ---- what isn't done yet
+
+pub cut_undone : (came : CutAhead) → IsDoneOk (outcome_of came) → ⊥
+cut_undone ahead.NotNeeded done = done
+cut_undone ahead.Made done = done
+cut_undone ahead.CommitFirst done = done
+cut_undone (ahead.Refused why) done = done
+
+pub growth_undone : (went : Growth) → IsDoneOk (grown went) → ⊥
+growth_undone growing.Grown done = done
+growth_undone growing.CommitFirst done = done
+
+-- what puts no data has no zero blocks left
+pub few_of_none : (asked : Command) (filling : Option Filling) (content : Content) → data_of (tree_of content) asked ≡ None → HasFewLeft asked filling content
+few_of_none asked filling content none = subst (λ (d : Option Data). AreFewLeft (zero_blocks (volume_of content).head.block_size (tree_of content) asked) d filling) (sym none) tt
+
+pub if_any : {A E : Type 0} (P : A → Type 0) (result : Result A E) → ((a : A) → P a) → IfOk result P
+if_any P (Ok a) every = every a
+if_any P (Err e) every = tt

@@ -1,7 +1,7 @@
 -- How many zero blocks a command has, by the numbers that a fill is told.
 use Rattle.std.proofs.Common.{◌≡◌, ◌<◌, ◌≤◌, ℕ, ◌+◌, ◌-◌, ◌*◌, ◌/◌, Bool, true, false, List, length, refl, sym, ◌∙◌, ap, subst, arith, ⊎_elim}
-use Rattle.std.specs.Prelude.{◌==◌, ◌||◌, nat_lt, Option, Some, None, Result, Ok, Err, if◌then◌else◌}
-use Rattle.std.proofs.lemmas.Bool.{cases_lt, lt-ltb, true≢false}
+use Rattle.std.specs.Prelude.{◌==◌, ◌||◌, max, nat_lt, Option, Some, None, Result, Ok, Err, if◌then◌else◌}
+use Rattle.std.proofs.lemmas.Bool.{cases_lt, le-ltb, lt-ltb, ltb-false, true≢false}
 use Rattle.std.proofs.lemmas.Nat.{div_below}
 use Rattle.jnl_format.specs.Recovery.{Content}
 use Rattle.file_io.specs.Places.{blocks_for}
@@ -11,11 +11,10 @@ use Rattle.hfs_language.specs.declared.refusal.Refusal.{Refusal}
 use Rattle.hfs_language.specs.declared.refusal.Refusal.TheVariants as refusal
 use Rattle.hfs_language.specs.declared.reply.Facts.{Facts}
 use Rattle.hfs_language.specs.declared.reply.Reply.TheVariants as reply
-use Rattle.hfs_model.specs.Step.{is_refusal, most_bytes, most_size, on, refuses, resized, size_written, step_line, then_, to_file, to_node, unless, written}
+use Rattle.hfs_model.specs.Step.{facts_of, is_private_path, is_refusal, most_bytes, most_size, on, refuses, resized, size_written, step, step_line, then_, to_file, to_node, unless, written}
 use Rattle.hfs_model.specs.declared.plain.PlainNode.{PlainNode}
 use Rattle.hfs_model.specs.declared.plain.PlainTree.{PlainTree}
 use Rattle.hfs_volume.specs.Content.{VolumeState, volume_of}
-use Rattle.hfs_volume.specs.Forks.{parts_for}
 use Rattle.hfs_volume.specs.TreeOf.{tree_of}
 use Rattle.hfs_volume.specs.Weight.{Data, data_of, grown_data, most_zeros, written_data, zero_blocks, zeros_before_value, zeros_up_to_size}
 use Rattle.hfs_volume.proofs.Reaching.{ok_same, then_ok, unless_ok}
@@ -24,7 +23,7 @@ use Rattle.volume_base.specs.Standing.{IsSettled}
 use Rattle.volume_base.specs.declared.volume.Filling.{Filling}
 use Rattle.volume_base.specs.declared.volume.Volume.{Volume}
 use Rattle.volume_space.specs.Zeroing.{done_of}
-use Rattle.volume_step.specs.Steps.{FillsMore}
+use Rattle.volume_step.specs.Steps.{AreFewLeft, FillsMore, HasFewLeft}
 use Rattle.volume_base.proofs.ToldFile.{about, told_node}
 use Rattle.volume_space.proofs.PutNumbers.{parts_are}
 use Rattle.volume_step.proofs.Done.{step_fine}
@@ -40,6 +39,16 @@ file_told tree path told is file found =
     let same : it.node ≡ own.0 = ok_same it.node own.0 (sym it.found ∙ own.1) in
     let here = about tree path told it (ap (λ (n : PlainNode). n.folder) same ∙ kind.0) in
     (ap (λ (n : PlainNode). length n.bytes) (sym (same ∙ kind.1)) ∙ here.size, ap (λ (n : PlainNode). n.id) (sym (same ∙ kind.1)) ∙ here.id)
+
+-- a file that isn't the volume's own has a stat
+pub never_told : (tree : PlainTree) (path : List (List ℕ)) (file : PlainNode) → to_file tree path ≡ Ok file → is_private_path path ≡ false → (why : Refusal) → Err why ≡ facts_or (step_line tree (Ok (command.Stat path))).0 → ⊥
+never_told tree path file found free why is =
+    let own = then_ok (to_node tree path) (λ n. unless n.folder refusal.IsFolder n) file found in
+    let never : Err why ≡ Ok (facts_of tree own.0) =
+    is
+    ∙ ap (λ b. facts_or (if b || false then (reply.No refusal.Private, tree) else step tree (command.Stat path)).0) free
+    ∙ ap (λ (r : Result PlainNode Refusal). facts_or (on tree r (λ n. (reply.Facts (facts_of tree n), tree))).0) own.1 in
+    cc never
 
 pub low_here : (stop x y so_far : ℕ) → x ≡ y → so_far + most_zeros < stop - x → most_zeros < stop - y
 low_here stop x y so_far same low = omega (arith, same, low)
@@ -89,30 +98,45 @@ module _ (tree : PlainTree) (path : List (List ℕ)) where
         never_more : (a b : ℕ) → a ≤ b → most_zeros < a - b → ⊥
         never_more a b less more = omega (arith, less, more)
 
-    pub zeros_of_trunc : (size : ℕ) → most_zeros < blocks_for block size - blocks_for block (length file.bytes) → zero_blocks block tree (command.Trunc path size) ≡ blocks_for block size - blocks_for block (length file.bytes)
+    pub zeros_of_longer : (size : ℕ) → length file.bytes < size → zero_blocks block tree (command.Trunc path size) ≡ blocks_for block size - blocks_for block (length file.bytes)
     unfolding grown_put
-    zeros_of_trunc size many =
+    zeros_of_longer size more =
         ap (λ r. zeros_up_to_size block (grown_data size r)) found
-        ∙ ap (λ b. zeros_up_to_size block (if b then Some (grown_put size) else None)) (lt-ltb (length file.bytes) size (longer size many))
+        ∙ ap (λ b. zeros_up_to_size block (if b then Some (grown_put size) else None)) (lt-ltb (length file.bytes) size more)
         ∙ (λ i. parts_are size block some i - parts_are (length file.bytes) block some i)
+
+    pub zeros_of_trunc : (size : ℕ) → most_zeros < blocks_for block size - blocks_for block (length file.bytes) → zero_blocks block tree (command.Trunc path size) ≡ blocks_for block size - blocks_for block (length file.bytes)
+    zeros_of_trunc size many = zeros_of_longer size (longer size many)
 
 -- ---- more zero blocks of its growth
 
+-- the size behind a value that has bytes
+pub size_grown : (size from long : ℕ) → (long == 0) ≡ false → size_written size from long ≡ max size (from + long)
+size_grown size from long none =
+    ap (λ b. if b then size else if nat_lt size (from + long) then from + long else size) none
+    ∙ ⊎_elim
+    (λ (more : size < from + long). ap (λ b. if b then from + long else size) (lt-ltb size (from + long) more) ∙ (let last : from + long ≡ max size (from + long) = omega (arith, more) in last))
+    (λ (less : from + long ≤ size). ap (λ b. if b then from + long else size) (le-ltb size (from + long) less) ∙ (let still : size ≡ max size (from + long) = omega (arith, less) in still))
+    (cases_lt size (from + long))
+
 module _ (tree : PlainTree) (path : List (List ℕ)) (old new : Option Filling) (file : PlainNode) (found : to_file tree path ≡ Ok file)
-    (more : (size : ℕ) × (done_of new file.id (length file.bytes) size ≡ done_of old file.id (length file.bytes) size + most_zeros))
+    (end : ℕ) (more : done_of new file.id (length file.bytes) (max (length file.bytes) end) ≡ done_of old file.id (length file.bytes) (max (length file.bytes) end) + most_zeros)
   where
-    pub more_of_write : (from : ℕ) (value : List ℕ) → (length value == 0) ≡ false → FillsMore (data_of tree (command.Write path from value)) old new
-    more_of_write from value none = subst (λ (d : Option Data). FillsMore d old new) (sym data_is) more
+    as_put : (size : ℕ) → max (length file.bytes) end ≡ size → done_of new file.id (length file.bytes) size ≡ done_of old file.id (length file.bytes) size + most_zeros
+    as_put size same = subst (λ n. done_of new file.id (length file.bytes) n ≡ done_of old file.id (length file.bytes) n + most_zeros) same more
+
+    pub more_of_write : (from : ℕ) (value : List ℕ) → (length value == 0) ≡ false → end ≡ from + length value → FillsMore (data_of tree (command.Write path from value)) old new
+    more_of_write from value none last = subst (λ (d : Option Data). FillsMore d old new) (sym data_is) (as_put (size_written (length file.bytes) from (length value)) (ap (max (length file.bytes)) last ∙ sym (size_grown (length file.bytes) from (length value) none)))
       where
         data_is : data_of tree (command.Write path from value) ≡ Some (record { id = file.id; old_size = length file.bytes; new_size = size_written (length file.bytes) from (length value); from = from; end = from + length value })
         data_is = ap (written_data from (length value)) found
             ∙ ap (λ b. if b then None else Some (record { id = file.id; old_size = length file.bytes; new_size = size_written (length file.bytes) from (length value); from = from; end = from + length value })) none
 
-    pub more_of_trunc : (size : ℕ) → length file.bytes < size → FillsMore (data_of tree (command.Trunc path size)) old new
-    more_of_trunc size longer = subst (λ (d : Option Data). FillsMore d old new) (sym data_is) more
+    pub more_of_trunc : length file.bytes < end → FillsMore (data_of tree (command.Trunc path end)) old new
+    more_of_trunc longer_ = subst (λ (d : Option Data). FillsMore d old new) (sym data_is) (as_put end (omega (arith, longer_)))
       where
-        data_is : data_of tree (command.Trunc path size) ≡ Some (record { id = file.id; old_size = length file.bytes; new_size = size; from = length file.bytes; end = size })
-        data_is = ap (grown_data size) found ∙ ap (λ b. if b then Some (record { id = file.id; old_size = length file.bytes; new_size = size; from = length file.bytes; end = size }) else None) (lt-ltb (length file.bytes) size longer)
+        data_is : data_of tree (command.Trunc path end) ≡ Some (record { id = file.id; old_size = length file.bytes; new_size = end; from = length file.bytes; end = end })
+        data_is = ap (grown_data end) found ∙ ap (λ b. if b then Some (record { id = file.id; old_size = length file.bytes; new_size = end; from = length file.bytes; end = end }) else None) (lt-ltb (length file.bytes) end longer_)
 
 -- ---- of a settled volume
 
@@ -135,6 +159,72 @@ module _ (v : Volume) (content : Content) (settled : IsSettled v content) (some 
       let it = file_of_trunc (tree_of content) path size fine in
       subst (λ b. most_zeros < zero_blocks b (tree_of content) (command.Trunc path size)) (sym block_is)
       (subst (λ n. most_zeros < n) (sym (zeros_of_trunc (tree_of content) path v.header.block_size some it.0 it.1 size (low it.0 it.1))) (low it.0 it.1))
+
+-- ---- no more are left than one step fills
+
+-- a value that its step doesn't refuse ends by 2^40
+pub end_of_write : (tree : PlainTree) (path : List (List ℕ)) (from : ℕ) (value : List ℕ) → refuses tree (Ok (command.Write path from value)) ≡ false → from + length value ≤ most_size
+end_of_write tree path from value fine = by (to_file tree path) (step_fine tree (command.Write path from value) fine)
+  where
+    by_size : (b c : Bool) (file : PlainNode) → nat_lt most_size (from + length value) ≡ b → is_refusal (on tree (unless (b || c) refusal.TooLarge file) (λ f. (reply.Ok, written f from value tree))).0 ≡ false → from + length value ≤ most_size
+    by_size true c file is fine_ = absurd (true≢false fine_)
+    by_size false c file is fine_ = ltb-false most_size (from + length value) is
+
+    by : (r : Result PlainNode Refusal) → is_refusal (on tree (then_ r (unless (nat_lt most_size (from + length value) || nat_lt most_bytes (length value)) refusal.TooLarge)) (λ file. (reply.Ok, written file from value tree))).0 ≡ false → from + length value ≤ most_size
+    by (Ok file) is = by_size (nat_lt most_size (from + length value)) (nat_lt most_bytes (length value)) file refl is
+    by (Err why) is = absurd (true≢false is)
+
+module _ (v : Volume) (content : Content) (settled : IsSettled v content) (some : 0 < v.header.block_size) (path : List (List ℕ)) (file : PlainNode) (found : to_file (tree_of content) path ≡ Ok file) (filling : Option Filling) where
+  head_block : (volume_of content).head.block_size ≡ v.header.block_size
+  head_block = ap (λ (l : VolumeState). l.head.block_size) settled.lists
+
+  pub few_of_write : (from : ℕ) (value : List ℕ) (end : ℕ) → (length value == 0) ≡ false → end ≡ from + length value
+      → from / v.header.block_size - blocks_for v.header.block_size (length file.bytes) ≤ done_of filling file.id (length file.bytes) (max (length file.bytes) end) + most_zeros → HasFewLeft (command.Write path from value) filling content
+  few_of_write from value end none last left = subst (λ (d : Option Data). AreFewLeft (zero_blocks (volume_of content).head.block_size (tree_of content) (command.Write path from value)) d filling) (sym data_is)
+      (subst (λ (k : ℕ × ℕ). k.0 ≤ done_of filling file.id (length file.bytes) k.1 + most_zeros)
+      {x = (from / v.header.block_size - blocks_for v.header.block_size (length file.bytes), max (length file.bytes) end)} {y = (zero_blocks (volume_of content).head.block_size (tree_of content) (command.Write path from value), size_written (length file.bytes) from (length value))}
+      (λ i. (zeros_are i, size_is i)) left)
+    where
+      data_is : data_of (tree_of content) (command.Write path from value) ≡ Some (record { id = file.id; old_size = length file.bytes; new_size = size_written (length file.bytes) from (length value); from = from; end = from + length value })
+      data_is = ap (written_data from (length value)) found
+          ∙ ap (λ b. if b then None else Some (record { id = file.id; old_size = length file.bytes; new_size = size_written (length file.bytes) from (length value); from = from; end = from + length value })) none
+
+      zeros_are : from / v.header.block_size - blocks_for v.header.block_size (length file.bytes) ≡ zero_blocks (volume_of content).head.block_size (tree_of content) (command.Write path from value)
+      zeros_are = sym (ap (λ b. zero_blocks b (tree_of content) (command.Write path from value)) head_block ∙ zeros_of_write (tree_of content) path v.header.block_size some file found from value none)
+
+      size_is : max (length file.bytes) end ≡ size_written (length file.bytes) from (length value)
+      size_is = ap (max (length file.bytes)) last ∙ sym (size_grown (length file.bytes) from (length value) none)
+
+  -- a `write` of no byte puts none
+  pub few_of_nothing : (from : ℕ) (value : List ℕ) → (length value == 0) ≡ true → HasFewLeft (command.Write path from value) filling content
+  few_of_nothing from value none = subst (λ (d : Option Data). AreFewLeft (zero_blocks (volume_of content).head.block_size (tree_of content) (command.Write path from value)) d filling) (sym data_is) tt
+    where
+      data_is : data_of (tree_of content) (command.Write path from value) ≡ None
+      data_is = ap (written_data from (length value)) found
+          ∙ ap (λ b. if b then None else Some (record { id = file.id; old_size = length file.bytes; new_size = size_written (length file.bytes) from (length value); from = from; end = from + length value })) none
+
+  pub few_of_trunc : (size : ℕ) → length file.bytes < size → blocks_for v.header.block_size size - blocks_for v.header.block_size (length file.bytes) ≤ done_of filling file.id (length file.bytes) (max (length file.bytes) size) + most_zeros
+      → HasFewLeft (command.Trunc path size) filling content
+  few_of_trunc size longer_ left = subst (λ (d : Option Data). AreFewLeft (zero_blocks (volume_of content).head.block_size (tree_of content) (command.Trunc path size)) d filling) (sym data_is)
+      (subst (λ (k : ℕ × ℕ). k.0 ≤ done_of filling file.id (length file.bytes) k.1 + most_zeros)
+      {x = (blocks_for v.header.block_size size - blocks_for v.header.block_size (length file.bytes), max (length file.bytes) size)} {y = (zero_blocks (volume_of content).head.block_size (tree_of content) (command.Trunc path size), size)}
+      (λ i. (zeros_are i, size_is i)) left)
+    where
+      data_is : data_of (tree_of content) (command.Trunc path size) ≡ Some (record { id = file.id; old_size = length file.bytes; new_size = size; from = length file.bytes; end = size })
+      data_is = ap (grown_data size) found ∙ ap (λ b. if b then Some (record { id = file.id; old_size = length file.bytes; new_size = size; from = length file.bytes; end = size }) else None) (lt-ltb (length file.bytes) size longer_)
+
+      zeros_are : blocks_for v.header.block_size size - blocks_for v.header.block_size (length file.bytes) ≡ zero_blocks (volume_of content).head.block_size (tree_of content) (command.Trunc path size)
+      zeros_are = sym (ap (λ b. zero_blocks b (tree_of content) (command.Trunc path size)) head_block ∙ zeros_of_longer (tree_of content) path v.header.block_size some file found size longer_)
+
+      size_is : max (length file.bytes) size ≡ size
+      size_is = omega (arith, longer_)
+
+  -- nor does a `trunc` that makes the file no longer
+  pub few_of_shorter : (size : ℕ) → size ≤ length file.bytes → HasFewLeft (command.Trunc path size) filling content
+  few_of_shorter size short = subst (λ (d : Option Data). AreFewLeft (zero_blocks (volume_of content).head.block_size (tree_of content) (command.Trunc path size)) d filling) (sym data_is) tt
+    where
+      data_is : data_of (tree_of content) (command.Trunc path size) ≡ None
+      data_is = ap (grown_data size) found ∙ ap (λ b. if b then Some (record { id = file.id; old_size = length file.bytes; new_size = size; from = length file.bytes; end = size }) else None) (le-ltb (length file.bytes) size short)
 
 -- ---- the blocks that are filled lie before the first byte that is new
 

@@ -18,6 +18,7 @@ pub mod KeptLinks
 pub mod Linked
 pub mod Loaded
 pub mod MetNow
+pub mod Performed
 pub mod Putting
 pub mod Ready
 pub mod ReadyData

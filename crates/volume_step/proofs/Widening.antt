@@ -31,7 +31,7 @@ use Rattle.volume_step.specs.declared.outcome.Outcome.TheVariants as outcome
 
 -- ---- the sectors that are put
 
-touches_wider : (committed : Content) (these those : ℕ → Type 0) (a b : Space) → ((s : ℕ) → these s → those s) → Touches committed these a b → Touches committed those a b
+pub touches_wider : (committed : Content) (these those : ℕ → Type 0) (a b : Space) → ((s : ℕ) → these s → those s) → Touches committed these a b → Touches committed those a b
 touches_wider committed these those a b wider was = record {
   same = was.same;
   durable = was.durable;

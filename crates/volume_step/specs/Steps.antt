@@ -33,7 +33,7 @@ use Rattle.volume_space.specs.declared.cutting_ahead.CutAhead.{CutAhead}
 use Rattle.volume_space.specs.declared.cutting_ahead.CutAhead.TheVariants as ahead
 use Rattle.volume_base.specs.declared.volume.Filling.{Filling}
 use Rattle.volume_base.specs.declared.volume.Volume.{Volume}
-use Rattle.volume_space.specs.Zeroing.{done_of}
+use Rattle.volume_space.specs.Zeroing.{done_of, is_growth_of}
 use Rattle.volume_base.specs.declared.weighing.Weight.{Weight}
 use Rattle.volume_base.specs.declared.weighing.Weight.TheVariants as answer
 use Rattle.volume_step.specs.declared.outcome.Outcome.{Outcome}
@@ -103,7 +103,31 @@ StepsNow outcome.Again capacity number asked before after = ⊥
 -- of the growth of the file that data is put into, as many more zero blocks are filled as one step fills
 abbrev pub FillsMore : Option Data → Option Filling → Option Filling → Type 0
 FillsMore None old new = ⊥
-FillsMore (Some put) old new = (size : ℕ) × (done_of new put.id put.old_size size ≡ done_of old put.id put.old_size size + most_zeros)
+FillsMore (Some put) old new = done_of new put.id put.old_size put.new_size ≡ done_of old put.id put.old_size put.new_size + most_zeros
+
+-- of so many zero blocks of the growth of the file that data is put into, no more are left than one step fills
+abbrev pub AreFewLeft : ℕ → Option Data → Option Filling → Type 0
+AreFewLeft all None filling = Unit {0}
+AreFewLeft all (Some put) filling = all ≤ done_of filling put.id put.old_size put.new_size + most_zeros
+
+-- a command has no more zero blocks left than one step fills
+abbrev pub HasFewLeft : Command → Option Filling → Content → Type 0
+HasFewLeft asked filling content = AreFewLeft (zero_blocks (volume_of content).head.block_size (tree_of content) asked) (data_of (tree_of content) asked) filling
+
+-- a growth in hand is that of the file that data is put into
+abbrev pub IsGrowthOf : Option Data → Filling → Type 0
+IsGrowthOf None it = ⊥
+IsGrowthOf (Some put) it = is_growth_of it put.id put.old_size put.new_size ≡ true
+
+-- a growth is in hand for a command alone that puts this data, and is to be tried again
+abbrev pub IsInHandFor : Outcome → Option Data → Filling → Type 0
+IsInHandFor outcome.Again put it = IsGrowthOf put it
+IsInHandFor _ put it = ⊥
+
+-- a growth in hand behind a command is its own, and the command is to be tried again
+abbrev pub KeepsGrowth : Outcome → Option Data → Option Filling → Type 0
+KeepsGrowth came put None = Unit {0}
+KeepsGrowth came put (Some it) = IsInHandFor came put it
 
 -- where a command is to be tried again, a cut or the growth of a tree went ahead of it, or more zero blocks are filled
 abbrev pub GoesFurther : ℕ → Command → Option Filling → Option Filling → Content → Content → Type 0
@@ -184,12 +208,6 @@ outcome_of (ahead.Refused why) = outcome.Answered (reply.No why) []
 -- fewer sectors may be put than a cut puts at most
 abbrev pub LacksCutRoom : Volume → Space → Type 0
 LacksCutRoom volume space = space.spare < cut_puts (room_with (capacity_of volume) (free_blocks (volume_of space.content)) (volume_of space.content))
-
--- whether a command may put data into a file
-abbrev pub may_put : Command → Bool
-may_put (command.Write path from value) = true
-may_put (command.Trunc path size) = true
-may_put asked = false
 
 -- ---- a growth that goes first
 

@@ -18,7 +18,7 @@ ghost use Rattle.volume_space.specs.Zeroing.{HasFilled};
 ghost use Rattle.volume_base.specs.Standing.{IsSettled, StandsOver, own_sectors};
 ghost use Rattle.volume_base.specs.Touching.{Touches};
 ghost use Rattle.volume_step.specs.Loads.{IsWithinLoad};
-ghost use Rattle.volume_step.specs.Steps.{KeepsJournal, LacksCutRoom, ShrinksAs, StepsTo, data_end, data_path, outcome_of};
+ghost use Rattle.volume_step.specs.Steps.{IsDoneOk, KeepsJournal, LacksCutRoom, ShrinksAs, StepsTo, data_end, data_path, outcome_of};
 ghost use Rattle.volume_step.specs.declared.outcome.Outcome.TheVariants as outcome;
 
 use crate::answering::refusal;
@@ -95,6 +95,10 @@ fn cut_up_to<P: SectorSpace>(
     requires end { data_end command.now ≡ Some end }
     requires waits { IsTrue (P.SectorView.space space.old).tells → WaitsForCut (P.SectorView.space space.old).content command.now }
     ensures answered { IsTrue (P.SectorView.space space.old).tells → IfOk result (λ outcome. StepsTo outcome (capacity_of volume.old) _number command.now (P.SectorView.space space.old).content (P.SectorView.space space.new).content) }
+    // It isn't done yet.
+    ensures never { IfOk result (λ it. IsDoneOk it → ⊥) }
+    // No growth is in hand behind it.
+    ensures dropped { OnOk result (volume.new.filling ≡ None) }
     ensures place { IsTrue (P.SectorView.space space.old).tells → OnOk result (KeepsJournal (P.SectorView.space space.old).content (P.SectorView.space space.new).content) }
     ensures stands { OnOk result (StandsOver volume.new (P.SectorView.space space.new)) }
     ensures settled { IsTrue (P.SectorView.space space.old).tells → OnOk result (IsSettled volume.new (P.SectorView.space space.new).content) }
@@ -141,6 +145,10 @@ pub(crate) fn cut_first<P: SectorSpace>(
     requires changes { only_reads command.now ≡ false }
     requires waits { IsTrue (P.SectorView.space space.old).tells → WaitsForCut (P.SectorView.space space.old).content command.now }
     ensures answered { IsTrue (P.SectorView.space space.old).tells → IfOk result (λ outcome. StepsTo outcome (capacity_of volume.old) number command.now (P.SectorView.space space.old).content (P.SectorView.space space.new).content) }
+    // It isn't done yet.
+    ensures never { IfOk result (λ it. IsDoneOk it → ⊥) }
+    // No growth is in hand behind it.
+    ensures dropped { OnOk result (volume.new.filling ≡ None) }
     ensures place { IsTrue (P.SectorView.space space.old).tells → OnOk result (KeepsJournal (P.SectorView.space space.old).content (P.SectorView.space space.new).content) }
     ensures stands { OnOk result (StandsOver volume.new (P.SectorView.space space.new)) }
     ensures settled { IsTrue (P.SectorView.space space.old).tells → OnOk result (IsSettled volume.new (P.SectorView.space space.new).content) }

@@ -1,5 +1,5 @@
 //! The growth of a tree ahead of a command that wants more nodes of it.
-ghost use Rattle.std.specs.Prelude.{◌≡◌, ◌≢◌, ◌≤◌, ◌+◌, ℕ, IsTrue, IfOk, OnOk};
+ghost use Rattle.std.specs.Prelude.{◌≡◌, ◌≢◌, ◌≤◌, ◌+◌, ℕ, None, IsTrue, IfOk, OnOk};
 ghost use Rattle.sector_disk.specs.Lists.{Content};
 ghost use Rattle.btree_edit.specs.Causes.{HasTroubleCause};
 ghost use Rattle.hfs_volume.specs.Aside.{IsJournalSector};
@@ -11,7 +11,7 @@ ghost use Rattle.volume_base.specs.Standing.{IsSettled, StandsOver};
 ghost use Rattle.volume_base.specs.Touching.{Touches};
 ghost use Rattle.volume_space.specs.Growing.{WantsFirst};
 ghost use Rattle.volume_space.specs.Zeroing.{HasFilled};
-ghost use Rattle.volume_step.specs.Steps.{KeepsJournal, OwnOf, ShrinksAs, StepsTo, WaitsForGrowth, grown};
+ghost use Rattle.volume_step.specs.Steps.{IsDoneOk, KeepsJournal, OwnOf, ShrinksAs, StepsTo, WaitsForGrowth, grown};
 ghost use Rattle.volume_step.specs.declared.outcome.Outcome.TheVariants as outcome;
 
 use crate::outcome::Outcome;
@@ -40,6 +40,10 @@ pub(crate) fn grow_first<P: SectorSpace>(
     ensures answered { IsTrue (P.SectorView.space space.old).tells → IfOk result (λ outcome. StepsTo outcome (capacity_of volume.old) _number _command.now (P.SectorView.space space.old).content (P.SectorView.space space.new).content) }
     // Where a load wants it that may be put, no commit comes first.
     ensures ready { IsTrue (P.SectorView.space space.old).tells → WantsFirst tree more volume.old (P.SectorView.space space.old) → IfOk result (λ it. it ≢ outcome.CommitFirst) }
+    // It isn't done yet.
+    ensures never { IfOk result (λ it. IsDoneOk it → ⊥) }
+    // No growth is in hand behind it.
+    ensures dropped { OnOk result (volume.new.filling ≡ None) }
     ensures place { IsTrue (P.SectorView.space space.old).tells → OnOk result (KeepsJournal (P.SectorView.space space.old).content (P.SectorView.space space.new).content) }
     ensures stands { OnOk result (StandsOver volume.new (P.SectorView.space space.new)) }
     ensures settled { IsTrue (P.SectorView.space space.old).tells → OnOk result (IsSettled volume.new (P.SectorView.space space.new).content) }

@@ -2,23 +2,19 @@
 ghost use Rattle.std.specs.Prelude.{◌≡◌, ◌≢◌, ℕ, true, None, IsTrue, IfOk, OnOk};
 ghost use Rattle.std.specs.List.{Contains};
 ghost use Rattle.sector_disk.specs.Lists.{Content};
-ghost use Rattle.sector_disk.specs.Space.{SameSpace};
-ghost use Rattle.btree_edit.specs.Causes.{HasTroubleCause};
 ghost use Rattle.hfs_language.specs.Written.{FitsPath};
 ghost use Rattle.hfs_language.specs.declared.command.Command.TheVariants as command;
 ghost use Rattle.hfs_volume.specs.Aside.{IsJournalSector};
 ghost use Rattle.hfs_volume.specs.Content.{volume_of};
 ghost use Rattle.hfs_volume.specs.TreeOf.{tree_of};
 ghost use Rattle.hfs_volume.specs.Weight.{data_of};
+ghost use Rattle.volume_base.specs.Frame.{Serves};
 ghost use Rattle.volume_base.specs.Keeping.{shrunk_of};
 ghost use Rattle.volume_base.specs.Room.{capacity_of};
-ghost use Rattle.volume_base.specs.Service.{IsInService};
-ghost use Rattle.volume_space.specs.Spilling.{IsLaidOutAs};
-ghost use Rattle.volume_space.specs.Standing.{HoldsOn};
 ghost use Rattle.volume_space.specs.Writing.{is_data_met};
 ghost use Rattle.volume_space.specs.Zeroing.{HasFilled};
-ghost use Rattle.volume_base.specs.Standing.{IsSettled, StandsOver, own_sectors};
-ghost use Rattle.volume_base.specs.Touching.{Touches};
+ghost use Rattle.volume_base.specs.Standing.{own_sectors};
+ghost use Rattle.volume_step.specs.Performing.{Performs};
 ghost use Rattle.volume_step.specs.Loads.{IsWithinLoad};
 ghost use Rattle.volume_step.specs.Steps.{Affords, IsMet, KeepsJournal, ShrinksAs, StepsNow};
 ghost use Rattle.volume_step.specs.declared.outcome.Outcome.TheVariants as outcome;
@@ -40,8 +36,7 @@ fn lengthen<P: SectorSpace>(
     path: &Path,
     size: u64,
 ) -> Result<Outcome, Trouble>
-    requires stands { StandsOver volume.old (P.SectorView.space space.old) }
-    requires settled { IsTrue (P.SectorView.space space.old).tells → IsSettled volume.old (P.SectorView.space space.old).content }
+    requires serves { Serves volume.old (P.SectorView.space space.old) }
     requires filled { HasFilled volume.old (P.SectorView.space space.old) }
     requires fits { FitsPath path.now }
     requires closed { IsTrue (P.SectorView.space space.old).tells → (at : ℕ) → (P.SectorView.space space.old).closed at → IsJournalSector (P.SectorView.space space.old).content at }
@@ -50,17 +45,9 @@ fn lengthen<P: SectorSpace>(
     // Where its data is met, no commit comes first.
     ensures puts { IsTrue (P.SectorView.space space.old).tells → is_data_met volume.old (P.SectorView.space space.old).spare (volume_of (P.SectorView.space space.old).content) (data_of (tree_of (P.SectorView.space space.old).content) (command.Trunc path.now size)) ≡ true → IfOk result (λ it. it ≢ outcome.CommitFirst) }
     ensures place { IsTrue (P.SectorView.space space.old).tells → OnOk result (KeepsJournal (P.SectorView.space space.old).content (P.SectorView.space space.new).content) }
-    ensures stands { OnOk result (StandsOver volume.new (P.SectorView.space space.new)) }
-    ensures settled { IsTrue (P.SectorView.space space.old).tells → OnOk result (IsSettled volume.new (P.SectorView.space space.new).content) }
-    ensures service { IsInService volume.new (P.SectorView.space space.new) }
-    ensures holds { (committed : Content) → HoldsOn committed volume.old → OnOk result (HoldsOn committed volume.new) }
-    ensures capacity { capacity_of volume.new ≡ capacity_of volume.old }
     ensures shrunk { shrunk_of volume.new ≡ shrunk_of volume.old }
-    ensures touches { (committed : Content) → HoldsOn committed volume.old → IsLaidOutAs committed volume.old → Touches committed (λ s. Contains (own_sectors volume.old) s) (P.SectorView.space space.old) (P.SectorView.space space.new) }
-    ensures same { SameSpace (P.SectorView.space space.old) (P.SectorView.space space.new) }
     ensures loads { IsTrue (P.SectorView.space space.old).tells → IsWithinLoad (command.Trunc path.now size) volume.old (P.SectorView.space space.old) (P.SectorView.space space.new) }
-    ensures below { P.SectorView.follows space.old space.new }
-    ensures cause { HasTroubleCause (P.SectorView.space space.old).faults (P.SectorView.space space.new).faults result }
+    ensures frame { Performs P.SectorView.space P.SectorView.follows (λ s. Contains (own_sectors volume.old) s) volume.old volume.new space.old space.new result }
 {
     let changes = volume.change_at(alloc, space, number, ChangeKind::Content, path)?;
     match volume_space::lengthen(volume, alloc, space, path, size)? {
@@ -78,8 +65,7 @@ pub(crate) fn resize<P: SectorSpace>(
     path: &Path,
     size: u64,
 ) -> Result<Outcome, Trouble>
-    requires stands { StandsOver volume.old (P.SectorView.space space.old) }
-    requires settled { IsTrue (P.SectorView.space space.old).tells → IsSettled volume.old (P.SectorView.space space.old).content }
+    requires serves { Serves volume.old (P.SectorView.space space.old) }
     requires filled { HasFilled volume.old (P.SectorView.space space.old) }
     requires fits { FitsPath path.now }
     requires closed { IsTrue (P.SectorView.space space.old).tells → (at : ℕ) → (P.SectorView.space space.old).closed at → IsJournalSector (P.SectorView.space space.old).content at }
@@ -90,17 +76,9 @@ pub(crate) fn resize<P: SectorSpace>(
     // Where its data is met, no commit comes first.
     ensures puts { IsTrue (P.SectorView.space space.old).tells → is_data_met volume.old (P.SectorView.space space.old).spare (volume_of (P.SectorView.space space.old).content) (data_of (tree_of (P.SectorView.space space.old).content) (command.Trunc path.now size)) ≡ true → IfOk result (λ it. it ≢ outcome.CommitFirst) }
     ensures place { IsTrue (P.SectorView.space space.old).tells → OnOk result (KeepsJournal (P.SectorView.space space.old).content (P.SectorView.space space.new).content) }
-    ensures stands { OnOk result (StandsOver volume.new (P.SectorView.space space.new)) }
-    ensures settled { IsTrue (P.SectorView.space space.old).tells → OnOk result (IsSettled volume.new (P.SectorView.space space.new).content) }
-    ensures service { IsInService volume.new (P.SectorView.space space.new) }
-    ensures holds { (committed : Content) → HoldsOn committed volume.old → OnOk result (HoldsOn committed volume.new) }
-    ensures capacity { capacity_of volume.new ≡ capacity_of volume.old }
     ensures shrunk { IsTrue (P.SectorView.space space.old).tells → IfOk result (λ outcome. ShrinksAs outcome (command.Trunc path.now size) (P.SectorView.space space.old).content (shrunk_of volume.old) (shrunk_of volume.new)) }
-    ensures touches { (committed : Content) → HoldsOn committed volume.old → IsLaidOutAs committed volume.old → Touches committed (λ s. Contains (own_sectors volume.old) s) (P.SectorView.space space.old) (P.SectorView.space space.new) }
-    ensures same { SameSpace (P.SectorView.space space.old) (P.SectorView.space space.new) }
     ensures loads { IsTrue (P.SectorView.space space.old).tells → IsWithinLoad (command.Trunc path.now size) volume.old (P.SectorView.space space.old) (P.SectorView.space space.new) }
-    ensures below { P.SectorView.follows space.old space.new }
-    ensures cause { HasTroubleCause (P.SectorView.space space.old).faults (P.SectorView.space space.new).faults result }
+    ensures frame { Performs P.SectorView.space P.SectorView.follows (λ s. Contains (own_sectors volume.old) s) volume.old volume.new space.old space.new result }
 {
     let changes = volume.change_at(alloc, space, number, ChangeKind::Content, path)?;
     if !volume.fits_update(space) {
@@ -123,8 +101,7 @@ pub(crate) fn write_value<P: SectorSpace>(
     from: u64,
     value: &[u8],
 ) -> Result<Outcome, Trouble>
-    requires stands { StandsOver volume.old (P.SectorView.space space.old) }
-    requires settled { IsTrue (P.SectorView.space space.old).tells → IsSettled volume.old (P.SectorView.space space.old).content }
+    requires serves { Serves volume.old (P.SectorView.space space.old) }
     requires filled { HasFilled volume.old (P.SectorView.space space.old) }
     requires fits { FitsPath path.now }
     requires closed { IsTrue (P.SectorView.space space.old).tells → (at : ℕ) → (P.SectorView.space space.old).closed at → IsJournalSector (P.SectorView.space space.old).content at }
@@ -135,17 +112,9 @@ pub(crate) fn write_value<P: SectorSpace>(
     // Where its data is met, no commit comes first.
     ensures puts { IsTrue (P.SectorView.space space.old).tells → is_data_met volume.old (P.SectorView.space space.old).spare (volume_of (P.SectorView.space space.old).content) (data_of (tree_of (P.SectorView.space space.old).content) (command.Write path.now from value.now)) ≡ true → IfOk result (λ it. it ≢ outcome.CommitFirst) }
     ensures place { IsTrue (P.SectorView.space space.old).tells → OnOk result (KeepsJournal (P.SectorView.space space.old).content (P.SectorView.space space.new).content) }
-    ensures stands { OnOk result (StandsOver volume.new (P.SectorView.space space.new)) }
-    ensures settled { IsTrue (P.SectorView.space space.old).tells → OnOk result (IsSettled volume.new (P.SectorView.space space.new).content) }
-    ensures service { IsInService volume.new (P.SectorView.space space.new) }
-    ensures holds { (committed : Content) → HoldsOn committed volume.old → OnOk result (HoldsOn committed volume.new) }
-    ensures capacity { capacity_of volume.new ≡ capacity_of volume.old }
     ensures shrunk { shrunk_of volume.new ≡ shrunk_of volume.old }
-    ensures touches { (committed : Content) → HoldsOn committed volume.old → IsLaidOutAs committed volume.old → Touches committed (λ s. Contains (own_sectors volume.old) s) (P.SectorView.space space.old) (P.SectorView.space space.new) }
-    ensures same { SameSpace (P.SectorView.space space.old) (P.SectorView.space space.new) }
     ensures loads { IsTrue (P.SectorView.space space.old).tells → IsWithinLoad (command.Write path.now from value.now) volume.old (P.SectorView.space space.old) (P.SectorView.space space.new) }
-    ensures below { P.SectorView.follows space.old space.new }
-    ensures cause { HasTroubleCause (P.SectorView.space space.old).faults (P.SectorView.space space.new).faults result }
+    ensures frame { Performs P.SectorView.space P.SectorView.follows (λ s. Contains (own_sectors volume.old) s) volume.old volume.new space.old space.new result }
 {
     if value.is_empty() {
         return Ok(Outcome::Answered {

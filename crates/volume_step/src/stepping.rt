@@ -2,9 +2,6 @@
 ghost use Rattle.std.specs.Prelude.{◌≡◌, ◌≢◌, ◌⊎◌, ℕ, [], ◌∷◌, true, false, None, IsTrue, IfOk, OnOk};
 ghost use Rattle.hfs_volume.specs.TreeOf.{tree_of};
 ghost use Rattle.hfs_volume.specs.Content.{volume_of};
-ghost use Rattle.sector_disk.specs.Lists.{Content};
-ghost use Rattle.sector_disk.specs.Space.{SameSpace};
-ghost use Rattle.btree_edit.specs.Causes.{HasTroubleCause};
 ghost use Rattle.hfs_language.specs.Written.{FitsCommand};
 ghost use Rattle.hfs_model.specs.Step.{only_reads};
 ghost use Rattle.hfs_model.specs.declared.plain.PlainTree.{PlainTree};
@@ -13,16 +10,12 @@ ghost use Rattle.hfs_volume.specs.Weight.{changes_nothing, data_of, needs_cut};
 ghost use Rattle.volume_base.specs.Frame.{Edits, Serves};
 ghost use Rattle.volume_base.specs.Keeping.{shrunk_of};
 ghost use Rattle.volume_base.specs.Room.{capacity_of};
-ghost use Rattle.volume_base.specs.Service.{IsInService};
-ghost use Rattle.volume_space.specs.Spilling.{IsLaidOutAs};
-ghost use Rattle.volume_space.specs.Standing.{HoldsOn};
 ghost use Rattle.volume_space.specs.Writing.{is_data_met};
 ghost use Rattle.volume_space.specs.Zeroing.{HasFilled};
-ghost use Rattle.volume_base.specs.Standing.{IsSettled, StandsOver};
-ghost use Rattle.volume_base.specs.Touching.{Touches};
+ghost use Rattle.volume_step.specs.Performing.{Performs};
 ghost use Rattle.volume_step.specs.Anew.{FitsAlike, FitsAnew, IsAnew};
 ghost use Rattle.volume_step.specs.Loads.{IsWithinLoad};
-ghost use Rattle.volume_step.specs.Steps.{Affords, FillsMore, FitsNow, GoesFurther, IsDoneOk, IsMet, KeepsJournal, LacksCutRoom, OwnOf, PutsNow, ShrinksAs, StepsNow, StepsTo, may_put};
+ghost use Rattle.volume_step.specs.Steps.{Affords, FillsMore, FitsNow, GoesFurther, HasFewLeft, IsDoneOk, IsMet, KeepsGrowth, KeepsJournal, LacksCutRoom, OwnOf, PutsNow, ShrinksAs, StepsNow, StepsTo};
 ghost use Rattle.volume_step.specs.declared.outcome.Outcome.TheVariants as outcome;
 
 use crate::answering::{answer, only_reads, refusal};
@@ -102,8 +95,7 @@ fn perform_now<P: SectorSpace>(
     number: u64,
     command: &Command,
 ) -> Result<Outcome, Trouble>
-    requires stands { StandsOver volume.old (P.SectorView.space space.old) }
-    requires settled { IsTrue (P.SectorView.space space.old).tells → IsSettled volume.old (P.SectorView.space space.old).content }
+    requires serves { Serves volume.old (P.SectorView.space space.old) }
     requires filled { HasFilled volume.old (P.SectorView.space space.old) }
     requires fits { FitsCommand command.now }
     requires closed { IsTrue (P.SectorView.space space.old).tells → (at : ℕ) → (P.SectorView.space space.old).closed at → IsJournalSector (P.SectorView.space space.old).content at }
@@ -114,17 +106,9 @@ fn perform_now<P: SectorSpace>(
     // Where its data is met, none does either.
     ensures puts { IsTrue (P.SectorView.space space.old).tells → is_data_met volume.old (P.SectorView.space space.old).spare (volume_of (P.SectorView.space space.old).content) (data_of (tree_of (P.SectorView.space space.old).content) command.now) ≡ true → IfOk result (λ it. it ≢ outcome.CommitFirst) }
     ensures place { IsTrue (P.SectorView.space space.old).tells → OnOk result (KeepsJournal (P.SectorView.space space.old).content (P.SectorView.space space.new).content) }
-    ensures stands { OnOk result (StandsOver volume.new (P.SectorView.space space.new)) }
-    ensures settled { IsTrue (P.SectorView.space space.old).tells → OnOk result (IsSettled volume.new (P.SectorView.space space.new).content) }
-    ensures service { IsInService volume.new (P.SectorView.space space.new) }
-    ensures holds { (committed : Content) → HoldsOn committed volume.old → OnOk result (HoldsOn committed volume.new) }
-    ensures capacity { capacity_of volume.new ≡ capacity_of volume.old }
     ensures shrunk { IsTrue (P.SectorView.space space.old).tells → IfOk result (λ outcome. ShrinksAs outcome command.now (P.SectorView.space space.old).content (shrunk_of volume.old) (shrunk_of volume.new)) }
-    ensures touches { (committed : Content) → HoldsOn committed volume.old → IsLaidOutAs committed volume.old → Touches committed (OwnOf volume.old volume.new) (P.SectorView.space space.old) (P.SectorView.space space.new) }
-    ensures same { SameSpace (P.SectorView.space space.old) (P.SectorView.space space.new) }
     ensures loads { IsTrue (P.SectorView.space space.old).tells → IsWithinLoad command.now volume.old (P.SectorView.space space.old) (P.SectorView.space space.new) }
-    ensures below { P.SectorView.follows space.old space.new }
-    ensures cause { HasTroubleCause (P.SectorView.space space.old).faults (P.SectorView.space space.new).faults result }
+    ensures frame { Performs P.SectorView.space P.SectorView.follows (OwnOf volume.old volume.new) volume.old volume.new space.old space.new result }
 {
     match command {
         Command::Trunc { path, size } => resize(alloc, volume, space, number, path, *size),
@@ -143,8 +127,7 @@ fn perform_last<P: SectorSpace>(
     number: u64,
     command: &Command,
 ) -> Result<Outcome, Trouble>
-    requires stands { StandsOver volume.old (P.SectorView.space space.old) }
-    requires settled { IsTrue (P.SectorView.space space.old).tells → IsSettled volume.old (P.SectorView.space space.old).content }
+    requires serves { Serves volume.old (P.SectorView.space space.old) }
     requires filled { HasFilled volume.old (P.SectorView.space space.old) }
     requires fits { FitsCommand command.now }
     requires closed { IsTrue (P.SectorView.space space.old).tells → (at : ℕ) → (P.SectorView.space space.old).closed at → IsJournalSector (P.SectorView.space space.old).content at }
@@ -155,18 +138,11 @@ fn perform_last<P: SectorSpace>(
     // Where its data is met, none does either.
     ensures puts { IsTrue (P.SectorView.space space.old).tells → is_data_met volume.old (P.SectorView.space space.old).spare (volume_of (P.SectorView.space space.old).content) (data_of (tree_of (P.SectorView.space space.old).content) command.now) ≡ true → IfOk result (λ it. it ≢ outcome.CommitFirst) }
     ensures place { IsTrue (P.SectorView.space space.old).tells → OnOk result (KeepsJournal (P.SectorView.space space.old).content (P.SectorView.space space.new).content) }
-    ensures stands { OnOk result (StandsOver volume.new (P.SectorView.space space.new)) }
-    ensures settled { IsTrue (P.SectorView.space space.old).tells → OnOk result (IsSettled volume.new (P.SectorView.space space.new).content) }
     ensures filled { OnOk result (HasFilled volume.new (P.SectorView.space space.new)) }
-    ensures service { IsInService volume.new (P.SectorView.space space.new) }
-    ensures holds { (committed : Content) → HoldsOn committed volume.old → OnOk result (HoldsOn committed volume.new) }
-    ensures capacity { capacity_of volume.new ≡ capacity_of volume.old }
+    ensures dropped { OnOk result (volume.new.filling ≡ None) }
     ensures shrunk { IsTrue (P.SectorView.space space.old).tells → IfOk result (λ outcome. ShrinksAs outcome command.now (P.SectorView.space space.old).content (shrunk_of volume.old) (shrunk_of volume.new)) }
-    ensures touches { (committed : Content) → HoldsOn committed volume.old → IsLaidOutAs committed volume.old → Touches committed (OwnOf volume.old volume.new) (P.SectorView.space space.old) (P.SectorView.space space.new) }
-    ensures same { SameSpace (P.SectorView.space space.old) (P.SectorView.space space.new) }
     ensures loads { IsTrue (P.SectorView.space space.old).tells → IsWithinLoad command.now volume.old (P.SectorView.space space.old) (P.SectorView.space space.new) }
-    ensures below { P.SectorView.follows space.old space.new }
-    ensures cause { HasTroubleCause (P.SectorView.space space.old).faults (P.SectorView.space space.new).faults result }
+    ensures frame { Performs P.SectorView.space P.SectorView.follows (OwnOf volume.old volume.new) volume.old volume.new space.old space.new result }
 {
     let came = perform_now(alloc, volume, space, number, command)?;
     volume.filling = None;
@@ -181,8 +157,7 @@ fn perform<P: SectorSpace>(
     number: u64,
     command: &Command,
 ) -> Result<Outcome, Trouble>
-    requires stands { StandsOver volume.old (P.SectorView.space space.old) }
-    requires settled { IsTrue (P.SectorView.space space.old).tells → IsSettled volume.old (P.SectorView.space space.old).content }
+    requires serves { Serves volume.old (P.SectorView.space space.old) }
     requires filled { HasFilled volume.old (P.SectorView.space space.old) }
     requires fits { FitsCommand command.now }
     requires closed { IsTrue (P.SectorView.space space.old).tells → (at : ℕ) → (P.SectorView.space space.old).closed at → IsJournalSector (P.SectorView.space space.old).content at }
@@ -195,25 +170,23 @@ fn perform<P: SectorSpace>(
     ensures puts { IsTrue (P.SectorView.space space.old).tells → PutsNow command.now volume.old (P.SectorView.space space.old) → IfOk result (λ it. it ≢ outcome.CommitFirst) }
     // Each time that it is to be tried again there are more zero blocks.
     ensures further { IsTrue (P.SectorView.space space.old).tells → IfOk result (λ it. it ≡ outcome.Again → FillsMore (data_of (tree_of (P.SectorView.space space.old).content) command.now) volume.old.filling volume.new.filling) }
+    ensures least { IsTrue (P.SectorView.space space.old).tells → IfOk result (λ it. IsDoneOk it → HasFewLeft command.now volume.old.filling (P.SectorView.space space.old).content) }
+    // A growth in hand behind it is its own, and then it is to be tried again.
+    ensures hand { IsTrue (P.SectorView.space space.old).tells → IfOk result (λ it. KeepsGrowth it (data_of (tree_of (P.SectorView.space space.old).content) command.now) volume.new.filling) }
     ensures place { IsTrue (P.SectorView.space space.old).tells → OnOk result (KeepsJournal (P.SectorView.space space.old).content (P.SectorView.space space.new).content) }
-    ensures stands { OnOk result (StandsOver volume.new (P.SectorView.space space.new)) }
-    ensures settled { IsTrue (P.SectorView.space space.old).tells → OnOk result (IsSettled volume.new (P.SectorView.space space.new).content) }
     ensures filled { OnOk result (HasFilled volume.new (P.SectorView.space space.new)) }
-    ensures service { IsInService volume.new (P.SectorView.space space.new) }
-    ensures holds { (committed : Content) → HoldsOn committed volume.old → OnOk result (HoldsOn committed volume.new) }
-    ensures capacity { capacity_of volume.new ≡ capacity_of volume.old }
     ensures shrunk { IsTrue (P.SectorView.space space.old).tells → IfOk result (λ outcome. ShrinksAs outcome command.now (P.SectorView.space space.old).content (shrunk_of volume.old) (shrunk_of volume.new)) }
-    ensures touches { (committed : Content) → HoldsOn committed volume.old → IsLaidOutAs committed volume.old → Touches committed (OwnOf volume.old volume.new) (P.SectorView.space space.old) (P.SectorView.space space.new) }
-    ensures same { SameSpace (P.SectorView.space space.old) (P.SectorView.space space.new) }
     ensures loads { IsTrue (P.SectorView.space space.old).tells → IsWithinLoad command.now volume.old (P.SectorView.space space.old) (P.SectorView.space space.new) }
-    ensures below { P.SectorView.follows space.old space.new }
-    ensures cause { HasTroubleCause (P.SectorView.space space.old).faults (P.SectorView.space space.new).faults result }
+    ensures frame { Performs P.SectorView.space P.SectorView.follows (OwnOf volume.old volume.new) volume.old volume.new space.old space.new result }
 {
     let zeros = fill_for(alloc, volume, space, command)?;
     match zeros {
         Zeros::Few => perform_last(alloc, volume, space, number, command),
         Zeros::Filled => Ok(Outcome::Again),
-        Zeros::CommitFirst => Ok(Outcome::CommitFirst),
+        Zeros::CommitFirst => {
+            volume.filling = None;
+            Ok(Outcome::CommitFirst)
+        }
     }
 }
 
@@ -225,8 +198,7 @@ fn change<P: SectorSpace>(
     number: u64,
     command: &Command,
 ) -> Result<Outcome, Trouble>
-    requires stands { StandsOver volume.old (P.SectorView.space space.old) }
-    requires settled { IsTrue (P.SectorView.space space.old).tells → IsSettled volume.old (P.SectorView.space space.old).content }
+    requires serves { Serves volume.old (P.SectorView.space space.old) }
     requires filled { HasFilled volume.old (P.SectorView.space space.old) }
     requires fits { FitsCommand command.now }
     requires closed { IsTrue (P.SectorView.space space.old).tells → (at : ℕ) → (P.SectorView.space space.old).closed at → IsJournalSector (P.SectorView.space space.old).content at }
@@ -240,115 +212,30 @@ fn change<P: SectorSpace>(
     // Where a cut goes ahead of it, one does only where there is too little room for the cut.
     ensures short { IsTrue (P.SectorView.space space.old).tells → needs_cut (volume_of (P.SectorView.space space.old).content) (data_of (tree_of (P.SectorView.space space.old).content) command.now) ≡ true → IfOk result (λ it. it ≡ outcome.CommitFirst → LacksCutRoom volume.old (P.SectorView.space space.old)) }
     ensures further { IsTrue (P.SectorView.space space.old).tells → IfOk result (λ it. it ≡ outcome.Again → GoesFurther (capacity_of volume.old) command.now volume.old.filling volume.new.filling (P.SectorView.space space.old).content (P.SectorView.space space.new).content) }
+    ensures least { IsTrue (P.SectorView.space space.old).tells → IfOk result (λ it. IsDoneOk it → HasFewLeft command.now volume.old.filling (P.SectorView.space space.old).content) }
+    // A growth in hand behind it is its own, and then it is to be tried again.
+    ensures hand { IsTrue (P.SectorView.space space.old).tells → IfOk result (λ it. KeepsGrowth it (data_of (tree_of (P.SectorView.space space.old).content) command.now) volume.new.filling) }
     ensures place { IsTrue (P.SectorView.space space.old).tells → OnOk result (KeepsJournal (P.SectorView.space space.old).content (P.SectorView.space space.new).content) }
-    ensures stands { OnOk result (StandsOver volume.new (P.SectorView.space space.new)) }
-    ensures settled { IsTrue (P.SectorView.space space.old).tells → OnOk result (IsSettled volume.new (P.SectorView.space space.new).content) }
     ensures filled { OnOk result (HasFilled volume.new (P.SectorView.space space.new)) }
-    ensures service { IsInService volume.new (P.SectorView.space space.new) }
-    ensures holds { (committed : Content) → HoldsOn committed volume.old → OnOk result (HoldsOn committed volume.new) }
-    ensures capacity { capacity_of volume.new ≡ capacity_of volume.old }
     ensures shrunk { IsTrue (P.SectorView.space space.old).tells → IfOk result (λ outcome. ShrinksAs outcome command.now (P.SectorView.space space.old).content (shrunk_of volume.old) (shrunk_of volume.new)) }
-    ensures touches { (committed : Content) → HoldsOn committed volume.old → IsLaidOutAs committed volume.old → Touches committed (OwnOf volume.old volume.new) (P.SectorView.space space.old) (P.SectorView.space space.new) }
-    ensures same { SameSpace (P.SectorView.space space.old) (P.SectorView.space space.new) }
     ensures loads { IsTrue (P.SectorView.space space.old).tells → IsWithinLoad command.now volume.old (P.SectorView.space space.old) (P.SectorView.space space.new) }
-    ensures below { P.SectorView.follows space.old space.new }
-    ensures cause { HasTroubleCause (P.SectorView.space space.old).faults (P.SectorView.space space.new).faults result }
+    ensures frame { Performs P.SectorView.space P.SectorView.follows (OwnOf volume.old volume.new) volume.old volume.new space.old space.new result }
 {
     match judge(alloc, volume, space, command)? {
-        Verdict::Refused(why) => Ok(refusal(alloc, why)),
+        Verdict::Refused(why) => {
+            volume.filling = None;
+            Ok(refusal(alloc, why))
+        }
         Verdict::CutFirst => cut_first(alloc, volume, space, number, command),
-        Verdict::CommitFirst => Ok(Outcome::CommitFirst),
+        Verdict::CommitFirst => {
+            volume.filling = None;
+            Ok(Outcome::CommitFirst)
+        }
         Verdict::Grows { tree, more } => {
             grow_first(alloc, volume, space, number, command, tree, more)
         }
         Verdict::Fits => perform(alloc, volume, space, number, command),
     }
-}
-
-/// Whether a command may put data into a file, so that a growth may be in hand for it.
-fn puts_data(command: &Command) -> bool
-    ensures { result ≡ may_put command.now }
-{
-    match command {
-        Command::Write { .. } => true,
-        Command::Trunc { .. } => true,
-        _ => false,
-    }
-}
-
-/// Does a command where a growth that is in hand may be its own.
-fn step_at_once<P: SectorSpace>(
-    alloc: Global,
-    volume: &mut Volume,
-    space: &mut P,
-    number: u64,
-    command: &Command,
-) -> Result<Outcome, Trouble>
-    requires stands { StandsOver volume.old (P.SectorView.space space.old) }
-    requires settled { IsTrue (P.SectorView.space space.old).tells → IsSettled volume.old (P.SectorView.space space.old).content }
-    requires filled { HasFilled volume.old (P.SectorView.space space.old) }
-    requires fits { FitsCommand command.now }
-    requires closed { IsTrue (P.SectorView.space space.old).tells → (at : ℕ) → (P.SectorView.space space.old).closed at → IsJournalSector (P.SectorView.space space.old).content at }
-    ensures answered { IsTrue (P.SectorView.space space.old).tells → IfOk result (λ outcome. StepsTo outcome (capacity_of volume.old) number command.now (P.SectorView.space space.old).content (P.SectorView.space space.new).content) }
-    ensures ready { IsTrue (P.SectorView.space space.old).tells → (only_reads command.now ≡ true) ⊎ (FitsNow command.now volume.old (P.SectorView.space space.old) ⊎ PutsNow command.now volume.old (P.SectorView.space space.old)) → IfOk result (λ it. it ≢ outcome.CommitFirst) }
-    ensures anew { IsTrue (P.SectorView.space space.old).tells → IsAnew volume.old (P.SectorView.space space.old) → FitsAnew command.now volume.old (P.SectorView.space space.old).content → IfOk result (λ it. it ≢ outcome.CommitFirst) }
-    ensures short { IsTrue (P.SectorView.space space.old).tells → needs_cut (volume_of (P.SectorView.space space.old).content) (data_of (tree_of (P.SectorView.space space.old).content) command.now) ≡ true → IfOk result (λ it. it ≡ outcome.CommitFirst → LacksCutRoom volume.old (P.SectorView.space space.old)) }
-    ensures further { IsTrue (P.SectorView.space space.old).tells → IfOk result (λ it. it ≡ outcome.Again → GoesFurther (capacity_of volume.old) command.now volume.old.filling volume.new.filling (P.SectorView.space space.old).content (P.SectorView.space space.new).content) }
-    ensures place { IsTrue (P.SectorView.space space.old).tells → OnOk result (KeepsJournal (P.SectorView.space space.old).content (P.SectorView.space space.new).content) }
-    ensures stands { OnOk result (StandsOver volume.new (P.SectorView.space space.new)) }
-    ensures settled { IsTrue (P.SectorView.space space.old).tells → OnOk result (IsSettled volume.new (P.SectorView.space space.new).content) }
-    ensures filled { OnOk result (HasFilled volume.new (P.SectorView.space space.new)) }
-    ensures service { IsInService volume.new (P.SectorView.space space.new) }
-    ensures holds { (committed : Content) → HoldsOn committed volume.old → OnOk result (HoldsOn committed volume.new) }
-    ensures capacity { capacity_of volume.new ≡ capacity_of volume.old }
-    ensures shrunk { IsTrue (P.SectorView.space space.old).tells → IfOk result (λ outcome. ShrinksAs outcome command.now (P.SectorView.space space.old).content (shrunk_of volume.old) (shrunk_of volume.new)) }
-    ensures touches { (committed : Content) → HoldsOn committed volume.old → IsLaidOutAs committed volume.old → Touches committed (OwnOf volume.old volume.new) (P.SectorView.space space.old) (P.SectorView.space space.new) }
-    ensures same { SameSpace (P.SectorView.space space.old) (P.SectorView.space space.new) }
-    ensures loads { IsTrue (P.SectorView.space space.old).tells → IsWithinLoad command.now volume.old (P.SectorView.space space.old) (P.SectorView.space space.new) }
-    ensures below { P.SectorView.follows space.old space.new }
-    ensures cause { HasTroubleCause (P.SectorView.space space.old).faults (P.SectorView.space space.new).faults result }
-{
-    if only_reads(command) {
-        return answer(alloc, volume, space, number, command);
-    }
-    change(alloc, volume, space, number, command)
-}
-
-/// The same for any other command, which drops a growth that is in hand.
-fn step_afresh<P: SectorSpace>(
-    alloc: Global,
-    volume: &mut Volume,
-    space: &mut P,
-    number: u64,
-    command: &Command,
-) -> Result<Outcome, Trouble>
-    requires stands { StandsOver volume.old (P.SectorView.space space.old) }
-    requires settled { IsTrue (P.SectorView.space space.old).tells → IsSettled volume.old (P.SectorView.space space.old).content }
-    requires filled { HasFilled volume.old (P.SectorView.space space.old) }
-    requires fits { FitsCommand command.now }
-    requires none { may_put command.now ≡ false }
-    requires closed { IsTrue (P.SectorView.space space.old).tells → (at : ℕ) → (P.SectorView.space space.old).closed at → IsJournalSector (P.SectorView.space space.old).content at }
-    ensures answered { IsTrue (P.SectorView.space space.old).tells → IfOk result (λ outcome. StepsTo outcome (capacity_of volume.old) number command.now (P.SectorView.space space.old).content (P.SectorView.space space.new).content) }
-    ensures ready { IsTrue (P.SectorView.space space.old).tells → (only_reads command.now ≡ true) ⊎ (FitsNow command.now volume.old (P.SectorView.space space.old) ⊎ PutsNow command.now volume.old (P.SectorView.space space.old)) → IfOk result (λ it. it ≢ outcome.CommitFirst) }
-    ensures anew { IsTrue (P.SectorView.space space.old).tells → IsAnew volume.old (P.SectorView.space space.old) → FitsAnew command.now volume.old (P.SectorView.space space.old).content → IfOk result (λ it. it ≢ outcome.CommitFirst) }
-    ensures short { IsTrue (P.SectorView.space space.old).tells → needs_cut (volume_of (P.SectorView.space space.old).content) (data_of (tree_of (P.SectorView.space space.old).content) command.now) ≡ true → IfOk result (λ it. it ≡ outcome.CommitFirst → LacksCutRoom volume.old (P.SectorView.space space.old)) }
-    ensures further { IsTrue (P.SectorView.space space.old).tells → IfOk result (λ it. it ≡ outcome.Again → GoesFurther (capacity_of volume.old) command.now volume.old.filling volume.new.filling (P.SectorView.space space.old).content (P.SectorView.space space.new).content) }
-    ensures place { IsTrue (P.SectorView.space space.old).tells → OnOk result (KeepsJournal (P.SectorView.space space.old).content (P.SectorView.space space.new).content) }
-    ensures stands { OnOk result (StandsOver volume.new (P.SectorView.space space.new)) }
-    ensures settled { IsTrue (P.SectorView.space space.old).tells → OnOk result (IsSettled volume.new (P.SectorView.space space.new).content) }
-    ensures filled { OnOk result (HasFilled volume.new (P.SectorView.space space.new)) }
-    ensures service { IsInService volume.new (P.SectorView.space space.new) }
-    ensures holds { (committed : Content) → HoldsOn committed volume.old → OnOk result (HoldsOn committed volume.new) }
-    ensures capacity { capacity_of volume.new ≡ capacity_of volume.old }
-    ensures shrunk { IsTrue (P.SectorView.space space.old).tells → IfOk result (λ outcome. ShrinksAs outcome command.now (P.SectorView.space space.old).content (shrunk_of volume.old) (shrunk_of volume.new)) }
-    ensures touches { (committed : Content) → HoldsOn committed volume.old → IsLaidOutAs committed volume.old → Touches committed (OwnOf volume.old volume.new) (P.SectorView.space space.old) (P.SectorView.space space.new) }
-    ensures same { SameSpace (P.SectorView.space space.old) (P.SectorView.space space.new) }
-    ensures loads { IsTrue (P.SectorView.space space.old).tells → IsWithinLoad command.now volume.old (P.SectorView.space space.old) (P.SectorView.space space.new) }
-    ensures below { P.SectorView.follows space.old space.new }
-    ensures cause { HasTroubleCause (P.SectorView.space space.old).faults (P.SectorView.space space.new).faults result }
-{
-    volume.filling = None;
-    step_at_once(alloc, volume, space, number, command)
 }
 
 /// Weighs a command, whose line has this number, and does it: what it came to is that of the plain tree's step, or a refusal for
@@ -362,8 +249,7 @@ pub fn step<P: SectorSpace>(
     number: u64,
     command: &Command,
 ) -> Result<Outcome, Trouble>
-    requires stands { StandsOver volume.old (P.SectorView.space space.old) }
-    requires settled { IsTrue (P.SectorView.space space.old).tells → IsSettled volume.old (P.SectorView.space space.old).content }
+    requires serves { Serves volume.old (P.SectorView.space space.old) }
     requires filled { HasFilled volume.old (P.SectorView.space space.old) }
     requires fits { FitsCommand command.now }
     // Only the journal's sectors are closed.
@@ -379,29 +265,23 @@ pub fn step<P: SectorSpace>(
     ensures short { IsTrue (P.SectorView.space space.old).tells → needs_cut (volume_of (P.SectorView.space space.old).content) (data_of (tree_of (P.SectorView.space space.old).content) command.now) ≡ true → IfOk result (λ it. it ≡ outcome.CommitFirst → LacksCutRoom volume.old (P.SectorView.space space.old)) }
     // Each time that it is to be tried again less is left to go ahead of it.
     ensures further { IsTrue (P.SectorView.space space.old).tells → IfOk result (λ it. it ≡ outcome.Again → GoesFurther (capacity_of volume.old) command.now volume.old.filling volume.new.filling (P.SectorView.space space.old).content (P.SectorView.space space.new).content) }
+    // It is done only where no more zero blocks are left than the last step fills.
+    ensures least { IsTrue (P.SectorView.space space.old).tells → IfOk result (λ it. IsDoneOk it → HasFewLeft command.now volume.old.filling (P.SectorView.space space.old).content) }
+    // A growth in hand behind it is its own, and then it is to be tried again.
+    ensures hand { IsTrue (P.SectorView.space space.old).tells → IfOk result (λ it. KeepsGrowth it (data_of (tree_of (P.SectorView.space space.old).content) command.now) volume.new.filling) }
     // The journal lies where it lay, and the header is one of the same volume.
     ensures place { IsTrue (P.SectorView.space space.old).tells → OnOk result (KeepsJournal (P.SectorView.space space.old).content (P.SectorView.space space.new).content) }
-    ensures stands { OnOk result (StandsOver volume.new (P.SectorView.space space.new)) }
-    ensures settled { IsTrue (P.SectorView.space space.old).tells → OnOk result (IsSettled volume.new (P.SectorView.space space.new).content) }
     ensures filled { OnOk result (HasFilled volume.new (P.SectorView.space space.new)) }
-    ensures service { IsInService volume.new (P.SectorView.space space.new) }
-    // No block that a content has in use is lost.
-    ensures holds { (committed : Content) → HoldsOn committed volume.old → OnOk result (HoldsOn committed volume.new) }
-    ensures capacity { capacity_of volume.new ≡ capacity_of volume.old }
     // The file that was shrunk last is the one that the command shrank, where it shrank one.
     ensures shrunk { IsTrue (P.SectorView.space space.old).tells → IfOk result (λ outcome. ShrinksAs outcome command.now (P.SectorView.space space.old).content (shrunk_of volume.old) (shrunk_of volume.new)) }
-    // On a fault too, it puts sectors that are its own before or behind the call alone, and spills into blocks that were free at the last commit,
-    // of a content with the volume's blocks.
-    ensures touches { (committed : Content) → HoldsOn committed volume.old → IsLaidOutAs committed volume.old → Touches committed (OwnOf volume.old volume.new) (P.SectorView.space space.old) (P.SectorView.space space.new) }
-    ensures same { SameSpace (P.SectorView.space space.old) (P.SectorView.space space.new) }
     // Where it costs a load of the blocks that may be taken, it takes no more room for puts than that names, whatever it comes to: on a fault too, and
     // where a cut or the growth of a tree goes ahead of it.
     ensures loads { IsTrue (P.SectorView.space space.old).tells → IsWithinLoad command.now volume.old (P.SectorView.space space.old) (P.SectorView.space space.new) }
-    ensures below { P.SectorView.follows space.old space.new }
-    ensures cause { HasTroubleCause (P.SectorView.space space.old).faults (P.SectorView.space space.new).faults result }
+    ensures frame { Performs P.SectorView.space P.SectorView.follows (OwnOf volume.old volume.new) volume.old volume.new space.old space.new result }
 {
-    if puts_data(command) {
-        return step_at_once(alloc, volume, space, number, command);
+    if only_reads(command) {
+        volume.filling = None;
+        return answer(alloc, volume, space, number, command);
     }
-    step_afresh(alloc, volume, space, number, command)
+    change(alloc, volume, space, number, command)
 }

@@ -125,3 +125,19 @@ ordinary_volume = refl
 
 mebibyte_again : replies fresh_tree (Ok (command.Create (f ∷ [])) ∷ Ok (command.Trunc (f ∷ []) 1048576) ∷ Ok (command.Rm (f ∷ [])) ∷ Ok (command.Create (f ∷ [])) ∷ Ok (command.Trunc (f ∷ []) 1048576) ∷ []) ≡ oks 5
 mebibyte_again = refl
+
+-- ---- a file takes the place of another
+
+-- `b` loses its name to `a` and keeps `c`; then it loses `c`, its last one, to the same file; a file that is moved onto itself stays; a folder isn't
+-- replaced
+a_file_is_replaced : replies fresh_tree (Ok (command.Create (a ∷ [])) ∷ Ok (command.Write (a ∷ []) 0 (codes "A")) ∷ Ok (command.Create (b ∷ [])) ∷ Ok (command.Write (b ∷ []) 0 (codes "BB")) ∷ Ok (command.Ln (b ∷ []) (c ∷ [])) ∷ Ok (command.Mv (a ∷ []) (b ∷ []))
+    ∷ Ok (command.Read (b ∷ []) 0 9) ∷ Ok (command.Stat (c ∷ [])) ∷ Ok (command.Mv (b ∷ []) (c ∷ [])) ∷ Ok (command.Ls []) ∷ Ok (command.Read (c ∷ []) 0 9) ∷ Ok (command.Mv (c ∷ []) (c ∷ [])) ∷ Ok (command.Create (codes "z" ∷ [])) ∷ Ok (command.Stat (codes "z" ∷ []))
+    ∷ Ok (command.Mkdir (codes "d" ∷ [])) ∷ Ok (command.Mv (c ∷ []) (codes "d" ∷ [])) ∷ [])
+    ≡ oks 6 ++ reply.Content (codes "A") ∷ file_facts 19 2 1 420 ∷ reply.Ok ∷ reply.Listing (named false c ∷ []) ∷ reply.Content (codes "A") ∷ oks 2 ++ file_facts 23 0 1 420 ∷ reply.Ok ∷ refused refusal.Exists ∷ []
+a_file_is_replaced = refl
+
+-- ---- a file grows by any length
+
+-- by six mebibytes in one line, and by one more; what the volume has room for isn't the tree's concern
+a_file_grows_at_once : replies fresh_tree (Ok (command.Create (f ∷ [])) ∷ Ok (command.Trunc (f ∷ []) 6291456) ∷ Ok (command.Trunc (f ∷ []) 7340032) ∷ Ok (command.Trunc (f ∷ []) 1099511627776) ∷ Ok (command.Trunc (f ∷ []) 1099511627777) ∷ []) ≡ oks 4 ++ refused refusal.TooLarge ∷ []
+a_file_grows_at_once = refl

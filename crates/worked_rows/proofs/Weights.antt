@@ -56,3 +56,9 @@ weight_without_space : cost_of (needs_for (free_blocks nearly_full) nearly_full 
     ≡ cost.Refused (refusal.NoSpace 156 256)
 unfolding number_at number_bytes extents_at extents_bytes fork_bytes entry_of entry_bytes placed_of overflow_of extents_of free_blocks room_with cost_of load_of
 weight_without_space = refl
+
+-- the same of six mebibytes that grow to a tebibyte in one line
+weight_without_a_tebibyte : cost_of (needs_for (free_blocks nearly_full) nearly_full (edits 0 0 0 1) (Some (record { id = 18; old_size = 6291456; new_size = 1099511627776; from = 6291456; end = 1099511627776 }))) (room_with 1982 (free_blocks nearly_full) nearly_full)
+    ≡ cost.Refused (refusal.NoSpace 156 268433920)
+unfolding number_at number_bytes extents_at extents_bytes fork_bytes entry_of entry_bytes placed_of overflow_of extents_of free_blocks room_with cost_of load_of
+weight_without_a_tebibyte = refl

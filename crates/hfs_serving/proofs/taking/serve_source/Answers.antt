@@ -15,7 +15,7 @@ use Rattle.hfs_serving.proofs.Numbering.{all_lines, counted, more_lines, too_man
 use Rattle.std.proofs.Common.{◌-◌, ◌++◌}
 use Rattle.hfs_serving.specs.Watching.{CrashesHeard, ServesHeard}
 use Rattle.hfs_serving.proofs.Hearing.{all_stay, no_ok_on}
-use Rattle.watchers.proofs.Tellings.{told_both, told_nothing}
+use Rattle.watchers.proofs.Tellings.{told_both}
 use Rattle.std.proofs.lemmas.Bool.Decides.{nat_tests}
 use Rattle.std.proofs.lemmas.List.{length-map}
 use Rattle.hfs_language.specs.Language.{most_bytes}

@@ -56,7 +56,45 @@ pub returns-in-Err-clause-filled : goal.returns-in-Err-clause-filled
 returns-in-Err-clause-filled g c = filled_none (record c.step.new.volume { filling = None }) (g.P.SectorView.space c.step.new.space) refl
 
 pub returns-in-Err-clause-service : goal.returns-in-Err-clause-service
-returns-in-Err-clause-service g c = service_filling c.step.new.volume None (g.P.SectorView.space c.step.new.space) c.step.ensures.service
+returns-in-Err-clause-service g c = service_filling c.step.new.volume None (g.P.SectorView.space c.step.new.space) c.step.ensures.frame.service
 
 pub returns-in-Err-clause-touches : goal.returns-in-Err-clause-touches
-returns-in-Err-clause-touches g c committed holds laid = c.step.ensures.touches committed holds laid
+returns-in-Err-clause-touches g c committed holds laid = c.step.ensures.frame.touches committed holds laid
+
+-- ---- the frame
+
+pub step-requires-clause-serves : goal.step-requires-clause-serves
+step-requires-clause-serves g c = record { stands = c.requires.stands; settled = c.requires.settled }
+
+pub returns-in-Ok-clause-stands : goal.returns-in-Ok-clause-stands
+returns-in-Ok-clause-stands g c = c.in-Ok.ensures.frame.serves.stands
+
+pub returns-in-Ok-clause-settled : goal.returns-in-Ok-clause-settled
+returns-in-Ok-clause-settled g c tells = c.in-Ok.ensures.frame.serves.settled (c.step.ensures.frame.same.tells ∙ tells)
+
+pub returns-in-Ok-clause-service : goal.returns-in-Ok-clause-service
+returns-in-Ok-clause-service g c = c.step.ensures.frame.service
+
+pub returns-in-Ok-clause-holds : goal.returns-in-Ok-clause-holds
+returns-in-Ok-clause-holds g c committed was = c.in-Ok.ensures.frame.holds committed was
+
+pub returns-in-Ok-clause-capacity : goal.returns-in-Ok-clause-capacity
+returns-in-Ok-clause-capacity g c = c.step.ensures.frame.capacity
+
+pub returns-in-Err-clause-capacity : goal.returns-in-Err-clause-capacity
+returns-in-Err-clause-capacity g c = c.step.ensures.frame.capacity
+
+pub returns-in-Ok-clause-touches : goal.returns-in-Ok-clause-touches
+returns-in-Ok-clause-touches g c committed holds laid = c.step.ensures.frame.touches committed holds laid
+
+pub returns-in-Ok-clause-same : goal.returns-in-Ok-clause-same
+returns-in-Ok-clause-same g c = c.step.ensures.frame.same
+
+pub returns-in-Err-clause-same : goal.returns-in-Err-clause-same
+returns-in-Err-clause-same g c = c.step.ensures.frame.same
+
+pub returns-in-Ok-clause-below : goal.returns-in-Ok-clause-below
+returns-in-Ok-clause-below g c = c.step.ensures.frame.below
+
+pub returns-in-Err-clause-below : goal.returns-in-Err-clause-below
+returns-in-Err-clause-below g c = c.step.ensures.frame.below

@@ -42,3 +42,9 @@ returns-in-None-clause-loads g c tells load grow is = omega arith
 
 pub returns-in-None-clause-short : goal.returns-in-None-clause-short
 returns-in-None-clause-short g c tells same = absurd (never_dry c.args.command.now (g.P.SectorView.space c.args.space.now).content (c.requires.waits tells) (sym c.data_end.ensures ∙ c.in-None.is))
+
+pub returns-in-None-clause-never : goal.returns-in-None-clause-never
+returns-in-None-clause-never g c done = done
+
+pub returns-in-None-clause-dropped : goal.returns-in-None-clause-dropped
+returns-in-None-clause-dropped g c = refl

@@ -3,11 +3,12 @@ use Rattle.std.specs.Prelude.{None}
 use Rattle.volume_base.specs.Keeping.{shrunk_of}
 use Rattle.volume_base.specs.Room.{capacity_of}
 use Rattle.volume_space.proofs.Sounding.{sound_here}
-use Rattle.volume_step.specs.Steps.{StepsTo}
+use Rattle.volume_step.specs.Steps.{StepsTo, IsDoneOk}
 use Rattle.volume_step.specs.declared.outcome.Outcome.{Outcome}
 use Rattle.volume_step.proofs.CutSteps.{cut_shrinks, place_by, short_by, steps_by}
 use Rattle.volume_step.proofs.Loaded.{cut_loads}
 use Rattle.volume_step.proofs.Unfilled.{filled_none, service_filling, settled_filling, stands_filling}
+use Rattle.volume_step.proofs.FilledFirst.{cut_undone}
 use Rattle.volume_step.proofs.cutting.cut_up_to.Goals as goal
 
 pub returns-clause-answered : goal.returns-clause-answered
@@ -61,3 +62,9 @@ returns-clause-service g c = service_filling c.cut_for.new.volume None (g.P.Sect
 
 pub returns-clause-filled : goal.returns-clause-filled
 returns-clause-filled g c = filled_none (record c.cut_for.new.volume { filling = None }) (g.P.SectorView.space c.cut_for.new.space) refl
+
+pub returns-clause-never : goal.returns-clause-never
+returns-clause-never g c done = cut_undone c.in_ok-came.came (subst IsDoneOk c.outcome_of.ensures done)
+
+pub returns-clause-dropped : goal.returns-clause-dropped
+returns-clause-dropped g c = refl

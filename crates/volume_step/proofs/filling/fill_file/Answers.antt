@@ -1,26 +1,20 @@
-use Rattle.std.proofs.Common.{◌≡◌, ◌≢◌, ◌≤◌, ◌+◌, ℕ, List, length, refl, sym, ◌∙◌, ap, subst, arith}
+use Rattle.std.proofs.Common.{◌≡◌, ◌≤◌, ◌+◌, ℕ, length, refl, sym, ◌∙◌, ap, subst, arith, ◌-◌}
 use Rattle.std.specs.Prelude.{IfOk, max, Option}
-use Rattle.std.specs.List.{Contains}
 use Rattle.sector_disk.specs.Lists.{Content}
-use Rattle.sector_disk.proofs.SpaceLaws.{space_both}
 use Rattle.volume_header.specs.declared.header.VolumeHeader.{VolumeHeader}
 use Rattle.file_io.specs.Places.{blocks_for}
 use Rattle.hfs_volume.specs.Aside.{IsJournalSector}
 use Rattle.hfs_volume.specs.Reclaim.{FillsZeros}
 use Rattle.hfs_volume.specs.TreeOf.{tree_of}
-use Rattle.volume_base.specs.Touching.{Touches}
-use Rattle.volume_base.proofs.Commanding.{touches_both, touches_looks}
-use Rattle.volume_base.proofs.Seeing.{cause_since, if_so}
-use Rattle.volume_base.proofs.Still.{own_still}
+use Rattle.volume_base.proofs.Seeing.{if_so}
 use Rattle.volume_space.specs.declared.zeroing.Zeros.TheVariants as zeros
-use Rattle.volume_step.proofs.Done.{holds_kept}
 use Rattle.volume_step.proofs.FilledFirst.{commit_some, few_none}
-use Rattle.volume_step.proofs.FilledFor.{low_here, file_told}
+use Rattle.volume_step.proofs.FilledFor.{low_here, file_told, never_told}
 use Rattle.volume_step.proofs.Unfilled.{filled_still, keeps_filled, reads_alone, reads_filled}
-use Rattle.volume_step.proofs.Widening.{laid_still}
 use Rattle.hfs_volume.specs.Weight.{most_zeros}
 use Rattle.volume_base.specs.declared.volume.Filling.{Filling}
 use Rattle.volume_space.specs.Zeroing.{done_of}
+use Rattle.volume_step.proofs.Performed.{performs_err, performs_fills, performs_looked, performs_looked_ok, performs_then}
 use Rattle.volume_step.proofs.filling.fill_file.Goals as goal
 
 pub fill_ahead-requires-clause-filled : goal.fill_ahead-requires-clause-filled
@@ -48,30 +42,11 @@ returns-in-Ok-clause-reads g c = if_so _ _ c.fill_ahead.result (λ came still no
 pub returns-in-Ok-clause-keeps : goal.returns-in-Ok-clause-keeps
 returns-in-Ok-clause-keeps g c = keeps_filled (g.P.SectorView.space c.args.space.now).tells c.args.volume.now c.facts.new.self c.fill_ahead.new.volume c.facts.ensures.looked.reads.keeps c.fill_ahead.ensures.frame.rest
 
-pub returns-in-Ok-clause-serves : goal.returns-in-Ok-clause-serves
-returns-in-Ok-clause-serves g c = c.fill_ahead.ensures.frame.serves
-
 pub returns-in-Ok-clause-filled : goal.returns-in-Ok-clause-filled
 returns-in-Ok-clause-filled g c = c.fill_ahead.ensures.frame.filled
 
-pub returns-in-Ok-clause-service : goal.returns-in-Ok-clause-service
-returns-in-Ok-clause-service g c = c.fill_ahead.ensures.frame.service
-
-pub returns-in-Ok-clause-touches : goal.returns-in-Ok-clause-touches
-returns-in-Ok-clause-touches g c committed holds laid = touches_both committed _ (g.P.SectorView.space c.args.space.now) (g.P.SectorView.space c.facts.new.space) (g.P.SectorView.space c.fill_ahead.new.space) (touches_looks committed _ (g.P.SectorView.space c.args.space.now) (g.P.SectorView.space c.facts.new.space) c.facts.ensures.looked.reads.looks)
-    (subst (λ (l : List ℕ). Touches committed (λ s. Contains l s) (g.P.SectorView.space c.facts.new.space) (g.P.SectorView.space c.fill_ahead.new.space)) (own_still c.args.volume.now c.facts.new.self (g.P.SectorView.space c.args.space.now) (g.P.SectorView.space c.facts.new.space) c.facts.ensures.looked.reads) (c.fill_ahead.ensures.frame.touches committed (holds_kept committed c.args.volume.now c.facts.new.self c.facts.ensures.looked.reads.keeps.map holds) (laid_still committed c.args.volume.now c.facts.new.self c.facts.ensures.looked.reads.keeps.header c.facts.ensures.looked.reads.keeps.map laid)))
-
 pub returns-in-Ok-clause-spare : goal.returns-in-Ok-clause-spare
 returns-in-Ok-clause-spare g c = omega (arith, c.facts.ensures.looked.reads.looks.spare, c.fill_ahead.ensures.frame.room.spare)
-
-pub returns-in-Ok-clause-same : goal.returns-in-Ok-clause-same
-returns-in-Ok-clause-same g c = space_both _ _ _ c.facts.ensures.looked.reads.looks.same c.fill_ahead.ensures.frame.same
-
-pub returns-in-Ok-clause-below : goal.returns-in-Ok-clause-below
-returns-in-Ok-clause-below g c = g.met.P.SectorView.follows_trans c.args.space.now c.facts.new.space c.fill_ahead.new.space c.facts.ensures.looked.edits.ran.below c.fill_ahead.ensures.frame.below
-
-pub returns-in-Ok-clause-cause : goal.returns-in-Ok-clause-cause
-returns-in-Ok-clause-cause g c = cause_since (g.P.SectorView.space c.args.space.now).faults (g.P.SectorView.space c.facts.new.space).faults (g.P.SectorView.space c.fill_ahead.new.space).faults c.fill_ahead.result c.facts.ensures.looked.reads.looks.faults c.fill_ahead.ensures.frame.cause
 
 pub returns-in-Err-clause-many : goal.returns-in-Err-clause-many
 returns-in-Err-clause-many g c tells some = absurd (some refl)
@@ -85,49 +60,44 @@ returns-in-Err-clause-commit g c same = absurd (commit_some zeros.CommitFirst re
 pub returns-in-Err-clause-reads : goal.returns-in-Err-clause-reads
 returns-in-Err-clause-reads g c none = reads_alone c.args.volume.now c.facts.new.self (g.P.SectorView.space c.args.space.now) (g.P.SectorView.space c.facts.new.space) c.facts.ensures.looked.reads
 
-pub returns-in-Err-clause-serves : goal.returns-in-Err-clause-serves
-returns-in-Err-clause-serves g c = c.facts.ensures.serves
-
 pub returns-in-Err-clause-filled : goal.returns-in-Err-clause-filled
 returns-in-Err-clause-filled g c = filled_still c.args.volume.now c.facts.new.self (g.P.SectorView.space c.args.space.now) (g.P.SectorView.space c.facts.new.space) c.facts.ensures.looked.reads c.requires.filled
 
 pub returns-in-Err-clause-keeps : goal.returns-in-Err-clause-keeps
 returns-in-Err-clause-keeps g c = (reads_alone c.args.volume.now c.facts.new.self (g.P.SectorView.space c.args.space.now) (g.P.SectorView.space c.facts.new.space) c.facts.ensures.looked.reads).keeps
 
-pub returns-in-Err-clause-touches : goal.returns-in-Err-clause-touches
-returns-in-Err-clause-touches g c committed holds laid = touches_looks committed _ (g.P.SectorView.space c.args.space.now) (g.P.SectorView.space c.facts.new.space) c.facts.ensures.looked.reads.looks
-
 pub returns-in-Err-clause-spare : goal.returns-in-Err-clause-spare
 returns-in-Err-clause-spare g c = omega (arith, c.facts.ensures.looked.reads.looks.spare)
-
-pub returns-in-Err-clause-same : goal.returns-in-Err-clause-same
-returns-in-Err-clause-same g c = c.facts.ensures.looked.reads.looks.same
-
-pub returns-in-Err-clause-service : goal.returns-in-Err-clause-service
-returns-in-Err-clause-service g c = c.facts.ensures.looked.stands.service
 
 pub returns-in_err-told-clause-keeps : goal.returns-in_err-told-clause-keeps
 returns-in_err-told-clause-keeps g c = (reads_alone c.args.volume.now c.facts.new.self (g.P.SectorView.space c.args.space.now) (g.P.SectorView.space c.facts.new.space) c.facts.ensures.looked.reads).keeps
 
-pub returns-in_err-told-clause-touches : goal.returns-in_err-told-clause-touches
-returns-in_err-told-clause-touches g c committed holds laid = touches_looks committed _ (g.P.SectorView.space c.args.space.now) (g.P.SectorView.space c.facts.new.space) c.facts.ensures.looked.reads.looks
-
 pub returns-in_err-told-clause-spare : goal.returns-in_err-told-clause-spare
 returns-in_err-told-clause-spare g c = omega (arith, c.facts.ensures.looked.reads.looks.spare)
 
-pub returns-in_err-told-clause-same : goal.returns-in_err-told-clause-same
-returns-in_err-told-clause-same g c = c.facts.ensures.looked.reads.looks.same
-
-pub returns-in_err-told-clause-service : goal.returns-in_err-told-clause-service
-returns-in_err-told-clause-service g c = c.facts.ensures.looked.stands.service
-
 pub returns-in-Ok-clause-next : goal.returns-in-Ok-clause-next
 returns-in-Ok-clause-next g c tells = if_so _ _ c.fill_ahead.result (λ came next filled file found.
-    let here = file_told (tree_of (g.P.SectorView.space c.args.space.now).content) c.args.path.now c.in-Ok.told (sym c.in-Ok.is ∙ c.in_ok-told.ensures.told tells) file found in (
-      max c.in-Ok.told.size c.args.end,
-      subst (λ (k : ℕ × ℕ × Option Filling). done_of c.fill_ahead.new.volume.filling k.0 k.1 (max c.in-Ok.told.size c.args.end) ≡ done_of k.2 k.0 k.1 (max c.in-Ok.told.size c.args.end) + most_zeros)
-          {x = (c.in-Ok.told.id, c.in-Ok.told.size, c.facts.new.self.filling)} {y = (file.id, length file.bytes, c.args.volume.now.filling)} (λ i. (sym here.1 i, sym here.0 i, c.facts.ensures.looked.reads.keeps.filling i)) (next filled),
-    )) c.fill_ahead.ensures.next
+    let here = file_told (tree_of (g.P.SectorView.space c.args.space.now).content) c.args.path.now c.in-Ok.told (sym c.in-Ok.is ∙ c.in_ok-told.ensures.told tells) file found in
+    subst (λ (k : ℕ × ℕ × Option Filling). done_of c.fill_ahead.new.volume.filling k.0 k.1 (max k.1 c.args.end) ≡ done_of k.2 k.0 k.1 (max k.1 c.args.end) + most_zeros)
+    {x = (c.in-Ok.told.id, c.in-Ok.told.size, c.facts.new.self.filling)} {y = (file.id, length file.bytes, c.args.volume.now.filling)} (λ i. (sym here.1 i, sym here.0 i, c.facts.ensures.looked.reads.keeps.filling i)) (next filled)) c.fill_ahead.ensures.next
 
 pub returns-in-Err-clause-next : goal.returns-in-Err-clause-next
 returns-in-Err-clause-next g c tells same = absurd (few_none zeros.Few refl same)
+
+pub returns-in-Ok-clause-few : goal.returns-in-Ok-clause-few
+returns-in-Ok-clause-few g c tells less = if_so _ _ c.fill_ahead.result (λ came left none file found.
+    let here = file_told (tree_of (g.P.SectorView.space c.args.space.now).content) c.args.path.now c.in-Ok.told (sym c.in-Ok.is ∙ c.in_ok-told.ensures.told tells) file found in
+    subst (λ (k : ℕ × ℕ × Option Filling × VolumeHeader). c.args.stop - blocks_for k.3.block_size k.1 ≤ done_of k.2 k.0 k.1 (max k.1 c.args.end) + most_zeros)
+    {x = (c.in-Ok.told.id, c.in-Ok.told.size, c.facts.new.self.filling, c.facts.new.self.header)} {y = (file.id, length file.bytes, c.args.volume.now.filling, c.args.volume.now.header)} (λ i. (sym here.1 i, sym here.0 i, c.facts.ensures.looked.reads.keeps.filling i, c.facts.ensures.looked.reads.keeps.header i)) (left none)) (c.fill_ahead.ensures.few less)
+
+pub returns-in-Err-clause-few : goal.returns-in-Err-clause-few
+returns-in-Err-clause-few g c tells less none file found = absurd (never_told (tree_of (g.P.SectorView.space c.args.space.now).content) c.args.path.now file found (c.requires.there tells).2 c.in-Err._why (sym c.in-Err.is ∙ c.in_ok-told.ensures.told tells))
+
+pub returns-in-Ok-clause-frame : goal.returns-in-Ok-clause-frame
+returns-in-Ok-clause-frame g c = performs_then g.met.P.SectorView.follows_trans c.facts.ensures.looked (performs_fills c.fill_ahead.ensures.frame)
+
+pub returns-in-Err-clause-frame : goal.returns-in-Err-clause-frame
+returns-in-Err-clause-frame g c = performs_looked_ok c.facts.ensures.looked c.facts.ensures.serves
+
+pub returns-in_err-told-clause-frame : goal.returns-in_err-told-clause-frame
+returns-in_err-told-clause-frame g c = performs_err c.from_residual.ensures.1 (performs_looked c.in_err-told.ensures.looked c.facts.ensures.serves)

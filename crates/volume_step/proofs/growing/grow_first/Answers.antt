@@ -1,10 +1,12 @@
-use Rattle.std.proofs.Common.{refl}
+use Rattle.std.proofs.Common.{refl, subst}
 use Rattle.std.specs.Prelude.{None}
 use Rattle.volume_base.specs.Keeping.{shrunk_of}
 use Rattle.volume_base.specs.Room.{capacity_of}
 use Rattle.volume_step.proofs.GrowthSteps.{growth_place, growth_shrinks, growth_steps, growth_touches}
 use Rattle.volume_step.proofs.Ready.{grown_now}
 use Rattle.volume_step.proofs.Unfilled.{filled_none, service_filling, settled_filling, stands_filling}
+use Rattle.volume_step.specs.Steps.{IsDoneOk}
+use Rattle.volume_step.proofs.FilledFirst.{growth_undone}
 use Rattle.volume_step.proofs.growing.grow_first.Goals as goal
 
 pub returns-clause-answered : goal.returns-clause-answered
@@ -56,3 +58,9 @@ returns-clause-service g c = service_filling c.grow_tree.new.volume None (g.P.Se
 
 pub returns-clause-filled : goal.returns-clause-filled
 returns-clause-filled g c = filled_none (record c.grow_tree.new.volume { filling = None }) (g.P.SectorView.space c.grow_tree.new.space) refl
+
+pub returns-clause-never : goal.returns-clause-never
+returns-clause-never g c done = growth_undone c.in_ok-went.went (subst IsDoneOk c.grown.ensures done)
+
+pub returns-clause-dropped : goal.returns-clause-dropped
+returns-clause-dropped g c = refl

@@ -1,26 +1,21 @@
-use Rattle.std.proofs.Common.{◌≡◌, ℕ, List, sym, ◌∙◌, ap, subst}
-use Rattle.std.specs.List.{Contains}
+use Rattle.std.proofs.Common.{◌≡◌, sym, ◌∙◌, ap, subst}
 use Rattle.std.specs.Prelude.{IfNone, IfSome, Option, Some, Ok}
 use Rattle.sector_disk.specs.Lists.{Content}
-use Rattle.sector_disk.proofs.SpaceLaws.{space_both}
 use Rattle.hfs_language.specs.declared.command.Command.TheVariants as command
 use Rattle.hfs_language.specs.declared.reply.Reply.{Reply}
 use Rattle.hfs_model.specs.Step.{reached, step_line}
 use Rattle.hfs_volume.specs.Aside.{IsJournalSector}
 use Rattle.hfs_volume.specs.TreeOf.{tree_of}
 use Rattle.volume_base.specs.Room.{capacity_of}
-use Rattle.volume_base.specs.Touching.{Touches}
-use Rattle.volume_base.proofs.Commanding.{touches_both, touches_looks}
 use Rattle.volume_space.proofs.Sounding.{sound_here}
-use Rattle.volume_base.proofs.Still.{own_still}
 use Rattle.volume_step.specs.Steps.{Affords, KeepsJournal, StepsTo}
 use Rattle.volume_step.specs.declared.outcome.Outcome.TheVariants as outcome
-use Rattle.volume_step.proofs.Done.{holds_kept, same_place}
+use Rattle.volume_step.proofs.Done.{same_place}
 use Rattle.volume_step.proofs.Putting.{size_place, size_steps}
-use Rattle.volume_step.proofs.Widening.{laid_still}
 use Rattle.volume_step.proofs.ReadyData.{data_still, put_none}
 use Rattle.volume_step.proofs.Loaded.{within_behind, within_reads}
 use Rattle.volume_step.proofs.Unfilled.{filled_still}
+use Rattle.volume_step.proofs.Performed.{performs_done, performs_err, performs_failed, performs_looked, performs_then}
 use Rattle.volume_step.proofs.resizing.lengthen.Goals as goal
 
 pub lengthen-requires-clause-closed : goal.lengthen-requires-clause-closed
@@ -51,50 +46,11 @@ returns-in-Some-clause-place g c tells =
     (subst (λ (o : Option Reply). IfSome o (λ reply. tree_of (g.P.SectorView.space c.lengthen.new.space).content ≡ (step_line (tree_of (g.P.SectorView.space c.change_at.new.space).content) (Ok (command.Trunc c.args.path.now c.args.size))).1)) c.in-Some.is (c.in_ok-reply.ensures.tree (c.change_at.ensures.looked.reads.looks.same.tells ∙ tells)))
     (λ ok. c.in_ok-reply.ensures.lists (c.change_at.ensures.looked.reads.looks.same.tells ∙ tells) (c.in-Some.is ∙ ap Some ok)))
 
-pub returns-in-Some-clause-holds : goal.returns-in-Some-clause-holds
-returns-in-Some-clause-holds g c committed was = c.in_ok-reply.ensures.holds committed (holds_kept committed c.args.volume.now c.change_at.new.self c.change_at.ensures.looked.reads.keeps.map was)
-
-pub returns-in-Some-clause-below : goal.returns-in-Some-clause-below
-returns-in-Some-clause-below g c = g.met.P.SectorView.follows_trans c.args.space.now c.change_at.new.space c.lengthen.new.space c.change_at.ensures.looked.edits.ran.below c.lengthen.ensures.below
-
-pub returns-in-Some-clause-touches : goal.returns-in-Some-clause-touches
-returns-in-Some-clause-touches g c committed holds laid =
-    touches_both committed _ (g.P.SectorView.space c.args.space.now) (g.P.SectorView.space c.change_at.new.space) (g.P.SectorView.space c.lengthen.new.space) (touches_looks committed _ (g.P.SectorView.space c.args.space.now) (g.P.SectorView.space c.change_at.new.space) c.change_at.ensures.looked.reads.looks)
-    (subst (λ (l : List ℕ). Touches committed (λ s. Contains l s) (g.P.SectorView.space c.change_at.new.space) (g.P.SectorView.space c.lengthen.new.space)) (own_still c.args.volume.now c.change_at.new.self (g.P.SectorView.space c.args.space.now) (g.P.SectorView.space c.change_at.new.space) c.change_at.ensures.looked.reads) (c.lengthen.ensures.touches committed (holds_kept committed c.args.volume.now c.change_at.new.self c.change_at.ensures.looked.reads.keeps.map holds) (laid_still committed c.args.volume.now c.change_at.new.self c.change_at.ensures.looked.reads.keeps.header c.change_at.ensures.looked.reads.keeps.map laid)))
-
-pub returns-in-Some-clause-same : goal.returns-in-Some-clause-same
-returns-in-Some-clause-same g c = space_both _ _ _ c.change_at.ensures.looked.reads.looks.same c.lengthen.ensures.same
-
 pub returns-in-None-clause-answered : goal.returns-in-None-clause-answered
 returns-in-None-clause-answered g c tells = (subst (λ (o : Option Reply). IfNone o ((g.P.SectorView.space c.lengthen.new.space).content ≡ (g.P.SectorView.space c.change_at.new.space).content)) c.in-None.is (c.in_ok-reply.ensures.waits (c.change_at.ensures.looked.reads.looks.same.tells ∙ tells))) ∙ c.change_at.ensures.looked.reads.looks.content tells
 
 pub returns-in-None-clause-place : goal.returns-in-None-clause-place
 returns-in-None-clause-place g c tells = same_place (g.P.SectorView.space c.args.space.now).content (g.P.SectorView.space c.lengthen.new.space).content ((subst (λ (o : Option Reply). IfNone o ((g.P.SectorView.space c.lengthen.new.space).content ≡ (g.P.SectorView.space c.change_at.new.space).content)) c.in-None.is (c.in_ok-reply.ensures.waits (c.change_at.ensures.looked.reads.looks.same.tells ∙ tells))) ∙ c.change_at.ensures.looked.reads.looks.content tells)
-
-pub returns-in-None-clause-holds : goal.returns-in-None-clause-holds
-returns-in-None-clause-holds g c committed was = c.in_ok-reply.ensures.holds committed (holds_kept committed c.args.volume.now c.change_at.new.self c.change_at.ensures.looked.reads.keeps.map was)
-
-pub returns-in-None-clause-below : goal.returns-in-None-clause-below
-returns-in-None-clause-below g c = g.met.P.SectorView.follows_trans c.args.space.now c.change_at.new.space c.lengthen.new.space c.change_at.ensures.looked.edits.ran.below c.lengthen.ensures.below
-
-pub returns-in-None-clause-touches : goal.returns-in-None-clause-touches
-returns-in-None-clause-touches g c committed holds laid =
-    touches_both committed _ (g.P.SectorView.space c.args.space.now) (g.P.SectorView.space c.change_at.new.space) (g.P.SectorView.space c.lengthen.new.space) (touches_looks committed _ (g.P.SectorView.space c.args.space.now) (g.P.SectorView.space c.change_at.new.space) c.change_at.ensures.looked.reads.looks)
-    (subst (λ (l : List ℕ). Touches committed (λ s. Contains l s) (g.P.SectorView.space c.change_at.new.space) (g.P.SectorView.space c.lengthen.new.space)) (own_still c.args.volume.now c.change_at.new.self (g.P.SectorView.space c.args.space.now) (g.P.SectorView.space c.change_at.new.space) c.change_at.ensures.looked.reads) (c.lengthen.ensures.touches committed (holds_kept committed c.args.volume.now c.change_at.new.self c.change_at.ensures.looked.reads.keeps.map holds) (laid_still committed c.args.volume.now c.change_at.new.self c.change_at.ensures.looked.reads.keeps.header c.change_at.ensures.looked.reads.keeps.map laid)))
-
-pub returns-in-None-clause-same : goal.returns-in-None-clause-same
-returns-in-None-clause-same g c = space_both _ _ _ c.change_at.ensures.looked.reads.looks.same c.lengthen.ensures.same
-
-pub returns-in_err-reply-clause-touches : goal.returns-in_err-reply-clause-touches
-returns-in_err-reply-clause-touches g c committed holds laid =
-    touches_both committed _ (g.P.SectorView.space c.args.space.now) (g.P.SectorView.space c.change_at.new.space) (g.P.SectorView.space c.lengthen.new.space) (touches_looks committed _ (g.P.SectorView.space c.args.space.now) (g.P.SectorView.space c.change_at.new.space) c.change_at.ensures.looked.reads.looks)
-    (subst (λ (l : List ℕ). Touches committed (λ s. Contains l s) (g.P.SectorView.space c.change_at.new.space) (g.P.SectorView.space c.lengthen.new.space)) (own_still c.args.volume.now c.change_at.new.self (g.P.SectorView.space c.args.space.now) (g.P.SectorView.space c.change_at.new.space) c.change_at.ensures.looked.reads) (c.lengthen.ensures.touches committed (holds_kept committed c.args.volume.now c.change_at.new.self c.change_at.ensures.looked.reads.keeps.map holds) (laid_still committed c.args.volume.now c.change_at.new.self c.change_at.ensures.looked.reads.keeps.header c.change_at.ensures.looked.reads.keeps.map laid)))
-
-pub returns-in_err-reply-clause-same : goal.returns-in_err-reply-clause-same
-returns-in_err-reply-clause-same g c = space_both _ _ _ c.change_at.ensures.looked.reads.looks.same c.lengthen.ensures.same
-
-pub returns-in_err-changes-clause-touches : goal.returns-in_err-changes-clause-touches
-returns-in_err-changes-clause-touches g c committed holds laid = touches_looks committed _ (g.P.SectorView.space c.args.space.now) (g.P.SectorView.space c.change_at.new.space) c.change_at.ensures.looked.reads.looks
 
 pub returns-in-None-clause-puts : goal.returns-in-None-clause-puts
 returns-in-None-clause-puts g c tells met =
@@ -121,3 +77,15 @@ returns-in_err-changes-clause-loads g c tells = within_reads (command.Trunc c.ar
 
 pub lengthen-requires-clause-filled : goal.lengthen-requires-clause-filled
 lengthen-requires-clause-filled g c = filled_still c.args.volume.now c.change_at.new.self (g.P.SectorView.space c.args.space.now) (g.P.SectorView.space c.change_at.new.space) c.change_at.ensures.looked.reads c.requires.filled
+
+pub returns-in-Some-clause-frame : goal.returns-in-Some-clause-frame
+returns-in-Some-clause-frame g c = performs_then g.met.P.SectorView.follows_trans c.change_at.ensures.looked (performs_done c.lengthen.ensures.below c.in_ok-reply.ensures.cause.later c.in_ok-reply.ensures.stands c.in_ok-reply.ensures.settled c.in_ok-reply.ensures.holds c.lengthen.ensures.capacity c.lengthen.ensures.touches c.lengthen.ensures.same)
+
+pub returns-in-None-clause-frame : goal.returns-in-None-clause-frame
+returns-in-None-clause-frame g c = performs_then g.met.P.SectorView.follows_trans c.change_at.ensures.looked (performs_done c.lengthen.ensures.below c.in_ok-reply.ensures.cause.later c.in_ok-reply.ensures.stands c.in_ok-reply.ensures.settled c.in_ok-reply.ensures.holds c.lengthen.ensures.capacity c.lengthen.ensures.touches c.lengthen.ensures.same)
+
+pub returns-in_err-reply-clause-frame : goal.returns-in_err-reply-clause-frame
+returns-in_err-reply-clause-frame g c = performs_err c.from_residual-in_err-reply.ensures.1 (performs_then g.met.P.SectorView.follows_trans c.change_at.ensures.looked (performs_failed c.lengthen.ensures.below c.in_err-reply.ensures.cause c.lengthen.ensures.service c.lengthen.ensures.capacity c.lengthen.ensures.touches c.lengthen.ensures.same))
+
+pub returns-in_err-changes-clause-frame : goal.returns-in_err-changes-clause-frame
+returns-in_err-changes-clause-frame g c = performs_err c.from_residual.ensures.1 (performs_looked c.in_err-changes.ensures.looked c.change_at.ensures.serves)

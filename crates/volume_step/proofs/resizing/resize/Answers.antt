@@ -1,9 +1,7 @@
-use Rattle.std.proofs.Common.{◌≡◌, ℕ, true, List, [], refl, sym, ◌∙◌, ap, subst}
+use Rattle.std.proofs.Common.{◌≡◌, ℕ, true, [], refl, sym, ◌∙◌, ap, subst}
 use Rattle.std.proofs.lemmas.Bool.{true≢false}
-use Rattle.std.specs.List.{Contains}
 use Rattle.std.specs.Prelude.{IfNone, IfOk, IfSome, OnOk, is_some, Option, Some, Ok}
 use Rattle.sector_disk.specs.Lists.{Content}
-use Rattle.sector_disk.proofs.SpaceLaws.{space_both}
 use Rattle.hfs_language.specs.declared.command.Command.TheVariants as command
 use Rattle.hfs_language.specs.declared.reply.Reply.{Reply}
 use Rattle.hfs_model.specs.Step.{reached, step_line}
@@ -14,20 +12,20 @@ use Rattle.volume_base.specs.Keeping.{shrunk_of}
 use Rattle.volume_base.specs.Looking.{ReadsVolume}
 use Rattle.volume_base.specs.Resizing.{shrunk_then}
 use Rattle.volume_base.specs.Room.{capacity_of}
-use Rattle.volume_base.specs.Touching.{Touches}
-use Rattle.volume_base.proofs.Commanding.{touches_both, touches_looks}
 use Rattle.volume_space.proofs.Sounding.{sound_here}
-use Rattle.volume_base.proofs.Still.{own_still, settled_still, volume_both}
+use Rattle.volume_base.proofs.Still.{volume_both}
 use Rattle.volume_step.specs.Steps.{Affords, KeepsJournal, StepsNow, StepsTo}
 use Rattle.volume_step.specs.declared.outcome.Outcome.TheVariants as outcome
 use Rattle.volume_step.proofs.Done.{holds_kept, same_place}
 use Rattle.volume_step.proofs.Shortened.{trunc_place, trunc_steps}
 use Rattle.volume_step.proofs.Putting.{grown_shrinks_none}
-use Rattle.volume_step.proofs.Widening.{keeps_shrunk, laid_still}
+use Rattle.volume_step.proofs.Widening.{keeps_shrunk}
 use Rattle.volume_step.proofs.Ready.{longer_none, update_fits}
 use Rattle.volume_step.proofs.ReadyData.{data_still, data_update_fits}
 use Rattle.volume_step.proofs.Loaded.{trunc_within, within_behind, within_reads}
 use Rattle.volume_step.proofs.Unfilled.{filled_still}
+use Rattle.volume_base.proofs.Framed.{looked_both, looked_of, serves_still}
+use Rattle.volume_step.proofs.Performed.{performs_done, performs_err, performs_failed, performs_looked, performs_looked_ok, performs_then}
 use Rattle.volume_step.proofs.resizing.resize.Goals as goal
 
 pub returns-in-Some-clause-answered : goal.returns-in-Some-clause-answered
@@ -53,33 +51,9 @@ returns-in-Some-clause-place g c tells =
     (subst (λ (o : Option Reply). IfSome o (λ reply. tree_of (g.P.SectorView.space c.shorten.new.space).content ≡ (step_line (tree_of (g.P.SectorView.space c.change_at.new.space).content) (Ok (command.Trunc c.args.path.now c.args.size))).1)) c.in-Some.is (c.in_ok-reply.ensures.tree (c.change_at.ensures.looked.reads.looks.same.tells ∙ tells)))
     (λ ok. c.in_ok-reply.ensures.lists (c.change_at.ensures.looked.reads.looks.same.tells ∙ tells) (c.in-Some.is ∙ ap Some ok)))
 
-pub returns-in-Some-clause-holds : goal.returns-in-Some-clause-holds
-returns-in-Some-clause-holds g c committed was = holds_kept committed c.change_at.new.self c.shorten.new.volume c.shorten.ensures.map (holds_kept committed c.args.volume.now c.change_at.new.self c.change_at.ensures.looked.reads.keeps.map was)
-
 pub returns-in-Some-clause-shrunk : goal.returns-in-Some-clause-shrunk
 returns-in-Some-clause-shrunk g c tells =
     subst (λ (k : Content × Option ℕ × Option Reply). c.shorten.new.volume.shrunk ≡ shrunk_then (tree_of k.0) c.args.path.now c.args.size k.2 k.1) {x = ((g.P.SectorView.space c.change_at.new.space).content, c.change_at.new.self.shrunk, c.in_ok-reply.field-0)} {y = ((g.P.SectorView.space c.args.space.now).content, c.args.volume.now.shrunk, Some c.in-Some.reply)} (λ i. (c.change_at.ensures.looked.reads.looks.content tells i, c.change_at.ensures.looked.reads.keeps.shrunk i, c.in-Some.is i)) (c.in_ok-reply.ensures.shrunk (c.change_at.ensures.looked.reads.looks.same.tells ∙ tells))
-
-pub returns-in-Some-clause-below : goal.returns-in-Some-clause-below
-returns-in-Some-clause-below g c = g.met.P.SectorView.follows_trans c.args.space.now c.change_at.new.space c.shorten.new.space c.change_at.ensures.looked.edits.ran.below c.shorten.ensures.below
-
-pub returns-in-Some-clause-touches : goal.returns-in-Some-clause-touches
-returns-in-Some-clause-touches g c committed holds laid =
-    touches_both committed _ (g.P.SectorView.space c.args.space.now) (g.P.SectorView.space c.change_at.new.space) (g.P.SectorView.space c.shorten.new.space) (touches_looks committed _ (g.P.SectorView.space c.args.space.now) (g.P.SectorView.space c.change_at.new.space) c.change_at.ensures.looked.reads.looks)
-    (subst (λ (l : List ℕ). Touches committed (λ s. Contains l s) (g.P.SectorView.space c.change_at.new.space) (g.P.SectorView.space c.shorten.new.space)) (own_still c.args.volume.now c.change_at.new.self (g.P.SectorView.space c.args.space.now) (g.P.SectorView.space c.change_at.new.space) c.change_at.ensures.looked.reads) (c.shorten.ensures.touches committed))
-
-pub returns-in_err-reply-clause-touches : goal.returns-in_err-reply-clause-touches
-returns-in_err-reply-clause-touches g c committed holds laid =
-    touches_both committed _ (g.P.SectorView.space c.args.space.now) (g.P.SectorView.space c.change_at.new.space) (g.P.SectorView.space c.shorten.new.space) (touches_looks committed _ (g.P.SectorView.space c.args.space.now) (g.P.SectorView.space c.change_at.new.space) c.change_at.ensures.looked.reads.looks)
-    (subst (λ (l : List ℕ). Touches committed (λ s. Contains l s) (g.P.SectorView.space c.change_at.new.space) (g.P.SectorView.space c.shorten.new.space)) (own_still c.args.volume.now c.change_at.new.self (g.P.SectorView.space c.args.space.now) (g.P.SectorView.space c.change_at.new.space) c.change_at.ensures.looked.reads) (c.shorten.ensures.touches committed))
-
-pub returns-in_err-changes-clause-touches : goal.returns-in_err-changes-clause-touches
-returns-in_err-changes-clause-touches g c committed holds laid = touches_looks committed _ (g.P.SectorView.space c.args.space.now) (g.P.SectorView.space c.change_at.new.space) c.change_at.ensures.looked.reads.looks
-
-pub returns-then-not-fits_update-clause-touches : goal.returns-then-not-fits_update-clause-touches
-returns-then-not-fits_update-clause-touches g c committed holds laid = touches_looks committed _ (g.P.SectorView.space c.args.space.now) (g.P.SectorView.space c.change_at.new.space) c.change_at.ensures.looked.reads.looks
-
--- ---- where it would grow: up to there the volume was read
 
 pub lengthen-requires-clause-closed : goal.lengthen-requires-clause-closed
 lengthen-requires-clause-closed g c told at shut =
@@ -93,12 +67,6 @@ lengthen-requires-clause-affords g c told =
     let tells = sym reads.looks.same.tells ∙ told in
     subst (λ (k : ℕ × Content). Affords k.0 (command.Trunc c.args.path.now c.args.size) k.1) {x = (capacity_of c.args.volume.now, (g.P.SectorView.space c.args.space.now).content)} {y = (capacity_of c.shorten.new.volume, (g.P.SectorView.space c.shorten.new.space).content)} (λ i. (sym reads.keeps.capacity i, sym (reads.looks.content tells) i)) (c.requires.affords tells)
 
-pub lengthen-requires-clause-settled : goal.lengthen-requires-clause-settled
-lengthen-requires-clause-settled g c told =
-    let reads = (volume_both c.args.volume.now c.change_at.new.self c.shorten.new.volume (g.P.SectorView.space c.args.space.now) (g.P.SectorView.space c.change_at.new.space) (g.P.SectorView.space c.shorten.new.space) c.change_at.ensures.looked.reads (subst (λ (o : Option Reply). IfNone o (ReadsVolume c.change_at.new.self c.shorten.new.volume (g.P.SectorView.space c.change_at.new.space) (g.P.SectorView.space c.shorten.new.space))) c.in-None.is c.in_ok-reply.ensures.idle)) in
-    let tells = sym reads.looks.same.tells ∙ told in
-    settled_still c.args.volume.now c.shorten.new.volume (g.P.SectorView.space c.args.space.now) (g.P.SectorView.space c.shorten.new.space) reads tells (c.requires.settled tells)
-
 pub returns-in-None-clause-answered : goal.returns-in-None-clause-answered
 returns-in-None-clause-answered g c tells =
     let reads = (volume_both c.args.volume.now c.change_at.new.self c.shorten.new.volume (g.P.SectorView.space c.args.space.now) (g.P.SectorView.space c.change_at.new.space) (g.P.SectorView.space c.shorten.new.space) c.change_at.ensures.looked.reads (subst (λ (o : Option Reply). IfNone o (ReadsVolume c.change_at.new.self c.shorten.new.volume (g.P.SectorView.space c.change_at.new.space) (g.P.SectorView.space c.shorten.new.space))) c.in-None.is c.in_ok-reply.ensures.idle)) in
@@ -109,16 +77,6 @@ returns-in-None-clause-place g c tells =
     let reads = (volume_both c.args.volume.now c.change_at.new.self c.shorten.new.volume (g.P.SectorView.space c.args.space.now) (g.P.SectorView.space c.change_at.new.space) (g.P.SectorView.space c.shorten.new.space) c.change_at.ensures.looked.reads (subst (λ (o : Option Reply). IfNone o (ReadsVolume c.change_at.new.self c.shorten.new.volume (g.P.SectorView.space c.change_at.new.space) (g.P.SectorView.space c.shorten.new.space))) c.in-None.is c.in_ok-reply.ensures.idle)) in
     subst (λ (k : Content). OnOk c.lengthen.result (KeepsJournal k (g.P.SectorView.space c.lengthen.new.space).content)) (reads.looks.content tells) (c.lengthen.ensures.place (reads.looks.same.tells ∙ tells))
 
-pub returns-in-None-clause-settled : goal.returns-in-None-clause-settled
-returns-in-None-clause-settled g c tells =
-    let reads = (volume_both c.args.volume.now c.change_at.new.self c.shorten.new.volume (g.P.SectorView.space c.args.space.now) (g.P.SectorView.space c.change_at.new.space) (g.P.SectorView.space c.shorten.new.space) c.change_at.ensures.looked.reads (subst (λ (o : Option Reply). IfNone o (ReadsVolume c.change_at.new.self c.shorten.new.volume (g.P.SectorView.space c.change_at.new.space) (g.P.SectorView.space c.shorten.new.space))) c.in-None.is c.in_ok-reply.ensures.idle)) in
-    c.lengthen.ensures.settled (reads.looks.same.tells ∙ tells)
-
-pub returns-in-None-clause-holds : goal.returns-in-None-clause-holds
-returns-in-None-clause-holds g c committed was =
-    let reads = (volume_both c.args.volume.now c.change_at.new.self c.shorten.new.volume (g.P.SectorView.space c.args.space.now) (g.P.SectorView.space c.change_at.new.space) (g.P.SectorView.space c.shorten.new.space) c.change_at.ensures.looked.reads (subst (λ (o : Option Reply). IfNone o (ReadsVolume c.change_at.new.self c.shorten.new.volume (g.P.SectorView.space c.change_at.new.space) (g.P.SectorView.space c.shorten.new.space))) c.in-None.is c.in_ok-reply.ensures.idle)) in
-    c.lengthen.ensures.holds committed (holds_kept committed c.args.volume.now c.shorten.new.volume reads.keeps.map was)
-
 pub returns-in-None-clause-shrunk : goal.returns-in-None-clause-shrunk
 returns-in-None-clause-shrunk g c tells =
     let reads = (volume_both c.args.volume.now c.change_at.new.self c.shorten.new.volume (g.P.SectorView.space c.args.space.now) (g.P.SectorView.space c.change_at.new.space) (g.P.SectorView.space c.shorten.new.space) c.change_at.ensures.looked.reads (subst (λ (o : Option Reply). IfNone o (ReadsVolume c.change_at.new.self c.shorten.new.volume (g.P.SectorView.space c.change_at.new.space) (g.P.SectorView.space c.shorten.new.space))) c.in-None.is c.in_ok-reply.ensures.idle)) in
@@ -126,32 +84,6 @@ returns-in-None-clause-shrunk g c tells =
     let puts = (subst (λ (o : Option Reply). IfNone o ((is_some (data_of (tree_of (g.P.SectorView.space c.change_at.new.space).content) (command.Trunc c.args.path.now c.args.size)) ≡ true) × ((g.P.SectorView.space c.shorten.new.space).content ≡ (g.P.SectorView.space c.change_at.new.space).content))) c.in-None.is fresh).0 in
     keeps_shrunk (command.Trunc c.args.path.now c.args.size) (g.P.SectorView.space c.args.space.now).content (shrunk_of c.args.volume.now) (shrunk_of c.lengthen.new.volume)
     (grown_shrinks_none (tree_of (g.P.SectorView.space c.args.space.now).content) c.args.path.now c.args.size (ap (λ (k : Content). is_some (data_of (tree_of k) (command.Trunc c.args.path.now c.args.size))) (sym (c.change_at.ensures.looked.reads.looks.content tells)) ∙ puts)) (c.lengthen.ensures.shrunk ∙ reads.keeps.shrunk) c.lengthen.result
-
-pub returns-in-None-clause-below : goal.returns-in-None-clause-below
-returns-in-None-clause-below g c =
-    g.met.P.SectorView.follows_trans c.args.space.now c.shorten.new.space c.lengthen.new.space
-    (g.met.P.SectorView.follows_trans c.args.space.now c.change_at.new.space c.shorten.new.space c.change_at.ensures.looked.edits.ran.below c.shorten.ensures.below) c.lengthen.ensures.below
-
-pub returns-in-None-clause-capacity : goal.returns-in-None-clause-capacity
-returns-in-None-clause-capacity g c = c.lengthen.ensures.capacity ∙ c.shorten.ensures.capacity ∙ c.change_at.ensures.looked.reads.keeps.capacity
-
-pub returns-in-None-clause-touches : goal.returns-in-None-clause-touches
-returns-in-None-clause-touches g c committed holds laid =
-    let reads = (volume_both c.args.volume.now c.change_at.new.self c.shorten.new.volume (g.P.SectorView.space c.args.space.now) (g.P.SectorView.space c.change_at.new.space) (g.P.SectorView.space c.shorten.new.space) c.change_at.ensures.looked.reads (subst (λ (o : Option Reply). IfNone o (ReadsVolume c.change_at.new.self c.shorten.new.volume (g.P.SectorView.space c.change_at.new.space) (g.P.SectorView.space c.shorten.new.space))) c.in-None.is c.in_ok-reply.ensures.idle)) in
-    touches_both committed _ (g.P.SectorView.space c.args.space.now) (g.P.SectorView.space c.shorten.new.space) (g.P.SectorView.space c.lengthen.new.space) (touches_looks committed _ (g.P.SectorView.space c.args.space.now) (g.P.SectorView.space c.shorten.new.space) reads.looks)
-    (subst (λ (l : List ℕ). Touches committed (λ s. Contains l s) (g.P.SectorView.space c.shorten.new.space) (g.P.SectorView.space c.lengthen.new.space)) (own_still c.args.volume.now c.shorten.new.volume (g.P.SectorView.space c.args.space.now) (g.P.SectorView.space c.shorten.new.space) reads)
-    (c.lengthen.ensures.touches committed (holds_kept committed c.args.volume.now c.shorten.new.volume reads.keeps.map holds) (laid_still committed c.args.volume.now c.shorten.new.volume reads.keeps.header reads.keeps.map laid)))
-
-pub returns-in-None-clause-same : goal.returns-in-None-clause-same
-returns-in-None-clause-same g c =
-    let reads = (volume_both c.args.volume.now c.change_at.new.self c.shorten.new.volume (g.P.SectorView.space c.args.space.now) (g.P.SectorView.space c.change_at.new.space) (g.P.SectorView.space c.shorten.new.space) c.change_at.ensures.looked.reads (subst (λ (o : Option Reply). IfNone o (ReadsVolume c.change_at.new.self c.shorten.new.volume (g.P.SectorView.space c.change_at.new.space) (g.P.SectorView.space c.shorten.new.space))) c.in-None.is c.in_ok-reply.ensures.idle)) in
-    space_both _ _ _ reads.looks.same c.lengthen.ensures.same
-
-pub returns-in-Some-clause-same : goal.returns-in-Some-clause-same
-returns-in-Some-clause-same g c = space_both _ _ _ c.change_at.ensures.looked.reads.looks.same (c.shorten.ensures.touches []).same
-
-pub returns-in_err-reply-clause-same : goal.returns-in_err-reply-clause-same
-returns-in_err-reply-clause-same g c = space_both _ _ _ c.change_at.ensures.looked.reads.looks.same (c.shorten.ensures.touches []).same
 
 pub returns-then-not-fits_update-clause-ready : goal.returns-then-not-fits_update-clause-ready
 returns-then-not-fits_update-clause-ready g c tells no_data met =
@@ -195,3 +127,21 @@ pub lengthen-requires-clause-filled : goal.lengthen-requires-clause-filled
 lengthen-requires-clause-filled g c =
     let reads = (volume_both c.args.volume.now c.change_at.new.self c.shorten.new.volume (g.P.SectorView.space c.args.space.now) (g.P.SectorView.space c.change_at.new.space) (g.P.SectorView.space c.shorten.new.space) c.change_at.ensures.looked.reads (subst (λ (o : Option Reply). IfNone o (ReadsVolume c.change_at.new.self c.shorten.new.volume (g.P.SectorView.space c.change_at.new.space) (g.P.SectorView.space c.shorten.new.space))) c.in-None.is c.in_ok-reply.ensures.idle)) in
     filled_still c.args.volume.now c.shorten.new.volume (g.P.SectorView.space c.args.space.now) (g.P.SectorView.space c.shorten.new.space) reads c.requires.filled
+
+pub returns-in-Some-clause-frame : goal.returns-in-Some-clause-frame
+returns-in-Some-clause-frame g c = performs_then g.met.P.SectorView.follows_trans c.change_at.ensures.looked (performs_done c.shorten.ensures.below c.in_ok-reply.ensures.cause.later c.in_ok-reply.ensures.stands c.in_ok-reply.ensures.settled (λ committed held. holds_kept committed c.change_at.new.self c.shorten.new.volume c.shorten.ensures.map held) c.shorten.ensures.capacity (λ committed held laid. c.shorten.ensures.touches committed) (c.shorten.ensures.touches []).same)
+
+pub returns-in-None-clause-frame : goal.returns-in-None-clause-frame
+returns-in-None-clause-frame g c = performs_then g.met.P.SectorView.follows_trans (looked_both g.met.P.SectorView.follows_trans c.change_at.ensures.looked (looked_of c.shorten.ensures.below c.shorten.ensures.cause c.in_ok-reply.ensures.stands (subst (λ (o : Option Reply). IfNone o (ReadsVolume c.change_at.new.self c.shorten.new.volume (g.P.SectorView.space c.change_at.new.space) (g.P.SectorView.space c.shorten.new.space))) c.in-None.is c.in_ok-reply.ensures.idle))) c.lengthen.ensures.frame
+
+pub returns-in_err-reply-clause-frame : goal.returns-in_err-reply-clause-frame
+returns-in_err-reply-clause-frame g c = performs_err c.from_residual-in_err-reply.ensures.1 (performs_then g.met.P.SectorView.follows_trans c.change_at.ensures.looked (performs_failed c.shorten.ensures.below c.in_err-reply.ensures.cause c.shorten.ensures.service c.shorten.ensures.capacity (λ committed held laid. c.shorten.ensures.touches committed) (c.shorten.ensures.touches []).same))
+
+pub returns-in_err-changes-clause-frame : goal.returns-in_err-changes-clause-frame
+returns-in_err-changes-clause-frame g c = performs_err c.from_residual.ensures.1 (performs_looked c.in_err-changes.ensures.looked c.change_at.ensures.serves)
+
+pub returns-then-not-fits_update-clause-frame : goal.returns-then-not-fits_update-clause-frame
+returns-then-not-fits_update-clause-frame g c = performs_looked_ok c.change_at.ensures.looked c.change_at.ensures.serves
+
+pub lengthen-requires-clause-serves : goal.lengthen-requires-clause-serves
+lengthen-requires-clause-serves g c = serves_still (looked_both g.met.P.SectorView.follows_trans c.change_at.ensures.looked (looked_of c.shorten.ensures.below c.shorten.ensures.cause c.in_ok-reply.ensures.stands (subst (λ (o : Option Reply). IfNone o (ReadsVolume c.change_at.new.self c.shorten.new.volume (g.P.SectorView.space c.change_at.new.space) (g.P.SectorView.space c.shorten.new.space))) c.in-None.is c.in_ok-reply.ensures.idle))) c.requires.serves

@@ -1,30 +1,30 @@
-use Rattle.std.proofs.Common.{◌≡◌, ℕ, false, [], inl, inr, sym, ◌∙◌, subst}
-use Rattle.std.specs.Prelude.{IfOk, OnOk, Option}
+use Rattle.std.proofs.Common.{◌≡◌, ℕ, false, [], inl, inr, refl, sym, ◌∙◌, subst}
+use Rattle.std.specs.Prelude.{IfOk, None, OnOk, Option}
 use Rattle.sector_disk.specs.Lists.{Content}
-use Rattle.sector_disk.proofs.SpaceLaws.{space_both}
 use Rattle.hfs_volume.specs.Aside.{IsJournalSector}
 use Rattle.volume_weights.specs.DataWeighing.{WaitsForCut}
 use Rattle.hfs_volume.specs.Content.{volume_of}
 use Rattle.hfs_volume.specs.TreeOf.{tree_of}
-use Rattle.hfs_volume.specs.Weight.{data_of, needs_cut, Data}
+use Rattle.hfs_volume.specs.Weight.{data_of, needs_cut}
 use Rattle.volume_base.proofs.Seeing.{if_so}
 use Rattle.volume_base.specs.Fitting.{takable_of}
 use Rattle.volume_base.specs.Room.{capacity_of}
 use Rattle.volume_base.specs.Keeping.{shrunk_of}
 use Rattle.volume_space.proofs.Sounding.{sound_here}
-use Rattle.volume_step.specs.Steps.{Affords, GrowsTheFirst, IsCutFirst, IsDirect, IsJudged, IsTaken, IsTakenAlike, KeepsJournal, ShrinksAs, StepsTo, WaitsForGrowth, FillsMore}
+use Rattle.volume_step.specs.Steps.{Affords, GrowsTheFirst, IsCutFirst, IsDirect, IsJudged, IsTaken, IsTakenAlike, KeepsJournal, ShrinksAs, StepsTo, WaitsForGrowth, FillsMore, HasFewLeft, IsDoneOk, KeepsGrowth}
 use Rattle.volume_step.specs.declared.judging.Verdict.{Verdict}
 use Rattle.volume_step.specs.declared.outcome.Outcome.{Outcome}
-use Rattle.volume_step.proofs.Done.{holds_kept, refused_steps, same_place}
-use Rattle.volume_step.proofs.Widening.{laid_still, own_or_free_still, refused_shrinks, touches_behind, touches_looked, touches_own}
+use Rattle.volume_step.proofs.Done.{refused_steps, same_place}
+use Rattle.volume_step.proofs.Widening.{refused_shrinks}
 use Rattle.volume_step.proofs.GrowthThere.{growth_there}
 use Rattle.volume_step.proofs.Ready.{now_still, refused_now, wants_now}
 use Rattle.volume_step.proofs.ReadyData.{puts_still}
 use Rattle.volume_step.proofs.AnewReady.{fits_alike, growth_within, wants_so}
 use Rattle.volume_step.proofs.Loaded.{cut_no_growth, fits_cut, lacks_still, uncut, within_behind, within_reads}
-use Rattle.volume_step.proofs.Unfilled.{filled_still}
+use Rattle.volume_step.proofs.Unfilled.{filled_none, filled_still}
 use Rattle.volume_base.specs.declared.volume.Filling.{Filling}
-use Rattle.volume_step.proofs.FilledFirst.{answered_again, commit_again, cut_further, growth_further}
+use Rattle.volume_step.proofs.FilledFirst.{answered_again, commit_again, cut_further, growth_further, hand_dropped, hand_none}
+use Rattle.volume_step.proofs.Performed.{performs_drop, performs_err, performs_later, performs_looked, performs_looked_ok, performs_of, performs_own}
 use Rattle.volume_step.proofs.stepping.change.Goals as goal
 
 pub perform-requires-clause-closed : goal.perform-requires-clause-closed
@@ -40,7 +40,7 @@ perform-requires-clause-affords g c told =
 
 pub returns-in-Refused-clause-answered : goal.returns-in-Refused-clause-answered
 returns-in-Refused-clause-answered g c tells =
-    refused_steps (capacity_of c.args.volume.now) c.args.number c.args.command.now (g.P.SectorView.space c.args.space.now).content (g.P.SectorView.space c.judge.new.space).content (c.judge.ensures.looked.reads.looks.content tells) (sound_here c.args.volume.now (g.P.SectorView.space c.args.space.now) (c.requires.stands.stands tells) (c.requires.settled tells)) c.requires.changes c.in-Refused.why
+    refused_steps (capacity_of c.args.volume.now) c.args.number c.args.command.now (g.P.SectorView.space c.args.space.now).content (g.P.SectorView.space c.judge.new.space).content (c.judge.ensures.looked.reads.looks.content tells) (sound_here c.args.volume.now (g.P.SectorView.space c.args.space.now) (c.requires.serves.stands.stands tells) (c.requires.serves.settled tells)) c.requires.changes c.in-Refused.why
     (subst (λ (v : Verdict). IsJudged v (capacity_of c.args.volume.now) c.args.command.now (g.P.SectorView.space c.args.space.now).content) c.in-Refused.is (c.in_ok-why.ensures.judged tells)) c.refusal.result c.refusal.ensures
 
 pub returns-in-Fits-clause-answered : goal.returns-in-Fits-clause-answered
@@ -49,15 +49,6 @@ returns-in-Fits-clause-answered g c tells =
 
 pub returns-in-Fits-clause-place : goal.returns-in-Fits-clause-place
 returns-in-Fits-clause-place g c tells = subst (λ (k : Content). OnOk c.perform.result (KeepsJournal k (g.P.SectorView.space c.perform.new.space).content)) (c.judge.ensures.looked.reads.looks.content tells) (c.perform.ensures.place (c.judge.ensures.looked.reads.looks.same.tells ∙ tells))
-
-pub returns-in-Fits-clause-holds : goal.returns-in-Fits-clause-holds
-returns-in-Fits-clause-holds g c committed was = c.perform.ensures.holds committed (holds_kept committed c.args.volume.now c.judge.new.volume c.judge.ensures.looked.reads.keeps.map was)
-
-pub returns-in-Fits-clause-touches : goal.returns-in-Fits-clause-touches
-returns-in-Fits-clause-touches g c committed holds laid =
-    touches_behind committed c.args.volume.now c.judge.new.volume c.perform.new.volume (g.P.SectorView.space c.args.space.now) (g.P.SectorView.space c.judge.new.space) (g.P.SectorView.space c.perform.new.space)
-    (own_or_free_still c.args.volume.now c.judge.new.volume (g.P.SectorView.space c.args.space.now) (g.P.SectorView.space c.judge.new.space) c.judge.ensures.looked.reads) c.judge.ensures.looked.reads.looks
-    (c.perform.ensures.touches committed (holds_kept committed c.args.volume.now c.judge.new.volume c.judge.ensures.looked.reads.keeps.map holds) (laid_still committed c.args.volume.now c.judge.new.volume c.judge.ensures.looked.reads.keeps.header c.judge.ensures.looked.reads.keeps.map laid))
 
 pub returns-in-Fits-clause-shrunk : goal.returns-in-Fits-clause-shrunk
 returns-in-Fits-clause-shrunk g c tells =
@@ -72,17 +63,6 @@ returns-in-Refused-clause-place g c tells = same_place (g.P.SectorView.space c.a
 
 pub returns-in-CommitFirst-clause-place : goal.returns-in-CommitFirst-clause-place
 returns-in-CommitFirst-clause-place g c tells = same_place (g.P.SectorView.space c.args.space.now).content (g.P.SectorView.space c.judge.new.space).content (c.judge.ensures.looked.reads.looks.content tells)
-
-pub returns-in_err-why-clause-touches : goal.returns-in_err-why-clause-touches
-returns-in_err-why-clause-touches g c committed holds laid = touches_looked committed c.args.volume.now c.judge.new.volume (g.P.SectorView.space c.args.space.now) (g.P.SectorView.space c.judge.new.space) c.judge.ensures.looked.reads.looks
-
-pub returns-in-Refused-clause-touches : goal.returns-in-Refused-clause-touches
-returns-in-Refused-clause-touches g c committed holds laid = touches_looked committed c.args.volume.now c.judge.new.volume (g.P.SectorView.space c.args.space.now) (g.P.SectorView.space c.judge.new.space) c.judge.ensures.looked.reads.looks
-
-pub returns-in-CommitFirst-clause-touches : goal.returns-in-CommitFirst-clause-touches
-returns-in-CommitFirst-clause-touches g c committed holds laid = touches_looked committed c.args.volume.now c.judge.new.volume (g.P.SectorView.space c.args.space.now) (g.P.SectorView.space c.judge.new.space) c.judge.ensures.looked.reads.looks
-
--- ---- ahead of which a tree grows
 
 pub grow_first-requires-clause-closed : goal.grow_first-requires-clause-closed
 grow_first-requires-clause-closed g c told at shut =
@@ -102,28 +82,12 @@ returns-in-Grows-clause-answered g c tells =
 pub returns-in-Grows-clause-place : goal.returns-in-Grows-clause-place
 returns-in-Grows-clause-place g c tells = subst (λ (k : Content). OnOk c.grow_first.result (KeepsJournal k (g.P.SectorView.space c.grow_first.new.space).content)) (c.judge.ensures.looked.reads.looks.content tells) (c.grow_first.ensures.place (c.judge.ensures.looked.reads.looks.same.tells ∙ tells))
 
-pub returns-in-Grows-clause-holds : goal.returns-in-Grows-clause-holds
-returns-in-Grows-clause-holds g c committed was = c.grow_first.ensures.holds committed (holds_kept committed c.args.volume.now c.judge.new.volume c.judge.ensures.looked.reads.keeps.map was)
-
-pub returns-in-Grows-clause-touches : goal.returns-in-Grows-clause-touches
-returns-in-Grows-clause-touches g c committed holds laid =
-    touches_behind committed c.args.volume.now c.judge.new.volume c.grow_first.new.volume (g.P.SectorView.space c.args.space.now) (g.P.SectorView.space c.judge.new.space) (g.P.SectorView.space c.grow_first.new.space)
-    (own_or_free_still c.args.volume.now c.judge.new.volume (g.P.SectorView.space c.args.space.now) (g.P.SectorView.space c.judge.new.space) c.judge.ensures.looked.reads) c.judge.ensures.looked.reads.looks (c.grow_first.ensures.touches committed)
-
 pub returns-in-Grows-clause-shrunk : goal.returns-in-Grows-clause-shrunk
 returns-in-Grows-clause-shrunk g c tells =
     subst (λ (k : Option ℕ × Content). IfOk c.grow_first.result (λ (o : Outcome). ShrinksAs o c.args.command.now k.1 k.0 (shrunk_of c.grow_first.new.volume))) {x = (shrunk_of c.judge.new.volume, (g.P.SectorView.space c.judge.new.space).content)} {y = (shrunk_of c.args.volume.now, (g.P.SectorView.space c.args.space.now).content)}
     (λ i. (c.judge.ensures.looked.reads.keeps.shrunk i, c.judge.ensures.looked.reads.looks.content tells i)) (c.grow_first.ensures.shrunk (c.judge.ensures.looked.reads.looks.same.tells ∙ tells))
 
 -- ---- what the space's numbers are
-
-pub returns-in-Fits-clause-same : goal.returns-in-Fits-clause-same
-returns-in-Fits-clause-same g c = space_both _ _ _ c.judge.ensures.looked.reads.looks.same c.perform.ensures.same
-
-pub returns-in-Grows-clause-same : goal.returns-in-Grows-clause-same
-returns-in-Grows-clause-same g c = space_both _ _ _ c.judge.ensures.looked.reads.looks.same (c.grow_first.ensures.touches []).same
-
--- ---- ahead of which a file is cut
 
 pub cut_first-requires-clause-waits : goal.cut_first-requires-clause-waits
 cut_first-requires-clause-waits g c told =
@@ -138,24 +102,10 @@ returns-in-CutFirst-clause-answered g c tells =
 pub returns-in-CutFirst-clause-place : goal.returns-in-CutFirst-clause-place
 returns-in-CutFirst-clause-place g c tells = subst (λ (k : Content). OnOk c.cut_first.result (KeepsJournal k (g.P.SectorView.space c.cut_first.new.space).content)) (c.judge.ensures.looked.reads.looks.content tells) (c.cut_first.ensures.place (c.judge.ensures.looked.reads.looks.same.tells ∙ tells))
 
-pub returns-in-CutFirst-clause-holds : goal.returns-in-CutFirst-clause-holds
-returns-in-CutFirst-clause-holds g c committed was = c.cut_first.ensures.holds committed (holds_kept committed c.args.volume.now c.judge.new.volume c.judge.ensures.looked.reads.keeps.map was)
-
-pub returns-in-CutFirst-clause-touches : goal.returns-in-CutFirst-clause-touches
-returns-in-CutFirst-clause-touches g c committed holds laid =
-    touches_behind committed c.args.volume.now c.judge.new.volume c.cut_first.new.volume (g.P.SectorView.space c.args.space.now) (g.P.SectorView.space c.judge.new.space) (g.P.SectorView.space c.cut_first.new.space)
-    (own_or_free_still c.args.volume.now c.judge.new.volume (g.P.SectorView.space c.args.space.now) (g.P.SectorView.space c.judge.new.space) c.judge.ensures.looked.reads) c.judge.ensures.looked.reads.looks
-    (touches_own committed c.judge.new.volume c.cut_first.new.volume (g.P.SectorView.space c.judge.new.space) (g.P.SectorView.space c.cut_first.new.space) (c.cut_first.ensures.touches committed))
-
 pub returns-in-CutFirst-clause-shrunk : goal.returns-in-CutFirst-clause-shrunk
 returns-in-CutFirst-clause-shrunk g c tells =
     subst (λ (k : Option ℕ × Content). IfOk c.cut_first.result (λ (o : Outcome). ShrinksAs o c.args.command.now k.1 k.0 (shrunk_of c.cut_first.new.volume))) {x = (shrunk_of c.judge.new.volume, (g.P.SectorView.space c.judge.new.space).content)} {y = (shrunk_of c.args.volume.now, (g.P.SectorView.space c.args.space.now).content)}
     (λ i. (c.judge.ensures.looked.reads.keeps.shrunk i, c.judge.ensures.looked.reads.looks.content tells i)) (c.cut_first.ensures.shrunk (c.judge.ensures.looked.reads.looks.same.tells ∙ tells))
-
-pub returns-in-CutFirst-clause-same : goal.returns-in-CutFirst-clause-same
-returns-in-CutFirst-clause-same g c = space_both _ _ _ c.judge.ensures.looked.reads.looks.same (c.cut_first.ensures.touches []).same
-
--- ---- what is ready
 
 pub returns-in-CommitFirst-clause-ready : goal.returns-in-CommitFirst-clause-ready
 returns-in-CommitFirst-clause-ready g c tells now = absurd (subst (λ (v : Verdict). IsTaken v now.grow) c.in-CommitFirst.is (c.in_ok-why.ensures.taken tells now))
@@ -168,7 +118,7 @@ returns-in-Grows-clause-ready g c tells now =
     let first = subst (λ (v : Verdict). IsTaken v now.grow) c.in-Grows.is (c.in_ok-why.ensures.taken tells now) in
     let waits : WaitsForGrowth c.in-Grows.tree c.in-Grows.more (capacity_of c.args.volume.now) c.args.command.now (g.P.SectorView.space c.args.space.now).content =
     subst (λ (v : Verdict). IsJudged v (capacity_of c.args.volume.now) c.args.command.now (g.P.SectorView.space c.args.space.now).content) c.in-Grows.is (c.in_ok-why.ensures.judged tells) in
-    let there = growth_there c.args.volume.now (g.P.SectorView.space c.args.space.now).content (c.requires.settled tells) c.args.command.now c.requires.changes now.no_data waits.no_refusal (capacity_of c.args.volume.now) (takable_of c.args.volume.now)
+    let there = growth_there c.args.volume.now (g.P.SectorView.space c.args.space.now).content (c.requires.serves.settled tells) c.args.command.now c.requires.changes now.no_data waits.no_refusal (capacity_of c.args.volume.now) (takable_of c.args.volume.now)
     now.load now.grow now.costs c.in-Grows.tree c.in-Grows.more first.0 first.1 in
     c.grow_first.ensures.ready (c.judge.ensures.looked.reads.looks.same.tells ∙ tells)
     (wants_now c.args.command.now c.args.volume.now c.judge.new.volume (g.P.SectorView.space c.args.space.now) (g.P.SectorView.space c.judge.new.space) c.judge.ensures.looked.reads tells c.requires.changes now c.in-Grows.tree c.in-Grows.more first.0 first.1 there)
@@ -177,9 +127,6 @@ pub returns-in-Fits-clause-ready : goal.returns-in-Fits-clause-ready
 returns-in-Fits-clause-ready g c tells now =
     let still = now_still c.args.command.now c.args.volume.now c.judge.new.volume (g.P.SectorView.space c.args.space.now) (g.P.SectorView.space c.judge.new.space) c.judge.ensures.looked.reads tells now in
     c.perform.ensures.ready (c.judge.ensures.looked.reads.looks.same.tells ∙ tells) c.requires.changes still.0 (still.1 ∙ subst (λ (v : Verdict). IsTaken v now.grow) c.in-Fits.is (c.in_ok-why.ensures.taken tells now))
-
-pub returns-in-Grows-clause-below : goal.returns-in-Grows-clause-below
-returns-in-Grows-clause-below g c = g.met.P.SectorView.follows_trans c.args.space.now c.judge.new.space c.grow_first.new.space c.judge.ensures.looked.edits.ran.below c.grow_first.ensures.below
 
 pub returns-in-CommitFirst-clause-puts : goal.returns-in-CommitFirst-clause-puts
 returns-in-CommitFirst-clause-puts g c tells puts = absurd (subst IsDirect c.in-CommitFirst.is (c.in_ok-why.ensures.puts tells puts))
@@ -209,7 +156,7 @@ returns-in-Grows-clause-alike g c tells it =
     let first = subst (λ (v : Verdict). IsTakenAlike v it.grow) c.in-Grows.is (c.in_ok-why.ensures.alike tells it) in
     let waits : WaitsForGrowth c.in-Grows.tree c.in-Grows.more (capacity_of c.args.volume.now) c.args.command.now (g.P.SectorView.space c.args.space.now).content =
     subst (λ (v : Verdict). IsJudged v (capacity_of c.args.volume.now) c.args.command.now (g.P.SectorView.space c.args.space.now).content) c.in-Grows.is (c.in_ok-why.ensures.judged tells) in
-    let wants = wants_so c.args.command.now c.args.volume.now c.judge.new.volume (g.P.SectorView.space c.args.space.now) (g.P.SectorView.space c.judge.new.space) (c.requires.settled tells) c.judge.ensures.looked.reads tells c.requires.changes
+    let wants = wants_so c.args.command.now c.args.volume.now c.judge.new.volume (g.P.SectorView.space c.args.space.now) (g.P.SectorView.space c.judge.new.space) (c.requires.serves.settled tells) c.judge.ensures.looked.reads tells c.requires.changes
     (uncut (needs_cut (volume_of (g.P.SectorView.space c.args.space.now).content) (data_of (tree_of (g.P.SectorView.space c.args.space.now).content) c.args.command.now)) (λ needs. cut_no_growth c.in-Grows.tree c.in-Grows.more (capacity_of c.args.volume.now) c.args.command.now (g.P.SectorView.space c.args.space.now).content c.requires.changes needs waits))
     it.load it.grow it.costs it.within waits.no_refusal c.in-Grows.tree c.in-Grows.more first.0 first.1 in
     c.grow_first.ensures.ready (c.judge.ensures.looked.reads.looks.same.tells ∙ tells) wants.0
@@ -217,7 +164,7 @@ returns-in-Grows-clause-alike g c tells it =
 pub returns-in-Fits-clause-alike : goal.returns-in-Fits-clause-alike
 returns-in-Fits-clause-alike g c tells it =
     let later = c.judge.ensures.looked.reads.looks.same.tells ∙ tells in
-    elim (fits_alike c.args.command.now c.args.volume.now c.judge.new.volume (g.P.SectorView.space c.args.space.now) (g.P.SectorView.space c.judge.new.space) (c.requires.settled tells) c.judge.ensures.looked.reads tells c.requires.changes
+    elim (fits_alike c.args.command.now c.args.volume.now c.judge.new.volume (g.P.SectorView.space c.args.space.now) (g.P.SectorView.space c.judge.new.space) (c.requires.serves.settled tells) c.judge.ensures.looked.reads tells c.requires.changes
     (uncut (needs_cut (volume_of (g.P.SectorView.space c.args.space.now).content) (data_of (tree_of (g.P.SectorView.space c.args.space.now).content) c.args.command.now)) (λ needs. subst IsCutFirst c.in-Fits.is (c.in_ok-why.ensures.cuts tells needs))) it
     (subst (λ (v : Verdict). IsTakenAlike v it.grow) c.in-Fits.is (c.in_ok-why.ensures.alike tells it))) [
       | inl now ↦ c.perform.ensures.ready later c.requires.changes now.0 now.1
@@ -261,7 +208,7 @@ pub returns-in-Grows-clause-loads : goal.returns-in-Grows-clause-loads
 returns-in-Grows-clause-loads g c tells =
     let waits : WaitsForGrowth c.in-Grows.tree c.in-Grows.more (capacity_of c.args.volume.now) c.args.command.now (g.P.SectorView.space c.args.space.now).content =
     subst (λ (v : Verdict). IsJudged v (capacity_of c.args.volume.now) c.args.command.now (g.P.SectorView.space c.args.space.now).content) c.in-Grows.is (c.in_ok-why.ensures.judged tells) in
-    growth_within c.args.command.now c.args.volume.now c.judge.new.volume (g.P.SectorView.space c.args.space.now) (g.P.SectorView.space c.judge.new.space) (c.requires.settled tells) c.judge.ensures.looked.reads tells c.requires.changes
+    growth_within c.args.command.now c.args.volume.now c.judge.new.volume (g.P.SectorView.space c.args.space.now) (g.P.SectorView.space c.judge.new.space) (c.requires.serves.settled tells) c.judge.ensures.looked.reads tells c.requires.changes
     (uncut (needs_cut (volume_of (g.P.SectorView.space c.args.space.now).content) (data_of (tree_of (g.P.SectorView.space c.args.space.now).content) c.args.command.now)) (λ needs. cut_no_growth c.in-Grows.tree c.in-Grows.more (capacity_of c.args.volume.now) c.args.command.now (g.P.SectorView.space c.args.space.now).content c.requires.changes needs waits))
     waits.no_refusal c.in-Grows.tree c.in-Grows.more (g.P.SectorView.space c.grow_first.new.space)
     (λ load grow costs. subst (λ (v : Verdict). GrowsTheFirst v grow) c.in-Grows.is (c.in_ok-why.ensures.first tells load grow costs)) (c.grow_first.ensures.spent (c.judge.ensures.looked.reads.looks.same.tells ∙ tells))
@@ -269,23 +216,6 @@ returns-in-Grows-clause-loads g c tells =
 pub returns-in-Fits-clause-loads : goal.returns-in-Fits-clause-loads
 returns-in-Fits-clause-loads g c tells =
     within_behind c.args.command.now c.args.volume.now c.judge.new.volume (g.P.SectorView.space c.args.space.now) (g.P.SectorView.space c.judge.new.space) (g.P.SectorView.space c.perform.new.space) c.judge.ensures.looked.reads tells (c.perform.ensures.loads (c.judge.ensures.looked.reads.looks.same.tells ∙ tells))
-
-pub returns-in-Fits-clause-settled : goal.returns-in-Fits-clause-settled
-returns-in-Fits-clause-settled g c tells = c.perform.ensures.settled (c.judge.ensures.looked.reads.looks.same.tells ∙ tells)
-
-pub returns-in-Refused-clause-settled : goal.returns-in-Refused-clause-settled
-returns-in-Refused-clause-settled g c tells = c.judge.ensures.serves.settled (c.judge.ensures.looked.reads.looks.same.tells ∙ tells)
-
-pub returns-in-CommitFirst-clause-settled : goal.returns-in-CommitFirst-clause-settled
-returns-in-CommitFirst-clause-settled g c tells = c.judge.ensures.serves.settled (c.judge.ensures.looked.reads.looks.same.tells ∙ tells)
-
-pub returns-in-CutFirst-clause-settled : goal.returns-in-CutFirst-clause-settled
-returns-in-CutFirst-clause-settled g c tells = c.cut_first.ensures.settled (c.judge.ensures.looked.reads.looks.same.tells ∙ tells)
-
-pub returns-in-Grows-clause-settled : goal.returns-in-Grows-clause-settled
-returns-in-Grows-clause-settled g c tells = c.grow_first.ensures.settled (c.judge.ensures.looked.reads.looks.same.tells ∙ tells)
-
--- ---- the growth in hand
 
 pub perform-requires-clause-filled : goal.perform-requires-clause-filled
 perform-requires-clause-filled g c = filled_still c.args.volume.now c.judge.new.volume (g.P.SectorView.space c.args.space.now) (g.P.SectorView.space c.judge.new.space) c.judge.ensures.looked.reads c.requires.filled
@@ -297,10 +227,10 @@ perform-requires-clause-uncut g c told =
     (uncut (needs_cut (volume_of (g.P.SectorView.space c.args.space.now).content) (data_of (tree_of (g.P.SectorView.space c.args.space.now).content) c.args.command.now)) (λ needs. subst IsCutFirst c.in-Fits.is (c.in_ok-why.ensures.cuts tells needs)))
 
 pub returns-in-Refused-clause-filled : goal.returns-in-Refused-clause-filled
-returns-in-Refused-clause-filled g c = filled_still c.args.volume.now c.judge.new.volume (g.P.SectorView.space c.args.space.now) (g.P.SectorView.space c.judge.new.space) c.judge.ensures.looked.reads c.requires.filled
+returns-in-Refused-clause-filled g c = filled_none (record c.judge.new.volume { filling = None }) (g.P.SectorView.space c.judge.new.space) refl
 
 pub returns-in-CommitFirst-clause-filled : goal.returns-in-CommitFirst-clause-filled
-returns-in-CommitFirst-clause-filled g c = filled_still c.args.volume.now c.judge.new.volume (g.P.SectorView.space c.args.space.now) (g.P.SectorView.space c.judge.new.space) c.judge.ensures.looked.reads c.requires.filled
+returns-in-CommitFirst-clause-filled g c = filled_none (record c.judge.new.volume { filling = None }) (g.P.SectorView.space c.judge.new.space) refl
 
 pub returns-in-Refused-clause-further : goal.returns-in-Refused-clause-further
 returns-in-Refused-clause-further g c tells same = absurd (answered_again c.refusal.result _ _ c.refusal.ensures same)
@@ -316,3 +246,57 @@ returns-in-Grows-clause-further g c tells = if_so _ _ c.grow_first.result (λ it
 
 pub returns-in-Fits-clause-further : goal.returns-in-Fits-clause-further
 returns-in-Fits-clause-further g c tells = if_so _ _ c.perform.result (λ it fills same. inr (inr (subst (λ (k : Content × Option Filling). FillsMore (data_of (tree_of k.0) c.args.command.now) k.1 c.perform.new.volume.filling) {x = ((g.P.SectorView.space c.judge.new.space).content, c.judge.new.volume.filling)} {y = ((g.P.SectorView.space c.args.space.now).content, c.args.volume.now.filling)} (λ i. (c.judge.ensures.looked.reads.looks.content tells i, c.judge.ensures.looked.reads.keeps.filling i)) (fills same)))) (c.perform.ensures.further (c.judge.ensures.looked.reads.looks.same.tells ∙ tells))
+
+pub returns-in-Refused-clause-least : goal.returns-in-Refused-clause-least
+returns-in-Refused-clause-least g c tells done = absurd (subst IsDoneOk c.refusal.ensures done)
+
+pub returns-in-CommitFirst-clause-least : goal.returns-in-CommitFirst-clause-least
+returns-in-CommitFirst-clause-least g c tells done = absurd done
+
+pub returns-in-CutFirst-clause-least : goal.returns-in-CutFirst-clause-least
+returns-in-CutFirst-clause-least g c tells = if_so _ _ c.cut_first.result (λ it never done. absurd (never done)) c.cut_first.ensures.never
+
+pub returns-in-Grows-clause-least : goal.returns-in-Grows-clause-least
+returns-in-Grows-clause-least g c tells = if_so _ _ c.grow_first.result (λ it never done. absurd (never done)) c.grow_first.ensures.never
+
+pub returns-in-Fits-clause-least : goal.returns-in-Fits-clause-least
+returns-in-Fits-clause-least g c tells = if_so _ _ c.perform.result (λ it few done. subst (λ (k : Content × Option Filling). HasFewLeft c.args.command.now k.1 k.0) {x = ((g.P.SectorView.space c.judge.new.space).content, c.judge.new.volume.filling)} {y = ((g.P.SectorView.space c.args.space.now).content, c.args.volume.now.filling)} (λ i. (c.judge.ensures.looked.reads.looks.content tells i, c.judge.ensures.looked.reads.keeps.filling i)) (few done)) (c.perform.ensures.least (c.judge.ensures.looked.reads.looks.same.tells ∙ tells))
+
+pub returns-in-Refused-clause-hand : goal.returns-in-Refused-clause-hand
+returns-in-Refused-clause-hand g c tells = hand_none c.refusal.result (data_of (tree_of (g.P.SectorView.space c.args.space.now).content) c.args.command.now) None refl
+
+pub returns-in-CommitFirst-clause-hand : goal.returns-in-CommitFirst-clause-hand
+returns-in-CommitFirst-clause-hand g c tells = tt
+
+pub returns-in-CommitFirst-clause-shrunk : goal.returns-in-CommitFirst-clause-shrunk
+returns-in-CommitFirst-clause-shrunk g c tells = c.judge.ensures.looked.reads.keeps.shrunk
+
+pub returns-in-CutFirst-clause-hand : goal.returns-in-CutFirst-clause-hand
+returns-in-CutFirst-clause-hand g c tells = hand_dropped c.cut_first.result (data_of (tree_of (g.P.SectorView.space c.args.space.now).content) c.args.command.now) c.cut_first.new.volume.filling c.cut_first.ensures.dropped
+
+pub returns-in-Grows-clause-hand : goal.returns-in-Grows-clause-hand
+returns-in-Grows-clause-hand g c tells = hand_dropped c.grow_first.result (data_of (tree_of (g.P.SectorView.space c.args.space.now).content) c.args.command.now) c.grow_first.new.volume.filling c.grow_first.ensures.dropped
+
+pub returns-in-Fits-clause-hand : goal.returns-in-Fits-clause-hand
+returns-in-Fits-clause-hand g c tells = subst (λ (k : Content). IfOk c.perform.result (λ (it : Outcome). KeepsGrowth it (data_of (tree_of k) c.args.command.now) c.perform.new.volume.filling)) (c.judge.ensures.looked.reads.looks.content tells) (c.perform.ensures.hand (c.judge.ensures.looked.reads.looks.same.tells ∙ tells))
+
+pub perform-requires-clause-serves : goal.perform-requires-clause-serves
+perform-requires-clause-serves g c = c.judge.ensures.serves
+
+pub returns-in-Refused-clause-frame : goal.returns-in-Refused-clause-frame
+returns-in-Refused-clause-frame g c = performs_drop None (performs_own (performs_looked_ok c.judge.ensures.looked c.judge.ensures.serves))
+
+pub returns-in-CommitFirst-clause-frame : goal.returns-in-CommitFirst-clause-frame
+returns-in-CommitFirst-clause-frame g c = performs_drop None (performs_own (performs_looked_ok c.judge.ensures.looked c.judge.ensures.serves))
+
+pub returns-in-CutFirst-clause-frame : goal.returns-in-CutFirst-clause-frame
+returns-in-CutFirst-clause-frame g c = performs_later g.met.P.SectorView.follows_trans c.judge.ensures.looked (performs_own (performs_of c.cut_first.result c.cut_first.ensures.below c.cut_first.ensures.cause c.cut_first.ensures.service c.cut_first.ensures.stands c.cut_first.ensures.settled c.cut_first.ensures.holds c.cut_first.ensures.capacity (λ committed held laid. c.cut_first.ensures.touches committed) (c.cut_first.ensures.touches []).same))
+
+pub returns-in-Grows-clause-frame : goal.returns-in-Grows-clause-frame
+returns-in-Grows-clause-frame g c = performs_later g.met.P.SectorView.follows_trans c.judge.ensures.looked (performs_of c.grow_first.result c.grow_first.ensures.below c.grow_first.ensures.cause c.grow_first.ensures.service c.grow_first.ensures.stands c.grow_first.ensures.settled c.grow_first.ensures.holds c.grow_first.ensures.capacity (λ committed held laid. c.grow_first.ensures.touches committed) (c.grow_first.ensures.touches []).same)
+
+pub returns-in-Fits-clause-frame : goal.returns-in-Fits-clause-frame
+returns-in-Fits-clause-frame g c = performs_later g.met.P.SectorView.follows_trans c.judge.ensures.looked c.perform.ensures.frame
+
+pub returns-in_err-why-clause-frame : goal.returns-in_err-why-clause-frame
+returns-in_err-why-clause-frame g c = performs_err c.from_residual.ensures.1 (performs_own (performs_looked c.in_err-why.ensures.looked c.judge.ensures.serves))

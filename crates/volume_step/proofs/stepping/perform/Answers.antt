@@ -1,7 +1,6 @@
-use Rattle.std.proofs.Common.{ℕ, sym, ◌∙◌, subst}
-use Rattle.std.specs.Prelude.{IfOk, OnOk, Option}
+use Rattle.std.proofs.Common.{ℕ, refl, sym, ◌∙◌, subst}
+use Rattle.std.specs.Prelude.{IfOk, None, OnOk, Option}
 use Rattle.sector_disk.specs.Lists.{Content}
-use Rattle.sector_disk.proofs.SpaceLaws.{space_both}
 use Rattle.hfs_volume.specs.Aside.{IsJournalSector}
 use Rattle.hfs_volume.specs.Content.{volume_of}
 use Rattle.hfs_volume.specs.TreeOf.{tree_of}
@@ -9,20 +8,17 @@ use Rattle.volume_base.specs.Keeping.{shrunk_of}
 use Rattle.volume_base.specs.Room.{capacity_of}
 use Rattle.volume_step.specs.Steps.{Affords, KeepsJournal, ShrinksAs, StepsNow}
 use Rattle.volume_step.specs.declared.outcome.Outcome.{Outcome}
-use Rattle.volume_step.proofs.Done.{holds_kept, same_place}
+use Rattle.volume_step.proofs.Done.{same_place}
 use Rattle.volume_base.proofs.Seeing.{if_so}
-use Rattle.volume_step.proofs.FilledFirst.{again_now, commit_again, commit_none, commit_some, few_none, filled_some, fills_place, fills_steps, never_few, never_many, now_filling, now_never, now_steps}
+use Rattle.volume_step.proofs.FilledFirst.{again_now, commit_again, commit_none, commit_some, few_none, filled_some, hand_dropped, hand_fills, fills_place, fills_steps, never_few, never_many, now_filling, now_never, now_steps}
 use Rattle.volume_step.proofs.Loaded.{within_behind, within_none}
 use Rattle.volume_step.proofs.Ready.{now_still}
 use Rattle.volume_step.proofs.ReadyData.{data_still}
-use Rattle.volume_step.proofs.Widening.{laid_still, own_or_free_still, touches_behind, touches_own}
+use Rattle.volume_step.proofs.Unfilled.{filled_none}
+use Rattle.hfs_volume.specs.Weight.{data_of}
+use Rattle.volume_base.proofs.Framed.{looked_of}
+use Rattle.volume_step.proofs.Performed.{performs_drop, performs_err, performs_from, performs_later, performs_ok, performs_own}
 use Rattle.volume_step.proofs.stepping.perform.Goals as goal
-
-pub perform_last-requires-clause-stands : goal.perform_last-requires-clause-stands
-perform_last-requires-clause-stands g c = c.in_ok-zeros.ensures.serves.stands
-
-pub perform_last-requires-clause-settled : goal.perform_last-requires-clause-settled
-perform_last-requires-clause-settled g c told = c.in_ok-zeros.ensures.serves.settled told
 
 pub perform_last-requires-clause-filled : goal.perform_last-requires-clause-filled
 perform_last-requires-clause-filled g c = c.in_ok-zeros.ensures.filled
@@ -60,29 +56,11 @@ returns-in-Few-clause-puts g c tells puts = let reads = (c.in_ok-zeros.ensures.r
 pub returns-in-Few-clause-place : goal.returns-in-Few-clause-place
 returns-in-Few-clause-place g c tells = let reads = (c.in_ok-zeros.ensures.reads (few_none c.in_ok-zeros.zeros c.in-Few.is)) in subst (λ (k : Content). OnOk c.perform_last.result (KeepsJournal k (g.P.SectorView.space c.perform_last.new.space).content)) (reads.looks.content tells) (c.perform_last.ensures.place (reads.looks.same.tells ∙ tells))
 
-pub returns-in-Few-clause-settled : goal.returns-in-Few-clause-settled
-returns-in-Few-clause-settled g c tells = c.perform_last.ensures.settled ((c.in_ok-zeros.ensures.reads (few_none c.in_ok-zeros.zeros c.in-Few.is)).looks.same.tells ∙ tells)
-
-pub returns-in-Few-clause-holds : goal.returns-in-Few-clause-holds
-returns-in-Few-clause-holds g c committed was = c.perform_last.ensures.holds committed (holds_kept committed c.args.volume.now c.fill_for.new.volume c.fill_for.ensures.keeps.map was)
-
-pub returns-in-Few-clause-capacity : goal.returns-in-Few-clause-capacity
-returns-in-Few-clause-capacity g c = c.perform_last.ensures.capacity ∙ c.fill_for.ensures.keeps.capacity
-
 pub returns-in-Few-clause-shrunk : goal.returns-in-Few-clause-shrunk
 returns-in-Few-clause-shrunk g c tells = let reads = (c.in_ok-zeros.ensures.reads (few_none c.in_ok-zeros.zeros c.in-Few.is)) in subst (λ (k : Option ℕ × Content). IfOk c.perform_last.result (λ (o : Outcome). ShrinksAs o c.args.command.now k.1 k.0 (shrunk_of c.perform_last.new.volume))) {x = (shrunk_of c.fill_for.new.volume, (g.P.SectorView.space c.fill_for.new.space).content)} {y = (shrunk_of c.args.volume.now, (g.P.SectorView.space c.args.space.now).content)} (λ i. (reads.keeps.shrunk i, reads.looks.content tells i)) (c.perform_last.ensures.shrunk (reads.looks.same.tells ∙ tells))
 
-pub returns-in-Few-clause-touches : goal.returns-in-Few-clause-touches
-returns-in-Few-clause-touches g c committed holds laid = let reads = (c.in_ok-zeros.ensures.reads (few_none c.in_ok-zeros.zeros c.in-Few.is)) in touches_behind committed (record c.args.volume.now { filling = c.fill_for.new.volume.filling }) c.fill_for.new.volume c.perform_last.new.volume (g.P.SectorView.space c.args.space.now) (g.P.SectorView.space c.fill_for.new.space) (g.P.SectorView.space c.perform_last.new.space) (own_or_free_still (record c.args.volume.now { filling = c.fill_for.new.volume.filling }) c.fill_for.new.volume (g.P.SectorView.space c.args.space.now) (g.P.SectorView.space c.fill_for.new.space) reads) reads.looks (c.perform_last.ensures.touches committed (holds_kept committed c.args.volume.now c.fill_for.new.volume reads.keeps.map holds) (laid_still committed c.args.volume.now c.fill_for.new.volume reads.keeps.header reads.keeps.map laid))
-
-pub returns-in-Few-clause-same : goal.returns-in-Few-clause-same
-returns-in-Few-clause-same g c = space_both _ _ _ c.fill_for.ensures.same c.perform_last.ensures.same
-
 pub returns-in-Few-clause-loads : goal.returns-in-Few-clause-loads
 returns-in-Few-clause-loads g c tells = let reads = (c.in_ok-zeros.ensures.reads (few_none c.in_ok-zeros.zeros c.in-Few.is)) in within_behind c.args.command.now (record c.args.volume.now { filling = c.fill_for.new.volume.filling }) c.fill_for.new.volume (g.P.SectorView.space c.args.space.now) (g.P.SectorView.space c.fill_for.new.space) (g.P.SectorView.space c.perform_last.new.space) reads tells (c.perform_last.ensures.loads (reads.looks.same.tells ∙ tells))
-
-pub returns-in-Few-clause-below : goal.returns-in-Few-clause-below
-returns-in-Few-clause-below g c = g.met.P.SectorView.follows_trans c.args.space.now c.fill_for.new.space c.perform_last.new.space c.fill_for.ensures.below c.perform_last.ensures.below
 
 pub returns-in-Filled-clause-answered : goal.returns-in-Filled-clause-answered
 returns-in-Filled-clause-answered g c tells = fills_steps (capacity_of c.args.volume.now) c.args.number c.args.command.now (g.P.SectorView.space c.args.space.now).content (g.P.SectorView.space c.fill_for.new.space).content (c.requires.affords tells) (c.requires.uncut tells) (c.in_ok-zeros.ensures.many tells (filled_some c.in_ok-zeros.zeros c.in-Filled.is)) (c.in_ok-zeros.ensures.fills tells c.in-Filled.is)
@@ -108,68 +86,56 @@ returns-in-CommitFirst-clause-puts g c tells puts same = never_few c.args.comman
 pub returns-in-CommitFirst-clause-place : goal.returns-in-CommitFirst-clause-place
 returns-in-CommitFirst-clause-place g c tells = same_place (g.P.SectorView.space c.args.space.now).content (g.P.SectorView.space c.fill_for.new.space).content ((c.in_ok-zeros.ensures.reads (commit_none c.in_ok-zeros.zeros c.in-CommitFirst.is)).looks.content tells)
 
-pub returns-in-Filled-clause-stands : goal.returns-in-Filled-clause-stands
-returns-in-Filled-clause-stands g c = c.in_ok-zeros.ensures.serves.stands
-
-pub returns-in-Filled-clause-settled : goal.returns-in-Filled-clause-settled
-returns-in-Filled-clause-settled g c tells = c.in_ok-zeros.ensures.serves.settled (c.fill_for.ensures.same.tells ∙ tells)
-
 pub returns-in-Filled-clause-filled : goal.returns-in-Filled-clause-filled
 returns-in-Filled-clause-filled g c = c.in_ok-zeros.ensures.filled
-
-pub returns-in-Filled-clause-holds : goal.returns-in-Filled-clause-holds
-returns-in-Filled-clause-holds g c committed was = holds_kept committed c.args.volume.now c.fill_for.new.volume c.fill_for.ensures.keeps.map was
 
 pub returns-in-Filled-clause-shrunk : goal.returns-in-Filled-clause-shrunk
 returns-in-Filled-clause-shrunk g c tells = c.fill_for.ensures.keeps.shrunk
 
-pub returns-in-CommitFirst-clause-stands : goal.returns-in-CommitFirst-clause-stands
-returns-in-CommitFirst-clause-stands g c = c.in_ok-zeros.ensures.serves.stands
-
-pub returns-in-CommitFirst-clause-settled : goal.returns-in-CommitFirst-clause-settled
-returns-in-CommitFirst-clause-settled g c tells = c.in_ok-zeros.ensures.serves.settled (c.fill_for.ensures.same.tells ∙ tells)
-
 pub returns-in-CommitFirst-clause-filled : goal.returns-in-CommitFirst-clause-filled
-returns-in-CommitFirst-clause-filled g c = c.in_ok-zeros.ensures.filled
-
-pub returns-in-CommitFirst-clause-holds : goal.returns-in-CommitFirst-clause-holds
-returns-in-CommitFirst-clause-holds g c committed was = holds_kept committed c.args.volume.now c.fill_for.new.volume c.fill_for.ensures.keeps.map was
+returns-in-CommitFirst-clause-filled g c = filled_none (record c.fill_for.new.volume { filling = None }) (g.P.SectorView.space c.fill_for.new.space) refl
 
 pub returns-in-CommitFirst-clause-shrunk : goal.returns-in-CommitFirst-clause-shrunk
 returns-in-CommitFirst-clause-shrunk g c tells = c.fill_for.ensures.keeps.shrunk
 
-pub returns-in-Filled-clause-capacity : goal.returns-in-Filled-clause-capacity
-returns-in-Filled-clause-capacity g c = c.fill_for.ensures.keeps.capacity
-
-pub returns-in-Filled-clause-touches : goal.returns-in-Filled-clause-touches
-returns-in-Filled-clause-touches g c committed holds laid = touches_own committed c.args.volume.now c.fill_for.new.volume (g.P.SectorView.space c.args.space.now) (g.P.SectorView.space c.fill_for.new.space) (c.fill_for.ensures.touches committed holds laid)
-
-pub returns-in-Filled-clause-same : goal.returns-in-Filled-clause-same
-returns-in-Filled-clause-same g c = c.fill_for.ensures.same
-
 pub returns-in-Filled-clause-loads : goal.returns-in-Filled-clause-loads
 returns-in-Filled-clause-loads g c tells = within_none c.args.command.now c.args.volume.now (g.P.SectorView.space c.args.space.now) (g.P.SectorView.space c.fill_for.new.space) c.fill_for.ensures.spare
-
-pub returns-in-CommitFirst-clause-capacity : goal.returns-in-CommitFirst-clause-capacity
-returns-in-CommitFirst-clause-capacity g c = c.fill_for.ensures.keeps.capacity
-
-pub returns-in-CommitFirst-clause-touches : goal.returns-in-CommitFirst-clause-touches
-returns-in-CommitFirst-clause-touches g c committed holds laid = touches_own committed c.args.volume.now c.fill_for.new.volume (g.P.SectorView.space c.args.space.now) (g.P.SectorView.space c.fill_for.new.space) (c.fill_for.ensures.touches committed holds laid)
-
-pub returns-in-CommitFirst-clause-same : goal.returns-in-CommitFirst-clause-same
-returns-in-CommitFirst-clause-same g c = c.fill_for.ensures.same
 
 pub returns-in-CommitFirst-clause-loads : goal.returns-in-CommitFirst-clause-loads
 returns-in-CommitFirst-clause-loads g c tells = within_none c.args.command.now c.args.volume.now (g.P.SectorView.space c.args.space.now) (g.P.SectorView.space c.fill_for.new.space) c.fill_for.ensures.spare
 
-pub returns-in_err-zeros-clause-capacity : goal.returns-in_err-zeros-clause-capacity
-returns-in_err-zeros-clause-capacity g c = c.fill_for.ensures.keeps.capacity
-
-pub returns-in_err-zeros-clause-touches : goal.returns-in_err-zeros-clause-touches
-returns-in_err-zeros-clause-touches g c committed holds laid = touches_own committed c.args.volume.now c.fill_for.new.volume (g.P.SectorView.space c.args.space.now) (g.P.SectorView.space c.fill_for.new.space) (c.fill_for.ensures.touches committed holds laid)
-
-pub returns-in_err-zeros-clause-same : goal.returns-in_err-zeros-clause-same
-returns-in_err-zeros-clause-same g c = c.fill_for.ensures.same
-
 pub returns-in_err-zeros-clause-loads : goal.returns-in_err-zeros-clause-loads
 returns-in_err-zeros-clause-loads g c tells = within_none c.args.command.now c.args.volume.now (g.P.SectorView.space c.args.space.now) (g.P.SectorView.space c.fill_for.new.space) c.fill_for.ensures.spare
+
+pub returns-in-Few-clause-least : goal.returns-in-Few-clause-least
+returns-in-Few-clause-least g c tells = let reads = c.in_ok-zeros.ensures.reads (few_none c.in_ok-zeros.zeros c.in-Few.is) in if_so _ _ c.perform_last.result (λ it is done. c.in_ok-zeros.ensures.few tells c.in-Few.is) (c.perform_last.ensures.answered (reads.looks.same.tells ∙ tells))
+
+pub returns-in-Filled-clause-least : goal.returns-in-Filled-clause-least
+returns-in-Filled-clause-least g c tells done = absurd done
+
+pub returns-in-CommitFirst-clause-least : goal.returns-in-CommitFirst-clause-least
+returns-in-CommitFirst-clause-least g c tells done = absurd done
+
+pub returns-in-Few-clause-hand : goal.returns-in-Few-clause-hand
+returns-in-Few-clause-hand g c tells = hand_dropped c.perform_last.result (data_of (tree_of (g.P.SectorView.space c.args.space.now).content) c.args.command.now) c.perform_last.new.volume.filling c.perform_last.ensures.dropped
+
+pub returns-in-Filled-clause-hand : goal.returns-in-Filled-clause-hand
+returns-in-Filled-clause-hand g c tells = hand_fills (data_of (tree_of (g.P.SectorView.space c.args.space.now).content) c.args.command.now) c.args.volume.now.filling c.fill_for.new.volume.filling (c.in_ok-zeros.ensures.next tells c.in-Filled.is)
+
+pub returns-in-CommitFirst-clause-hand : goal.returns-in-CommitFirst-clause-hand
+returns-in-CommitFirst-clause-hand g c tells = tt
+
+pub perform_last-requires-clause-serves : goal.perform_last-requires-clause-serves
+perform_last-requires-clause-serves g c = c.in_ok-zeros.ensures.frame.serves
+
+pub returns-in-Few-clause-frame : goal.returns-in-Few-clause-frame
+returns-in-Few-clause-frame g c = performs_from c.fill_for.new.volume.filling (performs_later g.met.P.SectorView.follows_trans (looked_of c.fill_for.ensures.frame.below c.fill_for.ensures.frame.cause c.in_ok-zeros.ensures.frame.serves.stands (c.in_ok-zeros.ensures.reads (few_none c.in_ok-zeros.zeros c.in-Few.is))) c.perform_last.ensures.frame)
+
+pub returns-in-Filled-clause-frame : goal.returns-in-Filled-clause-frame
+returns-in-Filled-clause-frame g c = performs_ok (performs_own c.in_ok-zeros.ensures.frame)
+
+pub returns-in-CommitFirst-clause-frame : goal.returns-in-CommitFirst-clause-frame
+returns-in-CommitFirst-clause-frame g c = performs_ok (performs_drop None (performs_own c.in_ok-zeros.ensures.frame))
+
+pub returns-in_err-zeros-clause-frame : goal.returns-in_err-zeros-clause-frame
+returns-in_err-zeros-clause-frame g c = performs_err c.from_residual.ensures.1 (performs_own c.in_err-zeros.ensures.frame)

@@ -1,19 +1,11 @@
 use Rattle.std.proofs.Common.{refl}
 use Rattle.std.specs.Prelude.{None}
-use Rattle.volume_step.proofs.Unfilled.{filled_none, service_filling, settled_filling, stands_filling}
+use Rattle.volume_step.proofs.Unfilled.{filled_none}
+use Rattle.volume_step.proofs.Performed.{performs_drop, performs_err}
 use Rattle.volume_step.proofs.stepping.perform_last.Goals as goal
-
-pub returns-clause-stands : goal.returns-clause-stands
-returns-clause-stands g c = stands_filling c.perform_now.new.volume None (g.P.SectorView.space c.perform_now.new.space) c.in_ok-came.ensures.stands
-
-pub returns-clause-settled : goal.returns-clause-settled
-returns-clause-settled g c tells = settled_filling c.perform_now.new.volume None (g.P.SectorView.space c.perform_now.new.space).content (c.in_ok-came.ensures.settled tells)
 
 pub returns-clause-filled : goal.returns-clause-filled
 returns-clause-filled g c = filled_none (record c.perform_now.new.volume { filling = None }) (g.P.SectorView.space c.perform_now.new.space) refl
-
-pub returns-clause-service : goal.returns-clause-service
-returns-clause-service g c = service_filling c.perform_now.new.volume None (g.P.SectorView.space c.perform_now.new.space) c.perform_now.ensures.service
 
 pub returns-clause-answered : goal.returns-clause-answered
 returns-clause-answered g c tells = c.in_ok-came.ensures.answered tells
@@ -27,17 +19,17 @@ returns-clause-puts g c tells met = c.in_ok-came.ensures.puts tells met
 pub returns-clause-place : goal.returns-clause-place
 returns-clause-place g c tells = c.in_ok-came.ensures.place tells
 
-pub returns-clause-holds : goal.returns-clause-holds
-returns-clause-holds g c committed was = c.in_ok-came.ensures.holds committed was
-
-pub returns-clause-capacity : goal.returns-clause-capacity
-returns-clause-capacity g c = c.perform_now.ensures.capacity
-
 pub returns-clause-shrunk : goal.returns-clause-shrunk
 returns-clause-shrunk g c tells = c.in_ok-came.ensures.shrunk tells
 
-pub returns-clause-touches : goal.returns-clause-touches
-returns-clause-touches g c committed holds laid = c.perform_now.ensures.touches committed holds laid
-
 pub returns-clause-loads : goal.returns-clause-loads
 returns-clause-loads g c tells = c.perform_now.ensures.loads tells
+
+pub returns-clause-dropped : goal.returns-clause-dropped
+returns-clause-dropped g c = refl
+
+pub returns-clause-frame : goal.returns-clause-frame
+returns-clause-frame g c = performs_drop None c.in_ok-came.ensures.frame
+
+pub returns-in_err-came-clause-frame : goal.returns-in_err-came-clause-frame
+returns-in_err-came-clause-frame g c = performs_err c.from_residual.ensures.1 c.in_err-came.ensures.frame

@@ -1,0 +1,5 @@
+pub mod Components
+pub mod Fronts
+pub mod Values
+pub mod Ways
+mod Worked

@@ -1,0 +1,7 @@
+pub mod Firsts
+pub mod Lists
+pub mod Making
+pub mod Ordered
+pub mod Releasing
+pub mod Saving
+mod Worked
