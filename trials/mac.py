@@ -17,7 +17,7 @@ nothing of this is checked against one. What TN1150 states comes from `volume.py
 import struct
 import zlib
 
-from volume import Volume, catalog_key, checksum, extent_bytes, fork_bytes, units
+from volume import Volume, checksum
 
 # A transaction buffer of 3 MiB is 6,144 blocks of 512 bytes, and a list has 16 bytes for each.
 LIST = 98304
@@ -84,18 +84,7 @@ class Mac(Volume):
         self.mark(number, flags=known | flags)
 
     def forked_attribute(self, number, name, value, pieces=1):
-        """A value in blocks of its own; in more than eight pieces the others stand in records behind the first."""
-        extents, size = self.fork(value, pieces)
-        self.kept += extents
-        data = units(name)
-        key = lambda start: struct.pack(">HHIIH", 12 + len(data), 0, number, start, len(data) // 2) + data
-        fork = fork_bytes(size, self.block, extents[:8])
-        fork = fork[:12] + struct.pack(">I", sum(count for _, count in extents)) + fork[16:]
-        self.attributes.append(((number, data, 0), key(0), struct.pack(">II", 0x20, 0) + fork))
-        place = sum(count for _, count in extents[:8])
-        for at in range(8, len(extents), 8):
-            self.attributes.append(((number, data, place), key(place), struct.pack(">II", 0x30, 0) + extent_bytes(extents[at : at + 8])))
-            place += sum(count for _, count in extents[at : at + 8])
+        self.attribute(number, name, value, pieces)
         self.flag(number, HAS_ATTRIBUTES)
 
     def compressed(self, parent, name, data, in_resources=False):

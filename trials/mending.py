@@ -6,7 +6,7 @@ with its journal replayed; `mended(content)` is the repair of that; `differing(o
 
 import struct
 
-from rules import PRIVATE, Broken, Header, Node, Reading, in_use, key_of, number, text, units, want
+from rules import PRIVATE, Broken, Header, Node, Reading, extents_of, in_use, key_of, number, text, units, want
 
 SKIPPED = 2**64 - 1
 
@@ -18,12 +18,13 @@ class Mending(Reading):
         """Whether the volume can be counted: the header, the trees and the kinds of records are sound, and what may be written has no other use."""
         try:
             self.header_holds()
-            self.kinds_hold(self.trees_hold()[0])
+            pairs, attributes = self.trees_hold()
+            self.kinds_hold(pairs)
             want(self.head.total <= 8 * self.head.allocation.size, 3, "the length of the bitmap")
         except Broken:
             return False
         bitmap, catalog = self.whole(6, 0, self.head.allocation), self.whole(4, 0, self.head.catalog)
-        self.used = self.uses()
+        self.used = self.uses() + [extent for _, value in attributes for extent in value_extents(value)]
         return all(sum(it) <= self.head.total for it in bitmap) and not overlap(self.used, bitmap + catalog + self.reserved())
 
     def reserved(self):
@@ -32,7 +33,8 @@ class Mending(Reading):
         return [(0, -(-1536 // self.head.block))] + ([(last, self.head.total - last)] if last < self.head.total else [])
 
     def uses(self):
-        """All that uses blocks, as extents, with repeats: the reserved areas, five special forks, bad blocks, and both forks of each file."""
+        """All that uses blocks but values of attributes, as extents, with repeats: the reserved areas, five special forks, bad blocks, and both
+        forks of each file."""
         head = self.head
         found = self.reserved() + in_use(head.extents.extents)
         for owner, fork in ((4, head.catalog), (6, head.allocation), (7, head.startup), (8, head.attributes_file)):
@@ -125,6 +127,13 @@ class Mending(Reading):
             if at // 8 < len(bits):
                 bits[at // 8] |= 128 >> at % 8
         self.put(extents, 0, bits)
+
+
+def value_extents(record):
+    """The extents in use of a record of the attributes: one of a value's fork, or of its further extents."""
+    kind = number(record, 0, 4) if len(record) >= 4 else 0
+    place = {(0x20, 88): 24, (0x30, 72): 8}.get((kind, len(record)))
+    return in_use(extents_of(record[place : place + 64])) if place else []
 
 
 def overlap(used, written):

@@ -14,7 +14,7 @@ import re
 import struct
 import unicodedata
 
-LINE, READ, SIZE, LINKS, VALUE = 140000, 65536, 2**40, 32767, 1700
+LINE, READ, SIZE, LINKS, VALUE = 140000, 65536, 2**40, 32767, 131072
 NAME, ATTRIBUTE_NAME = 255, 127
 PRIVATE = ("\0\0\0\0HFS+ Private Data".encode("utf-16-be"), ".journal".encode("utf-16-be"), ".journal_info_block".encode("utf-16-be"))
 NUMBER, MODE, VALUE_TEXT = re.compile(rb"0|[1-9][0-9]*"), re.compile(rb"[0-7]{1,4}"), re.compile(rb"=(?:[!-$&-~]++|%(?:[01][0-9A-F]|20|25|7F|[89A-F][0-9A-F]))*+")
@@ -418,6 +418,9 @@ class Plain:
         node = self.reached(path)
         if name not in node.attributes:
             raise No("NoAttribute")
+        # Another system may have written a longer one.
+        if len(node.attributes[name]) > VALUE:
+            raise No("TooLarge")
         return b"ok " + print_value(node.attributes[name]), lambda: None
 
     def lsattr(self, path):

@@ -302,11 +302,31 @@ class Reading:
                     want(entry["special"] == links.get(int(reference), 0), 19, "the number of links")
 
     def attributes_hold(self, pairs):
-        owners = {it["id"] for it in self.entries if not it["link"]}
+        owners, self.values, last = {it["id"] for it in self.entries if not it["link"]}, [], None
         for (owner, name, start), value in pairs:
-            size = number(value, 12, 4)
-            want(len(value) >= 16 and number(value, 0, 4) == 0x10 and len(value) == 16 + size + size % 2, 20, "an attribute's record")
-            want(start == 0 and name and owner in owners, 20, "an attribute's place, name or owner")
+            want(name and owner in owners, 20, "an attribute's name or owner")
+            kind = number(value, 0, 4) if len(value) >= 4 else 0
+            if kind == 0x30:
+                # Records of one attribute stand behind one another, in the order of their places.
+                want(len(value) == 72, 20, "the length of a record of further extents")
+                want(last and last["of"] == (owner, name), 20, "further extents of no fork")
+                extents = extents_of(value[8:])
+                want(start == last["place"] and last["full"] and in_use(extents), 20, "further extents that don't go on")
+                last["extents"].append(extents)
+            else:
+                want(start == 0, 20, "an attribute that doesn't begin at 0")
+                last = None
+                if kind == 0x20:
+                    want(len(value) == 88, 20, "the length of an attribute's fork")
+                    last = {"of": (owner, name), "fork": Fork(value[8:]), "place": 0}
+                    last["extents"] = [last["fork"].extents]
+                    self.values.append(last)
+                else:
+                    size = number(value, 12, 4)
+                    want(kind == 0x10 and len(value) >= 16 and len(value) == 16 + size + size % 2, 20, "an attribute's record")
+            if last:
+                last["place"] += sum(count for _, count in last["extents"][-1])
+                last["full"] = is_full(last["extents"][-1])
         block, info = self.head.block, self.sector(self.head.info * (self.head.block // 512))
         offset, size = number(info, 36, 8), number(info, 44, 8)
         journal = offset // block, -(-(offset + size) // block) - offset // block
@@ -343,6 +363,12 @@ class Reading:
             uses += [extent for it in of.pop((5, kind), []) for extent in in_use(it[3])]
         want(all(inside(it[3]) for it in self.overflow), 16, "an overflow extent outside")
         want(not of, 17, "overflow records of no fork")
+        for it in self.values:
+            want(all(map(inside, it["extents"])), 16, "an extent of an attribute outside")
+            extents = [extent for more in it["extents"] for extent in in_use(more)]
+            want(sum(count for _, count in extents) == it["fork"].blocks, 16, "the number of blocks of an attribute")
+            want(it["fork"].size <= it["fork"].blocks * head.block, 16, "the bytes of an attribute")
+            uses += extents
         used, marks = 0, bytearray(head.total)
         for first, count in uses:
             want(not any(marks[first : first + count]), 18, "a block used twice")

@@ -5,6 +5,7 @@
     file = volume.file(folder, "notes", b"text", pieces=3)       # its blocks in three extents
     volume.link(2, "other", file)                                # a further name of the file
     volume.attribute(file, "user.tag", b"red")
+    volume.attribute(file, "user.long", bytes(70000), pieces=9)  # in a fork of its own
     volume.write("v.img")                                        # a sparse file
 """
 
@@ -108,7 +109,9 @@ class Volume:
         self.sectors, self.block, self.journal, self.node, self.spare, self.filled = sectors, block, journal, node, spare, filled
         self.total = sectors * 512 // block
         self.next, self.entries, self.attributes, self.overflow, self.data = 16, {}, [], [], []
-        # The extents of blocks that no record of the catalog and no special file but the startup file has, and the startup file's bytes.
+        # What the attributes are: of each folder or file, by name, the value and its extents.
+        self.values = {}
+        # The extents of the startup file and of values of attributes, and the startup file's bytes.
         self.kept, self.startup = [], b""
         self.front = -(-1536 // block)
         self.bitmap = (self.front, -(-self.total // (8 * block)))
@@ -191,10 +194,22 @@ class Volume:
         self.entry(parent, name, [([], 0), ([], 0)], file, b"hlnkhfs+" + bytes(24))
         it["special"] += 1
 
-    def attribute(self, number, name, value):
+    def attribute(self, number, name, value, pieces=None):
+        """An attribute whose value stands in its record, or in a fork of its own in so many pieces; over eight of them stand in further records."""
         data = units(name)
-        key = struct.pack(">HHIIH", 12 + len(data), 0, number, 0, len(data) // 2) + data
-        self.attributes.append(((number, data, 0), key, struct.pack(">III", 0x10, 0, 0) + len(value).to_bytes(4, "big") + value + bytes(len(value) % 2)))
+        put = lambda start, record: self.attributes.append(((number, data, start), struct.pack(">HHIIH", 12 + len(data), 0, number, start, len(data) // 2) + data, record))
+        self.values.setdefault(number, {})[data] = value, []
+        if pieces is None:
+            put(0, struct.pack(">III", 0x10, 0, 0) + len(value).to_bytes(4, "big") + value + bytes(len(value) % 2))
+            return
+        extents, size = self.fork(value, pieces)
+        self.kept += extents
+        self.values[number][data] = value, extents
+        blocks = lambda part: sum(count for _, count in part)
+        fork = fork_bytes(size, 0, extents[:8])
+        put(0, struct.pack(">II", 0x20, 0) + fork[:12] + struct.pack(">I", blocks(extents)) + fork[16:])
+        for at in range(8, len(extents), 8):
+            put(blocks(extents[:at]), struct.pack(">II", 0x30, 0) + extent_bytes(extents[at : at + 8]))
 
     # ---- bytes
 
@@ -276,6 +291,7 @@ class Volume:
             count += blocks
             for block in range(start, start + blocks):
                 bits[block // 8] |= 0x80 >> block % 8
+        self.free_blocks = self.total - count
         found.append((self.bitmap[0] * self.block, bytes(bits)))
         offset, size = self.ring[0] * self.block, self.journal * 512
         found.append((self.info[0] * self.block, struct.pack(">I", 1) + bytes(32) + struct.pack(">QQ", offset, size) + bytes(128)))
@@ -284,7 +300,7 @@ class Volume:
         found.append((offset, head))
         files = sum(it["forks"] is not None for it in self.entries.values())
         header = struct.pack(">HHI4sI4I", 0x4858, 5, 0x2100 if self.mounted == b"HFSJ" else 0x2000, self.mounted, self.info[0], self.moment, self.moment, 0, 0)
-        header += struct.pack(">9I", files, len(self.entries) - files - 1, self.block, self.total, self.total - count, self.free, self.block, self.block, self.next)
+        header += struct.pack(">9I", files, len(self.entries) - files - 1, self.block, self.total, self.free_blocks, self.free, self.block, self.block, self.next)
         header += struct.pack(">IQ", 0, 1) + bytes(32)
         header += fork_bytes(self.bitmap[1] * self.block, self.block, [self.bitmap]) + forks[0] + forks[2] + forks[1] + startup
         assert len(header) == 512

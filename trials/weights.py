@@ -6,6 +6,8 @@ For commands that put no bytes into files the numbers that `df` tells are enough
 import copy
 
 KEYS = (10, 516, 266)
+# The most bytes of a value that stands in its record; a longer one has blocks of its own.
+INLINE = 1700
 
 
 def up(number, by):
@@ -26,7 +28,7 @@ class Gauge:
 
 
 def edits_of(plain, verb, words):
-    """The ids that a command draws, its edits of the catalog and of the attributes, and its updates in place."""
+    """The ids that a command draws, its edits of the catalog and of the attributes, and its updates in place; further records of values come to that."""
     private = 0 if plain.has_private else 1
     if verb in ("mkdir", "create"):
         return 1, 2, 0, 1
@@ -93,12 +95,27 @@ def records(extents):
     return up(max(0, extents - 8), 8)
 
 
+def attributes_gone(plain, verb, words):
+    """The folder or file of which a command removes attributes, and their names."""
+    if verb not in ("setattr", "delattr", "rmdir"):
+        return None, []
+    node = plain.reached(words[0])
+    return node, list(node.attributes) if verb == "rmdir" else [words[1]]
+
+
+def blocks_of_value(verb, words, block):
+    """How many blocks the value takes that a command sets."""
+    return up(len(words[2]), block) if verb == "setattr" and len(words[2]) > INLINE else 0
+
+
 class Fork:
     """What is known of the forks that a command makes longer: the extents of the file's data and whether it has blocks past its size, the lengths of the free
-    runs, and the extents of the trees' forks; and the same behind the cuts of these blocks, where it is known."""
+    runs, and the extents of the trees' forks; and the same behind the cuts of these blocks, where it is known. Of each value of an attribute that the command
+    removes it has the extents and the blocks."""
 
-    def __init__(self, extents, surplus, runs, trees, behind=None):
+    def __init__(self, extents, surplus, runs, trees, behind=None, values=()):
         self.extents, self.surplus, self.runs, self.trees, self.behind = extents, surplus, sorted(runs, reverse=True), trees, behind
+        self.values = values
 
     def fewest(self, many):
         """The least number of free runs that hold so many blocks, or of all of them."""
@@ -132,7 +149,9 @@ def weigh(gauge, plain, verb, words, fork):
         gauge, fork = copy.copy(gauge), fork.behind
         gauge.free, gauge.longest = sum(fork.runs), max(fork.runs, default=0)
     ids, catalog, attributes, updates = edits_of(plain, verb, words)
-    runs = fork.fewest(data.new) if data else 0
+    new, old = (data.new, data.old) if data else (blocks_of_value(verb, words, gauge.block), sum(blocks for _, blocks in fork.values))
+    runs = fork.fewest(new)
+    attributes += sum(records(extents) for extents, _ in fork.values) + (0 if data else records(runs))
     edits = [records(fork.extents) + records(fork.extents + 1 + runs) if data else 0, catalog, attributes]
     if plain.next + ids > 4294967295:
         return Weight(b"no NoIds %d" % plain.next)
@@ -148,12 +167,12 @@ def weigh(gauge, plain, verb, words, fork):
             load += size // 512 * min(many * (4 * (max(depth, 1) + 2 + rises) + 4) + (2 + maps if more else 0), nodes + more)
     if grown[0][1] and fork.trees[0] == 8:
         return Weight(b"no OverflowFull 8")
-    wanted = blocks + (data.new if data else 0)
+    wanted = blocks + new
     if gauge.free < wanted:
         return Weight(b"no NoSpace %d %d" % (gauge.free, wanted))
     if blocks and gauge.longest < wanted:
         return Weight(b"no NoRun %d %d" % (gauge.longest, wanted))
-    bits = (data.new // 4096 + 2 * runs + data.old if data else 0) + (blocks // 4096 + 2 if blocks else 0)
+    bits = new // 4096 + 2 * runs + old + (blocks // 4096 + 2 if blocks else 0)
     load += min(up(gauge.total, 4096), bits)
     if verb not in ("at", *CHANGES):
         load = 0

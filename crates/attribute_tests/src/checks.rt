@@ -1,21 +1,37 @@
 //! Attributes held against their table.
 use crate::flaw::{Flaw, wanted};
 use crate::table::{Place, Table, file_id, value_of};
+use attributes::ValueAt;
 use entry_kit::Drawer;
-use hx_bytes::{Bytes, Names};
+use hx_bytes::Names;
 use std::alloc::Global;
+
+/// Whether two values are the same.
+fn is_same(one: &ValueAt, other: &ValueAt) -> bool {
+    match (one, other) {
+        (ValueAt::Inline(bytes), ValueAt::Inline(others)) => bytes.as_slice() == others.as_slice(),
+        (
+            ValueAt::Blocks { size, fork },
+            ValueAt::Blocks {
+                size: other_size,
+                fork: other_fork,
+            },
+        ) => size == other_size && fork.as_slice() == other_fork.as_slice(),
+        _ => false,
+    }
+}
 
 /// Whether what was found is the value of a place.
 fn is_value(
     alloc: Global,
-    found: &Option<Bytes>,
+    found: &Option<ValueAt>,
     table: &Table,
     place: Place,
 ) -> Result<bool, Flaw> {
     match found {
-        Some(bytes) => {
+        Some(there) => {
             let value = value_of(alloc, place, table.version(place))?;
-            Ok(table.has(place) && bytes.as_slice() == value.as_slice())
+            Ok(table.has(place) && is_same(there, &value))
         }
         None => Ok(!table.has(place)),
     }
@@ -29,7 +45,7 @@ pub fn check_place(
     place: Place,
 ) -> Result<(), Flaw> {
     let name = table.name(alloc, place)?;
-    let found = drawer.get(alloc, file_id(place.file), &name)?;
+    let found = drawer.value(alloc, file_id(place.file), &name)?;
     wanted(is_value(alloc, &found, table, place)?, Flaw::Value(place))
 }
 

@@ -1,6 +1,8 @@
 //! The attributes that files should have.
+use attributes::ValueAt;
 use entry_kit::{Length, NameForm, Stop};
-use hx_bytes::{OutOfMemory, Units};
+use fork_map::ExtentList;
+use hx_bytes::{Bytes, Extent, OutOfMemory, Units};
 use std::alloc::Global;
 
 /// A place of an attribute: a file by its number, and the number of a name.
@@ -10,36 +12,84 @@ pub struct Place {
     pub name: u16,
 }
 
-/// The most bytes of a value.
-const LARGEST: u32 = 1700;
+/// The most bytes of a value that stands in its record.
+const LONGEST_INLINE: u32 = 1700;
 
-/// The value that an attribute has for the so-manieth time: none of it is like the one before, and some are as long as they may be.
-pub fn value_of(alloc: Global, place: Place, version: u8) -> Result<Vec<u8>, Stop> {
-    let value = bytes_of(alloc, place, version)?;
-    Ok(value)
-}
+/// The bytes of a block.
+const BLOCK: u32 = 512;
 
-fn bytes_of(alloc: Global, place: Place, version: u8) -> Result<Vec<u8>, OutOfMemory> {
+/// Sizes of values in forks, each with a number of extents: those of one record, of one that is full, and of further ones.
+const FORKS: [(u32, u32); 10] = [
+    (1701, 1),
+    (1701, 4),
+    (3802, 1),
+    (3802, 8),
+    (131_072, 1),
+    (131_072, 8),
+    (131_072, 9),
+    (131_072, 16),
+    (131_072, 17),
+    (131_072, 256),
+];
+
+/// The value that an attribute has for the so-manieth time: none of it is like the one before, some are as long as they may be, and some stand in forks.
+pub fn value_of(alloc: Global, place: Place, version: u8) -> Result<ValueAt, Stop> {
     let number = place
         .file
         .wrapping_mul(31)
         .wrapping_add(u32::from(place.name))
         .wrapping_add(u32::from(version));
+    let at = (number % 41) as usize;
+    match FORKS.get(at) {
+        Some((size, extents)) => fork_of(alloc, number, *size, *extents),
+        None => {
+            let bytes = bytes_of(alloc, number, version)?;
+            Ok(ValueAt::Inline(bytes))
+        }
+    }
+}
+
+fn bytes_of(alloc: Global, number: u32, version: u8) -> Result<Bytes, OutOfMemory> {
     let mut value = Vec::new(alloc);
     for at in 0..length_of(number) {
         value.push((at % 251) as u8 ^ version)?;
     }
-    Ok(value)
+    Ok(Bytes::from_vec(value))
 }
 
 fn length_of(number: u32) -> u32 {
-    if number % 5 == 0 {
-        return 0;
+    match number % 5 {
+        0 => 0,
+        1 => LONGEST_INLINE,
+        2 => 1,
+        _ => number.wrapping_mul(40_503) % LONGEST_INLINE,
     }
-    if number % 5 == 1 {
-        return LARGEST;
+}
+
+/// A value of so many bytes in a fork of so many extents, of which each but the last has one block.
+fn fork_of(alloc: Global, number: u32, size: u32, extents: u32) -> Result<ValueAt, Stop> {
+    let blocks = size.div_ceil(BLOCK);
+    let mut fork = ExtentList::new(alloc);
+    for at in 0..extents {
+        let is_last = at.wrapping_add(1) == extents;
+        let count = if is_last { blocks.wrapping_sub(at) } else { 1 };
+        let start = number.wrapping_mul(1000).wrapping_add(at.wrapping_mul(2));
+        fork.push(Extent { start, count })?;
     }
-    number.wrapping_mul(40_503) % LARGEST
+    Ok(ValueAt::Blocks {
+        size: u64::from(size),
+        fork,
+    })
+}
+
+/// Adds the blocks that a value has.
+pub fn push_blocks(list: &mut ExtentList, value: &ValueAt) -> Result<(), Stop> {
+    if let ValueAt::Blocks { fork, .. } = value {
+        for extent in fork.as_slice() {
+            list.push(*extent)?;
+        }
+    }
+    Ok(())
 }
 
 /// For each place how often its attribute was given a value, or 0 where there is none.
@@ -113,6 +163,20 @@ impl Table {
     /// The name at a place.
     pub fn name(&self, alloc: Global, place: Place) -> Result<Units, Stop> {
         self.names.name(alloc, place.name)
+    }
+
+    /// The blocks that the value at a place has.
+    pub fn push_blocks(
+        &self,
+        alloc: Global,
+        list: &mut ExtentList,
+        place: Place,
+    ) -> Result<(), Stop> {
+        if self.has(place) {
+            let value = value_of(alloc, place, self.version(place))?;
+            push_blocks(list, &value)?;
+        }
+        Ok(())
     }
 
     /// How many attributes a file has.

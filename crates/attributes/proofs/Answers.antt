@@ -15,3 +15,7 @@ on_ok (Err why) then known = tt
 pub from_answer : {T E : Type 0} {P : T → Type 0} {Q : Type 0} (result : Result T E) → ((answer : T) → P answer → Q) → IfOk result P → OnOk result Q
 from_answer (Ok found) then known = then found known
 from_answer (Err why) then known = tt
+
+pub if_ok : {T E : Type 0} {P Q : T → Type 0} (result : Result T E) → ((answer : T) → P answer → Q answer) → IfOk result P → IfOk result Q
+if_ok (Ok found) then known = then found known
+if_ok (Err why) then known = tt

@@ -33,18 +33,18 @@ length-units_bytes : (name : List ℕ) → length (units_bytes name) ≡ 2 * len
 length-units_bytes [] = refl
 length-units_bytes (unit ∷ more) = omega (arith, length-append (big 2 unit) (units_bytes more), length-number_bytes Big 2 unit, length-units_bytes more)
 
-pub key_reads : (id : ℕ) (name : List ℕ) → id < 2 ^ 32 → length name ≤ 127 → AllByRecursion (λ unit. unit < 2 ^ 16) name → IsKeyOf id name (attr_key_bytes id name 0)
-key_reads id name small short fits =
+pub key_reads : (id : ℕ) (name : List ℕ) (start : ℕ) → id < 2 ^ 32 → start < 2 ^ 32 → length name ≤ 127 → AllByRecursion (λ unit. unit < 2 ^ 16) name → IsKeyOf id name start (attr_key_bytes id name start)
+key_reads id name place small low short fits =
     let count = length name in
-    let whole = attr_key_bytes id name 0 in
-    let start : Behind whole (big 2 (12 + 2 * count) ++ (replicate 2 0 ++ (big 4 id ++ (big 4 0 ++ (big 2 count ++ units_bytes name))))) 0 = record { is = simp (append_assoc) } in
+    let whole = attr_key_bytes id name place in
+    let start : Behind whole (big 2 (12 + 2 * count) ++ (replicate 2 0 ++ (big 4 id ++ (big 4 place ++ (big 2 count ++ units_bytes name))))) 0 = record { is = simp (append_assoc) } in
     let size_is : big_at 2 whole 0 ≡ 12 + 2 * count = number_here _ 2 (12 + 2 * count) (omega (arith, short)) start in
     let at_pad = behind_number 2 (12 + 2 * count) start in
     let at_id = behind_part (replicate 2 0) 2 refl at_pad in
     let id_is : big_at 4 whole 4 ≡ id = number_here _ 4 id small at_id in
     let at_start = behind_number 4 id at_id in
-    let start_is : big_at 4 whole 8 ≡ 0 = number_here _ 4 0 (omega arith) at_start in
-    let at_count = behind_number 4 0 at_start in
+    let start_is : big_at 4 whole 8 ≡ place = number_here _ 4 place low at_start in
+    let at_count = behind_number 4 place at_start in
     let count_is : big_at 2 whole 12 ≡ count = number_here _ 2 count (omega (arith, short)) at_count in
     let at_name = behind_number 2 count at_count in
     let long : length whole ≡ 14 + 2 * length name = omega (arith, length-append {A = ℕ}, length-number_bytes Big, length-units_bytes name) in

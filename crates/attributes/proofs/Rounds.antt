@@ -1,5 +1,5 @@
 -- Edits one after another, up to so many: the room that is left, and what all of them take.
-use Rattle.std.proofs.Common.{◌≡◌, ◌<◌, ◌≤◌, ◌+◌, ◌-◌, ℕ, sym, subst, arith}
+use Rattle.std.proofs.Common.{◌≡◌, ◌<◌, ◌≤◌, ◌+◌, ◌-◌, ℕ, subst, arith}
 use Rattle.std.specs.Prelude.{IsTrue}
 use Rattle.btree_node.specs.Store.{Store, SameStore}
 use Rattle.btree_edit.specs.Edits.{EditRoom, TakesEdits, TakesAtMost}

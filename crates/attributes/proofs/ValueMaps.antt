@@ -1,120 +1,149 @@
 -- The attributes file as a map: setting a value is an insertion, dropping one a deletion.
-use Rattle.std.proofs.Common.{◌≡◌, ℕ, zero, suc, Bool, true, false, cond, List, [], ◌∷◌, ◌++◌, map, refl, sym, ◌∙◌, ap, arith}
-use Rattle.std.specs.Prelude.{Option, None, Some, insert, not, ◌==◌, ◌&&◌, if◌then◌else◌}
-use Rattle.std.specs.List.{find}
-use Rattle.std.specs.Option.{option_map}
+use Rattle.std.proofs.Common.{◌≡◌, ℕ, Bool, true, false, cond, List, [], ◌∷◌, ◌++◌, take, drop, length, map, refl, sym, ◌∙◌, ap, arith}
+use Rattle.std.specs.Prelude.{Option, None, Some, not, ◌==◌, if◌then◌else◌}
+use Rattle.std.specs.List.{find, flat_map}
 use Rattle.std.specs.Str.{bytes_eq}
-use Rattle.std.proofs.lemmas.Bool.{and_parts, eqb-true, true≢false}
+use Rattle.std.proofs.lemmas.Bool.{and_from, and_parts, eq-eqb, eqb-true}
+use Rattle.std.proofs.lemmas.List.{take-append-drop}
 use Rattle.std.proofs.lemmas.Slice.Eq.{bytes_eq-Decides}
+use Rattle.hx_bytes.specs.declared.extents.Extent.{Extent}
 use Rattle.btree_node.specs.Levels.{Pair}
+use Rattle.cat_records.specs.declared.attribute.AttrRecord.{AttrRecord}
+use Rattle.cat_records.specs.declared.attribute.AttrRecord.TheVariants as attribute
 use Rattle.hfs_model.specs.Sorted.{kept}
-use Rattle.hfs_volume.specs.Changes.{DropsAttribute, is_attribute_of}
-use Rattle.hfs_volume.specs.Records.{Attribute, attribute_of, inline_bytes}
+use Rattle.hfs_volume.specs.Changes.{DropsAttribute, SetsFork, is_attribute_of}
+use Rattle.hfs_volume.specs.Records.{Attribute, attribute_of}
+use Rattle.hfs_volume.specs.Values.{used_extents}
+use Rattle.hfs_volume.proofs.Valued.{kept_mapped, kept_within}
+use Rattle.attributes.specs.Dropping.{is_named}
 use Rattle.attributes.specs.Maps.{DeletesValue, InsertsValue}
-use Rattle.attributes.specs.Values.{SetsValue}
+use Rattle.attributes.specs.Values.{SetsValue, value_at, value_in, value_of_first}
+use Rattle.attributes.specs.declared.value.ValueAt.{ValueAt}
+use Rattle.attributes.specs.declared.value.ValueAt.TheVariants as held
+use Rattle.attributes.proofs.Lists.{false_so, kept_append, kept_twice, none_left}
 
-abbrev value_in : Option Attribute → Option (List ℕ)
-value_in found = option_map (λ (attribute : Attribute). inline_bytes attribute.value) found
+-- ---- a value by the records of its name alone
 
-abbrev found_in : (Attribute → Bool) → List Pair → Option Attribute
-found_in test pairs = find test (map attribute_of pairs)
+first_in : List Attribute → Option Attribute
+first_in [] = None
+first_in (a ∷ rest) = Some a
 
-same_number : (n : ℕ) → (n == n) ≡ true
-same_number n = grind arith
-
-false_so : (b : Bool) → (b ≡ true → ⊥) → b ≡ false
-false_so true never = absurd (never refl)
-false_so false never = refl
-
--- what is no attribute of one name is found as if that one weren't there
-found_kept : (test gone : Attribute → Bool) → ((a : Attribute) → test a ≡ true → gone a ≡ false) → (pairs : List Pair) → found_in test (kept (λ pair. not (gone (attribute_of pair))) pairs) ≡ found_in test pairs
-found_kept test gone apart [] = refl
-found_kept test gone apart (pair ∷ rest) = by_gone (gone (attribute_of pair)) refl (found_kept test gone apart rest)
+found_first : (test : Attribute → Bool) (items : List Attribute) → find test items ≡ first_in (kept test items)
+unfolding first_in
+found_first test [] = refl
+found_first test (a ∷ items) = by_test (test a) (found_first test items)
   where
-    by_gone : (b : Bool) → gone (attribute_of pair) ≡ b → found_in test (kept (λ p. not (gone (attribute_of p))) rest) ≡ found_in test rest
-        → found_in test (kept (λ p. not (gone (attribute_of p))) (pair ∷ rest)) ≡ found_in test (pair ∷ rest)
-    by_gone true is same =
-        ap (λ b. found_in test ((if not b then pair ∷ [] else []) ++ kept (λ p. not (gone (attribute_of p))) rest)) is
-        ∙ same
-        ∙ sym (ap (λ b. cond b (Some (attribute_of pair)) (found_in test rest)) (false_so (test (attribute_of pair)) (λ passes. true≢false (sym is ∙ apart (attribute_of pair) passes))))
-    by_gone false is same =
-        ap (λ b. found_in test ((if not b then pair ∷ [] else []) ++ kept (λ p. not (gone (attribute_of p))) rest)) is
-        ∙ ap (λ o. cond (test (attribute_of pair)) (Some (attribute_of pair)) o) same
+    by_test : (b : Bool) → find test items ≡ first_in (kept test items) → cond b (Some a) (find test items) ≡ first_in ((if b then a ∷ [] else []) ++ kept test items)
+    by_test true rest = refl
+    by_test false rest = rest
 
--- none is found of what was taken out
-none_kept : (gone : Attribute → Bool) (pairs : List Pair) → found_in gone (kept (λ pair. not (gone (attribute_of pair))) pairs) ≡ None
-none_kept gone [] = refl
-none_kept gone (pair ∷ rest) = by_gone (gone (attribute_of pair)) refl (none_kept gone rest)
+-- the value that records of one name tell
+value_told : List Attribute → Option Attribute → Option ValueAt
+value_told records None = None
+value_told records (Some first) = told first.value
   where
-    by_gone : (b : Bool) → gone (attribute_of pair) ≡ b → found_in gone (kept (λ p. not (gone (attribute_of p))) rest) ≡ None → found_in gone (kept (λ p. not (gone (attribute_of p))) (pair ∷ rest)) ≡ None
-    by_gone true is none = ap (λ b. found_in gone ((if not b then pair ∷ [] else []) ++ kept (λ p. not (gone (attribute_of p))) rest)) is ∙ none
-    by_gone false is none =
-        ap (λ b. found_in gone ((if not b then pair ∷ [] else []) ++ kept (λ p. not (gone (attribute_of p))) rest)) is
-        ∙ ap (λ b. cond b (Some (attribute_of pair)) (found_in gone (kept (λ p. not (gone (attribute_of p))) rest))) is ∙ none
+    told : AttrRecord → Option ValueAt
+    told (attribute.Inline value) = Some (held.Inline value)
+    told (attribute.Fork fork) = Some (held.Blocks fork.logical_size (flat_map used_extents records))
+    told (attribute.More extents) = None
 
--- a pair that doesn't pass changes nothing of what is found, and one that passes is found where no other does
-found_beside : (test : Attribute → Bool) (pairs : List Pair) (k : ℕ) (pair : Pair) → test (attribute_of pair) ≡ false → found_in test (insert pairs k pair) ≡ found_in test pairs
-found_beside test [] zero pair fails = ap (λ b. cond b (Some (attribute_of pair)) None) fails
-found_beside test [] (suc k) pair fails = ap (λ b. cond b (Some (attribute_of pair)) None) fails
-found_beside test (first ∷ rest) zero pair fails = ap (λ b. cond b (Some (attribute_of pair)) (found_in test (first ∷ rest))) fails
-found_beside test (first ∷ rest) (suc k) pair fails = ap (λ o. cond (test (attribute_of first)) (Some (attribute_of first)) o) (found_beside test rest k pair fails)
-
-or_none : {X : Type 0} (x : X) → Some x ≡ None → ⊥
-or_none x same = cc
-
-found_alone : (test : Attribute → Bool) (pairs : List Pair) (k : ℕ) (pair : Pair) → test (attribute_of pair) ≡ true → found_in test pairs ≡ None → found_in test (insert pairs k pair) ≡ Some (attribute_of pair)
-found_alone test [] zero pair passes none = ap (λ b. cond b (Some (attribute_of pair)) None) passes
-found_alone test [] (suc k) pair passes none = ap (λ b. cond b (Some (attribute_of pair)) None) passes
-found_alone test (first ∷ rest) zero pair passes none = ap (λ b. cond b (Some (attribute_of pair)) (found_in test (first ∷ rest))) passes
-found_alone test (first ∷ rest) (suc k) pair passes none = by_first (test (attribute_of first)) refl (found_alone test rest k pair passes)
+value_by : (pairs : List Pair) (id : ℕ) (name : List ℕ) → value_at pairs id name ≡ value_told (map attribute_of (kept (is_named id name) pairs)) (first_in (map attribute_of (kept (is_named id name) pairs)))
+unfolding value_told
+value_by pairs id name =
+    by_found (find test (map attribute_of pairs))
+    ∙ (λ i. value_told (sym same i) ((found_first test (map attribute_of pairs) ∙ ap first_in (sym same)) i))
   where
-    by_first : (b : Bool) → test (attribute_of first) ≡ b → (found_in test rest ≡ None → found_in test (insert rest k pair) ≡ Some (attribute_of pair))
-        → cond (test (attribute_of first)) (Some (attribute_of first)) (found_in test (insert rest k pair)) ≡ Some (attribute_of pair)
-    by_first true is later = absurd (or_none (attribute_of first) (sym (ap (λ b. cond b (Some (attribute_of first)) (found_in test rest)) is) ∙ none))
-    by_first false is later =
-        ap (λ b. cond b (Some (attribute_of first)) (found_in test (insert rest k pair))) is
-        ∙ later (sym (ap (λ b. cond b (Some (attribute_of first)) (found_in test rest)) is) ∙ none)
+    test : Attribute → Bool
+    test = is_attribute_of id name
+
+    same : map attribute_of (kept (is_named id name) pairs) ≡ kept test (map attribute_of pairs)
+    same = kept_mapped attribute_of test pairs
+
+    by_found : (found : Option Attribute) → value_of_first (map attribute_of pairs) id name found ≡ value_told (kept test (map attribute_of pairs)) found
+    by_found None = refl
+    by_found (Some first) = by_value first.value
+      where
+        by_value : (value : AttrRecord) → value_in (map attribute_of pairs) id name value ≡ value_told (kept test (map attribute_of pairs)) (Some (record first { value = value }))
+        by_value (attribute.Inline value) = refl
+        by_value (attribute.Fork fork) = refl
+        by_value (attribute.More extents) = refl
+
+same_value : (one other : List Pair) (id : ℕ) (name : List ℕ) → kept (is_named id name) one ≡ kept (is_named id name) other → value_at one id name ≡ value_at other id name
+same_value one other id name same =
+    value_by one id name ∙ ap (λ l. value_told (map attribute_of l) (first_in (map attribute_of l))) same ∙ sym (value_by other id name)
+
+-- ---- names that differ
 
 -- two names are apart
-names_apart : (id other : ℕ) (name other_name : List ℕ) → (other ≡ id → other_name ≡ name → ⊥) → (a : Attribute) → is_attribute_of other other_name a ≡ true → is_attribute_of id name a ≡ false
-names_apart id other name other_name apart a passes = false_so (is_attribute_of id name a) (λ is.
+names_apart : (id other : ℕ) (name other_name : List ℕ) → (other ≡ id → other_name ≡ name → ⊥) → (pair : Pair) → is_named other other_name pair ≡ true → not (is_named id name pair) ≡ true
+names_apart id other name other_name apart pair passes = ap not (false_so (is_named id name pair) (λ is.
+    let a = attribute_of pair in
     let one = and_parts (a.id == id) (bytes_eq a.name name) is in
     let two = and_parts (a.id == other) (bytes_eq a.name other_name) passes in
-    apart (sym (eqb-true a.id other two.0) ∙ eqb-true a.id id one.0) (sym ((bytes_eq-Decides a.name other_name).0 two.1) ∙ (bytes_eq-Decides a.name name).0 one.1))
+    apart (sym (eqb-true a.id other two.0) ∙ eqb-true a.id id one.0) (sym ((bytes_eq-Decides a.name other_name).0 two.1) ∙ (bytes_eq-Decides a.name name).0 one.1)))
+
+between_none : (front back : List Pair) (item : Pair) → front ++ back ≡ [] → front ++ (item ∷ back) ≡ item ∷ []
+between_none [] back item none = ap (λ l. item ∷ l) none
+between_none (pair ∷ front) back item none = absurd (omega (arith, ap (λ (l : List Pair). length l) none))
 
 module _ (id : ℕ) (name : List ℕ) (old new : List Pair) where
+  -- where all records of other names are the same, so are their values
+  others_same : kept (λ pair. not (is_named id name pair)) new ≡ kept (λ pair. not (is_named id name pair)) old → (other : ℕ) (other_name : List ℕ) → (other ≡ id → other_name ≡ name → ⊥) → value_at new other other_name ≡ value_at old other other_name
+  others_same others other other_name apart =
+      let within = kept_within (is_named other other_name) (λ pair. not (is_named id name pair)) (names_apart id other name other_name apart) in
+      same_value new old other other_name (sym (within new) ∙ ap (kept (is_named other other_name)) others ∙ within old)
+
   pub deleted : DropsAttribute id name old new → DeletesValue id name old new
+  unfolding value_told first_in
   deleted drops = record {
-    gone = ap (λ l. value_in (found_in (is_attribute_of id name) l)) drops ∙ ap value_in (none_kept (is_attribute_of id name) old);
-    others = λ other other_name apart.
-        ap (λ l. value_in (found_in (is_attribute_of other other_name) l)) drops
-        ∙ ap value_in (found_kept (is_attribute_of other other_name) (is_attribute_of id name) (names_apart id other name other_name apart) old);
+    gone = value_by new id name ∙ ap (λ l. value_told (map attribute_of l) (first_in (map attribute_of l))) (ap (kept (is_named id name)) drops ∙ none_left (is_named id name) old);
+    others = others_same (ap (kept (λ pair. not (is_named id name pair))) drops ∙ kept_twice (λ pair. not (is_named id name pair)) old);
   }
 
-  pub inserted : (value : List ℕ) → SetsValue id name value old new → InsertsValue id name value old new
+  pub inserted : (value : List ℕ) → SetsValue id name value old new → InsertsValue id name (held.Inline value) old new
+  unfolding value_told first_in
   inserted value sets = record {
     there =
-        ap (λ l. value_in (found_in (is_attribute_of id name) l)) sets.adds.added.is
-        ∙ ap value_in (found_alone (is_attribute_of id name) sets.bared sets.adds.added.place sets.adds.pair own none)
-        ∙ ap (λ (a : Attribute). Some (inline_bytes a.value)) sets.adds.stands;
-    others = λ other other_name apart.
-        let bare = deleted_bare.others other other_name apart in
-        ap (λ l. value_in (found_in (is_attribute_of other other_name) l)) sets.adds.added.is
-        ∙ ap value_in (found_beside (is_attribute_of other other_name) sets.bared sets.adds.added.place sets.adds.pair
-        (false_so (is_attribute_of other other_name (attribute_of sets.adds.pair)) (λ is. true≢false (sym own ∙ names_apart id other name other_name apart (attribute_of sets.adds.pair) is))))
-        ∙ bare;
+        value_by new id name ∙ ap (λ l. value_told (map attribute_of l) (first_in (map attribute_of l))) alone
+        ∙ ap (λ (a : Attribute). value_told (a ∷ []) (Some a)) sets.adds.stands;
+    others = others_same (apart ∙ ap (kept rest) sets.bares ∙ kept_twice rest old);
   }
     where
-      own : is_attribute_of id name (attribute_of sets.adds.pair) ≡ true
-      own = ap (is_attribute_of id name) sets.adds.stands ∙ (λ i. same_number id i && (bytes_eq-Decides name name).1 refl i)
+      rest : Pair → Bool
+      rest pair = not (is_named id name pair)
 
-      none : found_in (is_attribute_of id name) sets.bared ≡ None
-      none = ap (found_in (is_attribute_of id name)) sets.bares ∙ none_kept (is_attribute_of id name) old
+      item : Pair
+      item = sets.adds.pair
 
-      deleted_bare : DeletesValue id name old sets.bared
-      deleted_bare = record {
-        gone = ap value_in none;
-        others = λ other other_name apart.
-            ap (λ l. value_in (found_in (is_attribute_of other other_name) l)) sets.bares
-            ∙ ap value_in (found_kept (is_attribute_of other other_name) (is_attribute_of id name) (names_apart id other name other_name apart) old);
-      }
+      own : is_named id name item ≡ true
+      own = ap (is_attribute_of id name) sets.adds.stands ∙ and_from (id == id) (bytes_eq name name) (eq-eqb id id refl) ((bytes_eq-Decides name name).1 refl)
+
+      front : List Pair
+      front = take sets.adds.added.place sets.bared
+
+      back : List Pair
+      back = drop sets.adds.added.place sets.bared
+
+      none : kept (is_named id name) front ++ kept (is_named id name) back ≡ []
+      none = sym (kept_append (is_named id name) front back) ∙ ap (kept (is_named id name)) (take-append-drop sets.adds.added.place sets.bared ∙ sets.bares) ∙ none_left (is_named id name) old
+
+      alone : kept (is_named id name) new ≡ item ∷ []
+      alone =
+          ap (kept (is_named id name)) sets.adds.added.is ∙ kept_append (is_named id name) front (item ∷ back)
+          ∙ (λ i. kept (is_named id name) front ++ ((if own i then item ∷ [] else []) ++ kept (is_named id name) back))
+          ∙ between_none (kept (is_named id name) front) (kept (is_named id name) back) item none
+
+      apart : kept rest new ≡ kept rest sets.bared
+      apart =
+          ap (kept rest) sets.adds.added.is ∙ kept_append rest front (item ∷ back) ∙ (λ i. kept rest front ++ ((if not (own i) then item ∷ [] else []) ++ kept rest back))
+          ∙ sym (kept_append rest front back) ∙ ap (kept rest) (take-append-drop sets.adds.added.place sets.bared)
+
+  pub forked : (size : ℕ) (extents : List Extent) → SetsFork id name size extents old new → InsertsValue id name (held.Blocks size extents) old new
+  unfolding value_told first_in
+  forked size extents sets = record {
+    there =
+        value_by new id name ∙ ap (λ l. value_told (map attribute_of l) (first_in (map attribute_of l))) sets.records
+        ∙ ap (λ (a : Attribute). value_told (a ∷ map attribute_of sets.further) (Some a)) sets.is_first
+        ∙ (λ i. Some (held.Blocks (sets.size_is i) (sets.extents_are i)));
+    others = others_same sets.others;
+  }

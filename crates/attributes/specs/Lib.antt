@@ -1,3 +1,5 @@
+pub mod Dropping
+pub mod Forks
 pub mod Maps
 pub mod Owned
 pub mod Values

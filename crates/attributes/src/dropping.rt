@@ -1,113 +1,45 @@
-//! All attributes of a folder or file dropped.
-ghost use Rattle.std.specs.Prelude.{◌≡◌, ◌≤◌, ◌+◌, ◌↔◌, [], IsTrue, OnOk, IfOk};
-ghost use Rattle.btree_node.specs.Keys.{IsAttrKey, attr_cmp, attr_file, attr_units};
+//! One record removed: the first that an attribute still has, or a folder or file, with the extents that it told.
+ghost use Rattle.std.specs.Prelude.{◌≡◌, ◌≤◌, ◌<◌, ◌+◌, ◌*◌, ◌++◌, ◌↔◌, [], ◌==◌, IsTrue, OnOk, IfOk, length, if◌then◌else◌};
+ghost use Rattle.btree_node.specs.Keys.{IsAttrKey, attr_cmp, attr_file, attr_units, attr_start};
 ghost use Rattle.btree_node.specs.Store.{SameStore};
 ghost use Rattle.btree_node.specs.Tree.{IsTree, pairs_of};
 ghost use Rattle.btree_edit.specs.Causes.{HasTroubleCause};
 ghost use Rattle.btree_edit.specs.Desk.{IsDeskOf};
-ghost use Rattle.btree_edit.specs.Edits.{EditRoom, TakesEdits, TakesAtMost};
 ghost use Rattle.btree_edit.specs.Reading.{ReadsNodes};
-ghost use Rattle.hfs_volume.specs.Changes.{AreSortedAttributes};
-ghost use Rattle.hfs_volume.specs.Commands.{DropsAttributes};
-ghost use Rattle.attributes.specs.Owned.{count_of, DropsFirst, IsFirst, IsKeyIfAny};
-ghost use Rattle.attributes.specs.Values.{AreInline};
+ghost use Rattle.btree_edit.specs.Edits.{EditRoom, TakesEdits, TakesAtMost};
+ghost use Rattle.attributes.specs.Dropping.{DropsCounted, DropsFirst, FindsCounted, FindsFirst, is_named};
+ghost use Rattle.attributes.specs.Owned.{is_of, IsKeyIfAny};
+ghost use Rattle.attributes.specs.Values.{AreSpelled};
 
 use crate::edits::remove_key;
-use crate::pair::name_key;
-use btree_edit::{Desk, next};
-use btree_node::{AttrOrder, KeyOrder, NodeStore};
-use hx_bytes::{Bytes, OutOfMemory, Trouble, Units, read_be32};
+use crate::finding::push_record;
+use crate::holding::{hold_first, hold_owned};
+use crate::pair::is_later_key;
+use crate::value::Dropped;
+use btree_edit::Desk;
+use btree_node::NodeStore;
+use fork_map::ExtentList;
+use hx_bytes::{Bytes, OutOfMemory, Trouble};
 use std::alloc::Global;
 
-/// Removes the attributes of a folder or file, of which there are at most `most`, and answers how many there were.
-pub fn drop_all<N: NodeStore>(
+/// Removes the first record that an attribute still has, by the key of its first one, and answers whether it had one.
+pub(crate) fn drop_first<N: NodeStore>(
     alloc: Global,
     store: &mut N,
     desk: &mut Desk,
-    id: u32,
-    most: u32,
-) -> Result<u32, Trouble>
-    requires desk { IsDeskOf (N.state store.old).shape.node_size desk.old }
+    key: &[u8],
+    blocks: &mut ExtentList,
+) -> Result<bool, Trouble>
     // The least node size that the format allows the attributes file.
     requires size { 4096 ≤ (N.state store.old).shape.node_size }
-    requires tree { IsTrue (N.state store.old).tells → IsTree IsAttrKey attr_cmp (N.state store.old) }
-    requires form { IsTrue (N.state store.old).tells → AreInline (pairs_of (N.state store.old)) }
-    requires few { IsTrue (N.state store.old).tells → count_of id (pairs_of (N.state store.old)) ≤ most }
-    requires room { IsTrue (N.state store.old).tells → EditRoom most 266 (N.state store.old) }
-    // It answers how many attributes the folder or file had.
-    ensures counted { IsTrue (N.state store.old).tells → IfOk result (λ dropped. dropped ≡ count_of id (pairs_of (N.state store.old))) }
-    // They aren't there any more, and all others are as they were.
-    ensures dropped { IsTrue (N.state store.old).tells → OnOk result (DropsAttributes id (pairs_of (N.state store.old)) (pairs_of (N.state store.new))) }
-    ensures sorted { IsTrue (N.state store.old).tells → OnOk result (AreSortedAttributes (pairs_of (N.state store.new))) }
-    ensures form { IsTrue (N.state store.old).tells → OnOk result (AreInline (pairs_of (N.state store.new))) }
-    ensures tree { IsTrue (N.state store.old).tells → OnOk result (IsTree IsAttrKey attr_cmp (N.state store.new)) }
-    ensures desk { IsDeskOf (N.state store.old).shape.node_size desk.new }
-    ensures header { IsTrue (N.state store.old).tells → (N.state store.old).header ≡ (N.state store.old).shape → OnOk result ((N.state store.new).header ≡ (N.state store.new).shape) }
-    ensures edits { OnOk result (TakesEdits most 266 (N.state store.old) (N.state store.new)) }
-    ensures takes { TakesAtMost most 266 (N.state store.old) (N.state store.new) }
-    ensures same { SameStore (N.state store.old) (N.state store.new) }
-    ensures cause { HasTroubleCause (N.state store.old).faults (N.state store.new).faults result }
-    ensures below { N.follows store.old store.new }
-{
-    let start = name_key(alloc, id, &Units::new(alloc))?;
-    let dropped = drop_each(alloc, store, desk, id, most, start.as_slice())?;
-    Ok(dropped)
-}
-
-/// Removes the attributes of a folder or file one after another, each the first above a key, up to so many.
-fn drop_each<N: NodeStore>(
-    alloc: Global,
-    store: &mut N,
-    desk: &mut Desk,
-    id: u32,
-    most: u32,
-    start: &[u8],
-) -> Result<u32, Trouble>
     requires desk { IsDeskOf (N.state store.old).shape.node_size desk.old }
-    requires size { 4096 ≤ (N.state store.old).shape.node_size }
     requires tree { IsTrue (N.state store.old).tells → IsTree IsAttrKey attr_cmp (N.state store.old) }
-    requires form { IsTrue (N.state store.old).tells → AreInline (pairs_of (N.state store.old)) }
-    requires few { IsTrue (N.state store.old).tells → count_of id (pairs_of (N.state store.old)) ≤ most }
-    requires start { IsAttrKey start.now }
-    requires before { (attr_file start.now ≡ id) × (attr_units start.now ≡ []) }
-    requires room { IsTrue (N.state store.old).tells → EditRoom most 266 (N.state store.old) }
-    ensures counted { IsTrue (N.state store.old).tells → IfOk result (λ dropped. dropped ≡ count_of id (pairs_of (N.state store.old))) }
-    ensures dropped { IsTrue (N.state store.old).tells → OnOk result (DropsAttributes id (pairs_of (N.state store.old)) (pairs_of (N.state store.new))) }
-    ensures form { IsTrue (N.state store.old).tells → OnOk result (AreInline (pairs_of (N.state store.new))) }
-    ensures tree { IsTrue (N.state store.old).tells → OnOk result (IsTree IsAttrKey attr_cmp (N.state store.new)) }
-    ensures desk { IsDeskOf (N.state store.old).shape.node_size desk.new }
-    ensures header { IsTrue (N.state store.old).tells → (N.state store.old).header ≡ (N.state store.old).shape → OnOk result ((N.state store.new).header ≡ (N.state store.new).shape) }
-    ensures edits { OnOk result (TakesEdits most 266 (N.state store.old) (N.state store.new)) }
-    ensures takes { TakesAtMost most 266 (N.state store.old) (N.state store.new) }
-    ensures same { SameStore (N.state store.old) (N.state store.new) }
-    ensures cause { HasTroubleCause (N.state store.old).faults (N.state store.new).faults result }
-    ensures below { N.follows store.old store.new }
-{
-    for dropped in 0..most {
-        if !drop_first(alloc, store, desk, id, start)? {
-            return Ok(dropped);
-        }
-    }
-    Ok(most)
-}
-
-/// Removes the first attribute of a folder or file above a key, and answers whether there was one.
-fn drop_first<N: NodeStore>(
-    alloc: Global,
-    store: &mut N,
-    desk: &mut Desk,
-    id: u32,
-    start: &[u8],
-) -> Result<bool, Trouble>
-    requires desk { IsDeskOf (N.state store.old).shape.node_size desk.old }
-    requires size { 4096 ≤ (N.state store.old).shape.node_size }
-    requires tree { IsTrue (N.state store.old).tells → IsTree IsAttrKey attr_cmp (N.state store.old) }
-    requires form { IsTrue (N.state store.old).tells → AreInline (pairs_of (N.state store.old)) }
-    requires start { IsAttrKey start.now }
-    requires before { (attr_file start.now ≡ id) × (attr_units start.now ≡ []) }
+    requires form { IsTrue (N.state store.old).tells → AreSpelled (pairs_of (N.state store.old)) }
+    requires key { IsAttrKey key.now }
+    requires start { attr_start key.now ≡ 0 }
     requires room { IsTrue (N.state store.old).tells → EditRoom 1 266 (N.state store.old) }
-    ensures dropped { IsTrue (N.state store.old).tells → IfOk result (λ some. DropsFirst id (pairs_of (N.state store.old)) (pairs_of (N.state store.new)) some) }
-    ensures form { IsTrue (N.state store.old).tells → OnOk result (AreInline (pairs_of (N.state store.new))) }
+    ensures dropped { IsTrue (N.state store.old).tells → IfOk result (λ some. DropsFirst (is_named (attr_file key.now) (attr_units key.now)) (pairs_of (N.state store.old)) (pairs_of (N.state store.new)) blocks.old blocks.new some) }
+    ensures form { IsTrue (N.state store.old).tells → OnOk result (AreSpelled (pairs_of (N.state store.new))) }
     ensures tree { IsTrue (N.state store.old).tells → OnOk result (IsTree IsAttrKey attr_cmp (N.state store.new)) }
     ensures desk { IsDeskOf (N.state store.old).shape.node_size desk.new }
     ensures header { IsTrue (N.state store.old).tells → (N.state store.old).header ≡ (N.state store.old).shape → OnOk result ((N.state store.new).header ≡ (N.state store.new).shape) }
@@ -117,55 +49,120 @@ fn drop_first<N: NodeStore>(
     ensures cause { HasTroubleCause (N.state store.old).faults (N.state store.new).faults result }
     ensures below { N.follows store.old store.new }
 {
-    match first_of(alloc, store, desk, id, start)? {
+    match first_of(alloc, store, desk, key, blocks)? {
         None => Ok(false),
-        Some(key) => {
-            remove_key(store, desk, key.as_slice())?;
+        Some(own) => {
+            remove_key(store, desk, own.as_slice())?;
             Ok(true)
         }
     }
 }
 
-/// The key of the first attribute of a folder or file above a key; none where there is none.
+/// The key of the first record that an attribute has, whose extents are added to the list; none where it has none.
 fn first_of<N: NodeStore>(
+    alloc: Global,
+    store: &mut N,
+    desk: &mut Desk,
+    key: &[u8],
+    blocks: &mut ExtentList,
+) -> Result<Option<Bytes>, Trouble>
+    requires desk { IsDeskOf (N.state store.old).shape.node_size desk.old }
+    requires tree { IsTrue (N.state store.old).tells → IsTree IsAttrKey attr_cmp (N.state store.old) }
+    requires form { IsTrue (N.state store.old).tells → AreSpelled (pairs_of (N.state store.old)) }
+    requires key { IsAttrKey key.now }
+    requires start { attr_start key.now ≡ 0 }
+    ensures found { IsTrue (N.state store.old).tells → IfOk result (λ found. FindsFirst (is_named (attr_file key.now) (attr_units key.now)) (pairs_of (N.state store.old)) blocks.old blocks.new found) }
+    ensures key { IfOk result (λ found. IsKeyIfAny found) }
+    ensures reads { ReadsNodes (2 * (N.state store.old).shape.depth + 1) (N.state store.old) (N.state store.new) }
+    ensures desk { IsDeskOf (N.state store.old).shape.node_size desk.new }
+    ensures cause { HasTroubleCause (N.state store.old).faults (N.state store.new).faults result }
+    ensures below { N.follows store.old store.new }
+{
+    if !hold_first(store, desk, key)? {
+        return Ok(None);
+    }
+    push_record(alloc, desk.value(), blocks)?;
+    let own = copy_bytes(alloc, desk.key())?;
+    Ok(Some(own))
+}
+
+/// Removes the first record of a folder or file above a key, and answers whether there was one.
+pub(crate) fn drop_next<N: NodeStore>(
     alloc: Global,
     store: &mut N,
     desk: &mut Desk,
     id: u32,
     start: &[u8],
+    gone: &mut Dropped,
+) -> Result<bool, Trouble>
+    requires desk { IsDeskOf (N.state store.old).shape.node_size desk.old }
+    requires size { 4096 ≤ (N.state store.old).shape.node_size }
+    requires tree { IsTrue (N.state store.old).tells → IsTree IsAttrKey attr_cmp (N.state store.old) }
+    requires form { IsTrue (N.state store.old).tells → AreSpelled (pairs_of (N.state store.old)) }
+    requires start { IsAttrKey start.now }
+    requires before { (attr_file start.now ≡ id) × (attr_units start.now ≡ []) }
+    requires room { IsTrue (N.state store.old).tells → EditRoom 1 266 (N.state store.old) }
+    ensures dropped { IsTrue (N.state store.old).tells → IfOk result (λ some. DropsCounted (is_of id) (pairs_of (N.state store.old)) (pairs_of (N.state store.new)) gone.old gone.new some) }
+    ensures form { IsTrue (N.state store.old).tells → OnOk result (AreSpelled (pairs_of (N.state store.new))) }
+    ensures tree { IsTrue (N.state store.old).tells → OnOk result (IsTree IsAttrKey attr_cmp (N.state store.new)) }
+    ensures desk { IsDeskOf (N.state store.old).shape.node_size desk.new }
+    ensures header { IsTrue (N.state store.old).tells → (N.state store.old).header ≡ (N.state store.old).shape → OnOk result ((N.state store.new).header ≡ (N.state store.new).shape) }
+    ensures edits { OnOk result (TakesEdits 1 266 (N.state store.old) (N.state store.new)) }
+    ensures takes { TakesAtMost 1 266 (N.state store.old) (N.state store.new) }
+    ensures same { SameStore (N.state store.old) (N.state store.new) }
+    ensures cause { HasTroubleCause (N.state store.old).faults (N.state store.new).faults result }
+    ensures below { N.follows store.old store.new }
+{
+    match next_owned(alloc, store, desk, id, start, gone)? {
+        None => Ok(false),
+        Some(own) => {
+            remove_key(store, desk, own.as_slice())?;
+            Ok(true)
+        }
+    }
+}
+
+/// The key of the first record of a folder or file above a key, whose extents are added to the list and which is counted if it is the first of its attribute;
+/// none where there is none.
+fn next_owned<N: NodeStore>(
+    alloc: Global,
+    store: &mut N,
+    desk: &mut Desk,
+    id: u32,
+    start: &[u8],
+    gone: &mut Dropped,
 ) -> Result<Option<Bytes>, Trouble>
     requires desk { IsDeskOf (N.state store.old).shape.node_size desk.old }
     requires tree { IsTrue (N.state store.old).tells → IsTree IsAttrKey attr_cmp (N.state store.old) }
-    requires form { IsTrue (N.state store.old).tells → AreInline (pairs_of (N.state store.old)) }
+    requires form { IsTrue (N.state store.old).tells → AreSpelled (pairs_of (N.state store.old)) }
     requires start { IsAttrKey start.now }
     requires before { (attr_file start.now ≡ id) × (attr_units start.now ≡ []) }
-    ensures first { IsTrue (N.state store.old).tells → IfOk result (λ first. IsFirst id (pairs_of (N.state store.old)) first) }
-    ensures key { IfOk result (λ first. IsKeyIfAny first) }
+    ensures found { IsTrue (N.state store.old).tells → IfOk result (λ found. FindsCounted (is_of id) (pairs_of (N.state store.old)) gone.old gone.new found) }
+    ensures key { IfOk result (λ found. IsKeyIfAny found) }
     ensures reads { ReadsNodes ((N.state store.old).shape.depth + 1) (N.state store.old) (N.state store.new) }
     ensures desk { IsDeskOf (N.state store.old).shape.node_size desk.new }
     ensures cause { HasTroubleCause (N.state store.old).faults (N.state store.new).faults result }
     ensures below { N.follows store.old store.new }
 {
-    if !next::<N, AttrOrder>(store, desk, start)? {
+    if !hold_owned(store, desk, id, start)? {
         return Ok(None);
     }
-    let key = desk.key();
-    if !is_key_of(key, id) {
-        return Ok(None);
-    }
-    let copy = copy_bytes(alloc, key)?;
-    Ok(Some(copy))
+    push_record(alloc, desk.value(), &mut gone.blocks)?;
+    gone.count = gone.count.saturating_add(one_if_first(desk.key()));
+    let own = copy_bytes(alloc, desk.key())?;
+    Ok(Some(own))
+}
+
+/// 1 where a key is of the first record of its attribute.
+fn one_if_first(key: &[u8]) -> u32
+    requires { IsAttrKey key.now }
+    ensures { result ≡ (if attr_start key.now == 0 then 1 else 0) }
+{
+    if is_later_key(key) { 0 } else { 1 }
 }
 
 fn copy_bytes(alloc: Global, bytes: &[u8]) -> Result<Bytes, OutOfMemory>
     ensures { IfOk result (λ copy. copy ≡ bytes.now) }
 {
     Ok(Bytes::from_vec(Vec::from_slice(alloc, bytes)?))
-}
-
-/// Whether bytes are a key of an attribute of this folder or file.
-pub(crate) fn is_key_of(key: &[u8], id: u32) -> bool
-    ensures { IsTrue result ↔ (IsAttrKey key.now × (attr_file key.now ≡ id)) }
-{
-    AttrOrder::valid(key) && read_be32(key, 4) == id
 }

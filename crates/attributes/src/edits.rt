@@ -1,14 +1,16 @@
 //! Single edits of the attributes tree, with the room that they need and what they take of it.
-ghost use Rattle.std.specs.Prelude.{◌≡◌, ◌≤◌, ◌<◌, ◌+◌, ◌-◌, ◌*◌, ◌/◌, ◌^◌, IsTrue, length, OnOk, IfOk};
-ghost use Rattle.btree_node.specs.Keys.{IsAttrKey, attr_cmp, attr_file, attr_units, attr_start};
+ghost use Rattle.std.specs.Prelude.{◌≡◌, ◌≤◌, ◌+◌, [], ℕ, List, All, IsTrue, length, OnOk, IfOk};
+ghost use Rattle.btree_node.specs.Keys.{IsAttrKey, attr_cmp};
 ghost use Rattle.btree_node.specs.Store.{HasCause, SameStore};
 ghost use Rattle.btree_node.specs.Tree.{IsTree, pairs_of};
 ghost use Rattle.btree_edit.specs.Answers.{AnswersInsert, AnswersRemove};
 ghost use Rattle.btree_edit.specs.Desk.{IsDeskOf};
 ghost use Rattle.btree_edit.specs.Edits.{EditRoom, TakesEdits, TakesAtMost};
 ghost use Rattle.btree_edit.specs.Sorted.{InsertsPair, RemovesPair};
-ghost use Rattle.hfs_volume.specs.Changes.{DropsAttribute};
-ghost use Rattle.attributes.specs.Values.{AreInline};
+ghost use Rattle.hfs_model.specs.Sorted.{kept};
+ghost use Rattle.attributes.specs.Dropping.{is_named};
+ghost use Rattle.attributes.specs.Forks.{IsShortPair, Part, PutsParts, RisesFrom, SpellParts};
+ghost use Rattle.attributes.specs.Values.{AreSpelled};
 
 use crate::pair::AttributePair;
 use btree_edit::{Desk, Inserted, Removed, insert, remove};
@@ -41,7 +43,36 @@ pub(crate) fn insert_pair<N: NodeStore>(
     insert::<N, AttrOrder>(store, desk, pair.key.as_slice(), pair.value.as_slice())
 }
 
-/// Removes the attribute with this key.
+/// Adds pairs, one after another.
+pub(crate) fn insert_pairs<N: NodeStore>(
+    store: &mut N,
+    desk: &mut Desk,
+    pairs: &[AttributePair],
+) -> Result<(), Failed>
+    requires desk { IsDeskOf (N.state store.old).shape.node_size desk.old }
+    requires size { 4096 ≤ (N.state store.old).shape.node_size }
+    requires tree { IsTrue (N.state store.old).tells → IsTree IsAttrKey attr_cmp (N.state store.old) }
+    requires keys { All IsShortPair pairs.now }
+    requires room { IsTrue (N.state store.old).tells → EditRoom (length pairs.now) 266 (N.state store.old) }
+    // Where they spell the records of one attribute in the order of their keys, and it had none, it has these.
+    ensures put { IsTrue (N.state store.old).tells → (id : ℕ) (name : List ℕ) (parts : List Part) → SpellParts id name parts pairs.now → RisesFrom 0 parts → 1 ≤ length name → AreSpelled (pairs_of (N.state store.old))
+        → kept (is_named id name) (pairs_of (N.state store.old)) ≡ [] → OnOk result (PutsParts id name pairs.now (pairs_of (N.state store.old)) (pairs_of (N.state store.new))) }
+    ensures tree { IsTrue (N.state store.old).tells → OnOk result (IsTree IsAttrKey attr_cmp (N.state store.new)) }
+    ensures desk { IsDeskOf (N.state store.old).shape.node_size desk.new }
+    ensures header { IsTrue (N.state store.old).tells → (N.state store.old).header ≡ (N.state store.old).shape → OnOk result ((N.state store.new).header ≡ (N.state store.new).shape) }
+    ensures edits { OnOk result (TakesEdits (length pairs.now) 266 (N.state store.old) (N.state store.new)) }
+    ensures takes { TakesAtMost (length pairs.now) 266 (N.state store.old) (N.state store.new) }
+    ensures same { SameStore (N.state store.old) (N.state store.new) }
+    ensures cause { HasCause (N.state store.old).faults (N.state store.new).faults result }
+    ensures below { N.follows store.old store.new }
+{
+    for pair in pairs {
+        insert_pair(store, desk, pair)?;
+    }
+    Ok(())
+}
+
+/// Removes the pair with this key.
 pub(crate) fn remove_key<N: NodeStore>(
     store: &mut N,
     desk: &mut Desk,
@@ -54,9 +85,7 @@ pub(crate) fn remove_key<N: NodeStore>(
     requires room { IsTrue (N.state store.old).tells → EditRoom 1 266 (N.state store.old) }
     ensures answer { IsTrue (N.state store.old).tells → IfOk result (λ answer. AnswersRemove attr_cmp key.now (N.state store.old) answer) }
     ensures pairs { IsTrue (N.state store.old).tells → IfOk result (λ answer. RemovesPair attr_cmp key.now (pairs_of (N.state store.old)) (pairs_of (N.state store.new)) answer) }
-    ensures dropped { IsTrue (N.state store.old).tells → AreInline (pairs_of (N.state store.old)) → attr_start key.now ≡ 0
-        → OnOk result (DropsAttribute (attr_file key.now) (attr_units key.now) (pairs_of (N.state store.old)) (pairs_of (N.state store.new))) }
-    ensures form { IsTrue (N.state store.old).tells → AreInline (pairs_of (N.state store.old)) → OnOk result (AreInline (pairs_of (N.state store.new))) }
+    ensures form { IsTrue (N.state store.old).tells → AreSpelled (pairs_of (N.state store.old)) → OnOk result (AreSpelled (pairs_of (N.state store.new))) }
     ensures tree { IsTrue (N.state store.old).tells → OnOk result (IsTree IsAttrKey attr_cmp (N.state store.new)) }
     ensures desk { IsDeskOf (N.state store.old).shape.node_size desk.new }
     ensures header { IsTrue (N.state store.old).tells → (N.state store.old).header ≡ (N.state store.old).shape → OnOk result ((N.state store.new).header ≡ (N.state store.new).shape) }

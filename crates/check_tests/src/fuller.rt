@@ -255,7 +255,7 @@ const ATTRIBUTE: [Patch; 3] = [
 
 /// The change of a record of the table.
 #[derive(Clone, Copy)]
-enum Change {
+pub enum Change {
     /// It isn't there.
     Gone(usize),
     Value(usize, Value),
@@ -298,7 +298,11 @@ fn those_there(alloc: Global, changes: &[Change]) -> Result<Vec<Rec>, OutOfMemor
 }
 
 /// The volume with changed records, and with these bytes put over it.
-fn fuller(alloc: Global, changes: &[Change], patches: &[Patch]) -> Result<Sectors, OutOfMemory> {
+pub fn fuller(
+    alloc: Global,
+    changes: &[Change],
+    patches: &[Patch],
+) -> Result<Sectors, OutOfMemory> {
     let mut view = made(alloc, 4_096, 2_048)?;
     let recs = those_there(alloc, changes)?;
     let node = leaf(alloc, &recs)?;

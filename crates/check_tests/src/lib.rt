@@ -6,6 +6,8 @@ mod blank;
 #[cfg(test)]
 mod chance;
 #[cfg(test)]
+mod forked;
+#[cfg(test)]
 mod fuller;
 #[cfg(test)]
 mod leaves;

@@ -6,3 +6,4 @@ pub mod SpelledWrites
 pub mod OnePass
 pub mod Rooms
 pub mod Lengths
+pub mod Units

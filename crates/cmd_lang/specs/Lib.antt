@@ -1,3 +1,5 @@
+pub mod Escapes
+pub mod Numbers
 pub mod Reads
 pub mod Spellings
 pub mod Written

@@ -1,5 +1,5 @@
 -- A `write` whose value is in its one spelling.
-use Rattle.std.specs.Prelude.{◌≡◌, ◌==◌, ◌++◌, ◌∷◌, ℕ, List, false, codes}
+use Rattle.std.specs.Prelude.{◌≡◌, ◌==◌, ◌++◌, ◌∷◌, ℕ, List, false, codes, take}
 use Rattle.std.specs.List.{All, flat_map}
 use Rattle.std.specs.Str.{IsUtf8}
 use Rattle.hx_bytes.specs.Field.{AreBytes}
@@ -32,3 +32,7 @@ IsSpelledWrite line path from value = (last : List ℕ) × IsWrite line path fro
 -- so many bytes of a text are read, and the rest is to come
 abbrev pub IsReadTo : List ℕ → List ℕ → List ℕ → Type 0
 IsReadTo text value rest = text ≡ flat_map byte_text value ++ rest
+
+-- so many bytes of a text spell these
+abbrev pub IsReadUpTo : List ℕ → ℕ → List ℕ → Type 0
+IsReadUpTo text at value = take at text ≡ flat_map byte_text value

@@ -9,7 +9,7 @@ use crate::pairs::{
     path_offset_value, two_paths,
 };
 use crate::path::read_path;
-use crate::words::{BAD_COMMAND, read_moment};
+use crate::words::{BAD_COMMAND, read_small_number};
 use hfs_language::Command;
 use std::alloc::Global;
 
@@ -47,7 +47,7 @@ fn two_words(alloc: Global, verb: &str, word: &str) -> Result<Command, LineFault
         "ls" => Ok(Command::Ls(read_path(alloc, word)?)),
         "stat" => Ok(Command::Stat(read_path(alloc, word)?)),
         "lsattr" => Ok(Command::LsAttr(read_path(alloc, word)?)),
-        "at" => Ok(Command::At(read_moment(word)?)),
+        "at" => Ok(Command::At(read_small_number(word)?)),
         _ => Err(BAD_COMMAND),
     }
 }

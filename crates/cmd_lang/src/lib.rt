@@ -2,6 +2,7 @@
 #![tactic(auto)]
 
 mod command;
+mod escapes;
 mod fault;
 mod line;
 mod pairs;
@@ -20,9 +21,11 @@ mod words;
 mod written;
 
 pub use fault::LineFault;
-pub use line::{MOST_BYTES, read_line};
+pub use line::{MOST_BYTES, read_line, text_of};
 pub use path::read_path;
+pub use print::push_field;
 pub use reply::print_reply;
+pub use split::{components_of, words_of};
 pub use value::{push_value, read_value};
 pub use valued::read_valued;
-pub use words::read_number;
+pub use words::{BAD_COMMAND, read_number, read_small_number, read_value_text};

@@ -9,7 +9,7 @@ ghost use Rattle.cmd_lang.specs.declared.fault.LineFault.TheVariants.{No};
 
 use crate::LineFault;
 use crate::command::read_command;
-use crate::split::words;
+use crate::split::words_of;
 use crate::words::BAD_COMMAND;
 use crate::written::{read_spelled_write, spelled_write};
 use hfs_language::{Command, Refusal};
@@ -49,12 +49,12 @@ pub(crate) fn read_bytes(alloc: Global, line: &[u8]) -> Result<Command, LineFaul
     }
 }
 
-/// The line as text, where it is UTF-8.
-pub(crate) fn text_of(line: &[u8]) -> Option<&str>
-    ensures text { IfSome result (λ text. (text.now ≡ line.now) × (is_utf8 line.now ≡ true)) }
-    ensures other { IfNone result (is_utf8 line.now ≡ false) }
+/// The bytes as text; none where they aren't UTF-8.
+pub fn text_of(bytes: &[u8]) -> Option<&str>
+    ensures text { IfSome result (λ text. (text.now ≡ bytes.now) × (is_utf8 bytes.now ≡ true)) }
+    ensures other { IfNone result (is_utf8 bytes.now ≡ false) }
 {
-    match str::from_utf8(line) {
+    match str::from_utf8(bytes) {
         Ok(text) => Some(text),
         Err(_) => None,
     }
@@ -64,6 +64,6 @@ pub(crate) fn text_of(line: &[u8]) -> Option<&str>
 fn read_text(alloc: Global, text: &str) -> Result<Command, LineFault>
     ensures { Reads (words_command (slice_split (λ b. b == 32) text.now)) result }
 {
-    let words = words(alloc, text)?;
+    let words = words_of(alloc, text)?;
     read_command(alloc, &words)
 }

@@ -6,7 +6,7 @@ ghost use Rattle.cmd_lang.specs.declared.fault.LineFault.TheVariants.{Memory};
 
 use crate::LineFault;
 use crate::fault::earlier;
-use crate::split::components;
+use crate::split::components_of;
 use crate::words::{BAD_COMMAND, read_name};
 use hfs_language::{Path, Refusal};
 use std::alloc::Global;
@@ -29,7 +29,7 @@ fn read_components(alloc: Global, text: &str) -> Result<Path, LineFault>
     if text.is_empty() {
         return Ok(Path::new(alloc));
     }
-    let components = components(alloc, text)?;
+    let components = components_of(alloc, text)?;
     read_names(alloc, &components)
 }
 

@@ -9,7 +9,7 @@ use itoa::Buffer;
 use std::alloc::{AllocError, Global};
 
 /// Appends a number with a space in front.
-pub(crate) fn push_field(text: &mut Vec<u8>, number: u64) -> Result<(), AllocError>
+pub fn push_field(text: &mut Vec<u8>, number: u64) -> Result<(), AllocError>
     ensures { OnOk result (text.new.items ≡ text.old.items ++ spec.field number) }
 {
     let mut buffer = Buffer::new();

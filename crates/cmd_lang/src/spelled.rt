@@ -81,7 +81,7 @@ fn first_byte(text: &[u8]) -> Option<(u8, &[u8])>
 }
 
 /// What an upper-case hexadecimal digit stands for.
-pub(crate) fn nibble(digit: u8) -> u8 {
+fn nibble(digit: u8) -> u8 {
     (digit & 15).wrapping_add(digit / 64 * 9)
 }
 

@@ -4,15 +4,15 @@ ghost use Rattle.std.specs.List.{slice_split};
 
 use std::alloc::{AllocError, Global};
 
-/// The words of a line, which one space separates.
-pub(crate) fn words(alloc: Global, line: &str) -> Result<Vec<&str>, AllocError>
-    ensures { IfOk result (λ words. map (λ word. word.now) words.items ≡ slice_split (λ b. b == 32) line.now) }
+/// The words of a text, which one space separates.
+pub fn words_of(alloc: Global, text: &str) -> Result<Vec<&str>, AllocError>
+    ensures { IfOk result (λ words. map (λ word. word.now) words.items ≡ slice_split (λ b. b == 32) text.now) }
 {
-    line.split(' ').collect(alloc)
+    text.split(' ').collect(alloc)
 }
 
 /// The components of a path, which a slash separates.
-pub(crate) fn components(alloc: Global, path: &str) -> Result<Vec<&str>, AllocError>
+pub fn components_of(alloc: Global, path: &str) -> Result<Vec<&str>, AllocError>
     ensures { IfOk result (λ components. map (λ component. component.now) components.items ≡ slice_split (λ b. b == 47) path.now) }
 {
     path.split('/').collect(alloc)

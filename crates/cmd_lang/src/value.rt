@@ -5,7 +5,7 @@ ghost use Rattle.hfs_language.specs.Text as spec_text;
 
 use crate::LineFault;
 use crate::print::push_value_text;
-use crate::words::value_in;
+use crate::words::read_value_text;
 use hx_bytes::{Bytes, OutOfMemory};
 use std::alloc::Global;
 
@@ -14,7 +14,7 @@ pub fn read_value(alloc: Global, text: &[u8]) -> Result<Option<Bytes>, OutOfMemo
     ensures value { IfOk result (λ found. IfSome found (λ value. spec.value_of text.now ≡ Ok value)) }
     ensures other { IfOk result (λ found. IfNone found ((value : List ℕ) → spec.value_of text.now ≢ Ok value)) }
 {
-    match value_in(alloc, text) {
+    match read_value_text(alloc, text) {
         Ok(value) => Ok(Some(value)),
         Err(LineFault::No(_)) => Ok(None),
         Err(LineFault::Memory) => Err(OutOfMemory),

@@ -5,6 +5,7 @@ ghost use Rattle.std.specs.Str.Parse.{digits_value};
 ghost use Rattle.percent_encoding.specs.Percent.{percent_decode as unescaped};
 ghost use Rattle.hfs_language.specs.Language as spec;
 ghost use Rattle.hfs_language.specs.Text as spec_text;
+ghost use Rattle.cmd_lang.specs.Numbers.{small_number_of};
 ghost use Rattle.cmd_lang.specs.Reads.{Reads};
 
 use crate::LineFault;
@@ -17,7 +18,8 @@ use name_text::{NameFault, read_component};
 use percent_encoding::percent_decode;
 use std::alloc::{AllocError, Global};
 
-pub(crate) const BAD_COMMAND: LineFault = LineFault::No(Refusal::BadCommand);
+/// The line or word is none of the language.
+pub const BAD_COMMAND: LineFault = LineFault::No(Refusal::BadCommand);
 
 /// The number below 2 to the 64th that a word spells by its decimal digits.
 pub fn read_number(word: &str) -> Result<u64, LineFault>
@@ -41,9 +43,9 @@ fn is_decimal(number: u64, word: &str) -> bool
     buffer.format(number) == word
 }
 
-/// A moment, which is a number below 2 to the 32nd.
-pub(crate) fn read_moment(word: &str) -> Result<u32, LineFault>
-    ensures { Reads (spec.within_moment (spec.number_of word.now)) result }
+/// The number below 2 to the 32nd that a word spells by its decimal digits.
+pub fn read_small_number(word: &str) -> Result<u32, LineFault>
+    ensures { Reads (small_number_of word.now) result }
 {
     match read_number(word) {
         Ok(number) => if number < 0x1_0000_0000 {
@@ -96,11 +98,12 @@ fn octal_value(digits: &[u8]) -> u16
 pub(crate) fn read_value(alloc: Global, word: &str) -> Result<Bytes, LineFault>
     ensures { Reads (spec.value_of word.now) result }
 {
-    value_in(alloc, word.as_bytes())
+    read_value_text(alloc, word.as_bytes())
 }
 
-/// The same of bytes: in one pass where it is in its one spelling, and otherwise by its own rule.
-pub(crate) fn value_in(alloc: Global, text: &[u8]) -> Result<Bytes, LineFault>
+/// The value that a text spells as it is printed.
+// It is read in one pass where it is in its one spelling, and otherwise by its own rule.
+pub fn read_value_text(alloc: Global, text: &[u8]) -> Result<Bytes, LineFault>
     ensures { Reads (spec.value_of text.now) result }
 {
     match value_bytes(alloc, text)? {

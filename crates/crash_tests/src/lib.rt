@@ -25,3 +25,5 @@ mod runs;
 mod tests;
 #[cfg(test)]
 mod twice;
+#[cfg(test)]
+mod values;

@@ -19,7 +19,7 @@ mark_nothing xs start count v none =
     ap (λ n. take start xs ++ (replicate n v ++ drop (start + n) xs)) none
     ∙ ap (λ n. take start xs ++ drop n xs) (let e : start + 0 ≡ start = omega arith in e) ∙ take-append-drop start xs
 
-given_nothing : (e : Extent) (map : BlockMap) → e.count ≡ 0 → given (e ∷ []) map ≡ map
+pub given_nothing : (e : Extent) (map : BlockMap) → e.count ≡ 0 → given (e ∷ []) map ≡ map
 given_nothing e map none =
     ap (λ (u : List Bool). record map { used = u; held = mark map.held e true; changed = mark map.changed (touched_by e) true }) (mark_nothing map.used e.start e.count false none)
     ∙ ap (λ (h : List Bool). record map { held = h; changed = mark map.changed (touched_by e) true }) (mark_nothing map.held e.start e.count true none)
@@ -34,7 +34,7 @@ first_used map e rest used k low high =
     get_or_append_left (range_with_len e.start e.count) (blocks_of rest) 0 j inside ∙ get_or-range_with_len e.start e.count j 0 (omega (arith, low, high)) ∙ (let s : e.start + j ≡ k = omega (arith, low) in s) in
     subst (λ b. get_or map.used b false ≡ true) here (used j 0 (omega (arith, inside, length-append (range_with_len e.start e.count) (blocks_of rest))))
 
-rest_used : (map : BlockMap) (e : Extent) (rest : List Extent) → AreUsed map (blocks_of (e ∷ rest)) → AreUsed map (blocks_of rest)
+pub rest_used : (map : BlockMap) (e : Extent) (rest : List Extent) → AreUsed map (blocks_of (e ∷ rest)) → AreUsed map (blocks_of rest)
 rest_used map e rest used = λ k d lt.
     let n : ℕ = e.count + k in
     let long = length-range_with_len e.start e.count in
@@ -42,7 +42,7 @@ rest_used map e rest used = λ k d lt.
     (get_or-append_right (range_with_len e.start e.count) (blocks_of rest) e.count n d long (omega arith) ∙ ap (λ m. get_or (blocks_of rest) m d) (let s : n - e.count ≡ k = omega arith in s))
     (used n d (omega (arith, lt, long, length-append (range_with_len e.start e.count) (blocks_of rest))))
 
-used_fits : (map : BlockMap) (e : Extent) (rest : List Extent) → AreUsed map (blocks_of (e ∷ rest)) → 0 < e.count → e.start + e.count ≤ length map.used
+pub used_fits : (map : BlockMap) (e : Extent) (rest : List Extent) → AreUsed map (blocks_of (e ∷ rest)) → 0 < e.count → e.start + e.count ≤ length map.used
 used_fits map e rest used some = ⊎_elim
     (λ (lt : e.start + e.count - 1 < length map.used). let le : e.start + e.count ≤ length map.used = omega (arith, lt) in le)
     (λ (past : length map.used ≤ e.start + e.count - 1). absurd (let clash : false ≡ true = sym (get_or_past map.used (e.start + e.count - 1) false past) ∙ first_used map e rest used (e.start + e.count - 1) (omega (arith, some)) (omega (arith, some)) in cc clash))

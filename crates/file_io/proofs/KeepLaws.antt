@@ -1,16 +1,16 @@
 -- What stays of a bitmap of which blocks are taken and given back.
-use Rattle.std.proofs.Common.{◌≡◌, ◌≤◌, ℕ, ◌+◌, true, false, List, [], ◌∷◌, length, refl, sym, ◌∙◌, ap, subst, arith, ⊎_elim}
-use Rattle.std.specs.Prelude.{map as map_list}
+use Rattle.std.proofs.Common.{◌≡◌, ◌⊎◌, inl, inr, ◌≤◌, ℕ, ◌+◌, Bool, true, false, List, [], ◌∷◌, length, get_or, refl, sym, ◌∙◌, ap, subst, arith, ⊎_elim}
+use Rattle.std.specs.Prelude.{map as map_list, if◌then◌else◌}
 use Rattle.std.proofs.lemmas.Bool.Decides.{eqb_tells}
 use Rattle.hx_bytes.specs.declared.extents.Extent.{Extent}
-use Rattle.flag_rows.specs.Bits.{sectors_for}
+use Rattle.flag_rows.specs.Bits.{has, mark, sectors_for}
 use Rattle.flag_rows.specs.Marks.{Fit, mark_all}
-use Rattle.flag_rows.proofs.RowLaws.{length-mark}
+use Rattle.flag_rows.proofs.RowLaws.{get_or-mark, length-mark}
 use Rattle.flag_rows.proofs.TakeLaws.{length-mark_all}
 use Rattle.alloc_bitmap.specs.Map.{BlockMap, Have, free_of, touched_by}
 use Rattle.alloc_bitmap.proofs.MapLaws.{length-open}
 use Rattle.alloc_bitmap.proofs.TakeLaws.{fit_chosen}
-use Rattle.file_io.specs.Places.{KeepsMap, fresh_of, given, taken}
+use Rattle.file_io.specs.Places.{KeepsMap, LosesNone, fresh_of, given, taken}
 
 pub keeps_none : (map : BlockMap) → KeepsMap map map
 keeps_none map = record { fork = refl; per_block = refl; used = refl; changed = refl }
@@ -31,7 +31,7 @@ touched_fits n e fits = ⊎_elim
     (λ some. rw some.0 (omega (arith, fits)))
     (eqb_tells e.count 0)
 
-fit_touched : (n : ℕ) (es : List Extent) → Fit n es → Fit (sectors_for n) (map_list (λ (e : Extent). touched_by e) es)
+pub fit_touched : (n : ℕ) (es : List Extent) → Fit n es → Fit (sectors_for n) (map_list (λ (e : Extent). touched_by e) es)
 fit_touched n [] fit = fit
 fit_touched n (e ∷ es) fit = (touched_fits n e fit.0, fit_touched n es fit.1)
 
@@ -57,3 +57,33 @@ keeps_taken map n marks =
 pub keeps_take : (map new : BlockMap) (n : ℕ) (list : List Extent) → list ≡ fresh_of map n → new ≡ record map { used = mark_all map.used list true; changed = mark_all map.changed (map_list (λ (e : Extent). touched_by e) list) true } → HasMarks map → KeepsMap map new
 keeps_take map new n list rule is marks =
     subst (λ (m : BlockMap). KeepsMap map m) (sym (is ∙ ap (λ (l : List Extent). record map { used = mark_all map.used l true; changed = mark_all map.changed (map_list (λ (e : Extent). touched_by e) l) true }) rule)) (keeps_taken map n marks)
+
+-- ---- blocks that are used or held
+
+pub loses_none : (map : BlockMap) → LosesNone map map
+loses_none map = record { long = λ long. long; each = λ long block was. was }
+
+pub loses_both : (a b c : BlockMap) → LosesNone a b → LosesNone b c → LosesNone a c
+loses_both a b c p q = record { long = λ long. q.long (p.long long); each = λ long block was. q.each (p.long long) block (p.each long block was) }
+
+module _ (map : BlockMap) (e : Extent) (have : Have map.used e true) (long : length map.held ≡ length map.used) where
+  used_is : (k : ℕ) → get_or (mark map.used e false) k false ≡ (if has e k then false else get_or map.used k false)
+  used_is k = get_or-mark map.used e false k false have.inside
+
+  held_is : (k : ℕ) → get_or (mark map.held e true) k false ≡ (if has e k then true else get_or map.held k false)
+  held_is k = get_or-mark map.held e true k false (omega (arith, have.inside, long))
+
+  either : (k : ℕ) → (get_or map.used k false ≡ true) ⊎ (get_or map.held k false ≡ true) → (get_or (mark map.used e false) k false ≡ true) ⊎ (get_or (mark map.held e true) k false ≡ true)
+  either k was = by (has e k) refl was
+    where
+      by : (b : Bool) → has e k ≡ b → (get_or map.used k false ≡ true) ⊎ (get_or map.held k false ≡ true) → (get_or (mark map.used e false) k false ≡ true) ⊎ (get_or (mark map.held e true) k false ≡ true)
+      by true here any = inr (held_is k ∙ ap (λ b. if b then true else get_or map.held k false) here)
+      by false here (inl used) = inl (used_is k ∙ ap (λ b. if b then false else get_or map.used k false) here ∙ used)
+      by false here (inr held) = inr (held_is k ∙ ap (λ b. if b then true else get_or map.held k false) here ∙ held)
+
+-- what is given back is held
+pub loses_given : (map : BlockMap) (e : Extent) → Have map.used e true → LosesNone map (given (e ∷ []) map)
+loses_given map e have = record {
+  long = λ long. length-mark map.held e true (omega (arith, have.inside, long)) ∙ long ∙ sym (length-mark map.used e false have.inside);
+  each = λ long block was. either map e have long block was;
+}

@@ -6,6 +6,7 @@ pub mod SpillLaws
 pub mod AroundLaws
 pub mod GiveLaws
 pub mod KeepLaws
+pub mod MarkLaws
 pub mod CutLaws
 pub mod PlaceLaws
 pub mod AfterLaws

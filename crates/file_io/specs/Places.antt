@@ -1,5 +1,5 @@
 -- Which blocks a write makes anew.
-use Rattle.std.specs.Prelude.{ℕ, ◌+◌, ◌-◌, ◌/◌, min, if◌then◌else◌, ◌==◌, ◌≡◌, true, false, List, length, slice_index_or}
+use Rattle.std.specs.Prelude.{◌⊎◌, ℕ, ◌+◌, ◌-◌, ◌/◌, min, if◌then◌else◌, ◌==◌, ◌≡◌, true, false, List, length, slice_index_or}
 use Rattle.std.specs.Prelude.{map as map_list}
 use Rattle.std.specs.List.{All}
 use Rattle.flag_rows.specs.Marks.{mark_all}
@@ -65,3 +65,8 @@ pub record KeepsMap (old new : BlockMap) : Type 0 where
   pub per_block : new.per_block ≡ old.per_block
   pub used : length new.used ≡ length old.used
   pub changed : length new.changed ≡ length old.changed
+
+-- Each block that was used or held is used or held.
+pub record LosesNone (old new : BlockMap) : Type 0 where
+  pub long : length old.held ≡ length old.used → length new.held ≡ length new.used
+  pub each : length old.held ≡ length old.used → (block : ℕ) → (slice_index_or old.used block false ≡ true) ⊎ (slice_index_or old.held block false ≡ true) → (slice_index_or new.used block false ≡ true) ⊎ (slice_index_or new.held block false ≡ true)

@@ -10,6 +10,6 @@ mod writing;
 mod zeroing;
 
 pub use reading::read;
-pub use shrinking::shrink_step;
+pub use shrinking::{blocks_in, give_all, shrink_step};
 pub use writing::{grow_step, write};
 pub use zeroing::zero_step;

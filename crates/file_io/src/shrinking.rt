@@ -3,8 +3,8 @@ ghost use Rattle.std.specs.Prelude.{◌≡◌, ◌<◌, ◌≤◌, ◌+◌, ◌-
 ghost use Rattle.fork_map.specs.Blocks.{blocks_of};
 ghost use Rattle.fork_map.specs.Cut.{front, back};
 ghost use Rattle.alloc_bitmap.specs.Apart.{AreApart};
-ghost use Rattle.flag_rows.specs.Bits.{sectors_for};
-ghost use Rattle.file_io.specs.Places.{given, AreUsed, KeepsMap};
+ghost use Rattle.flag_rows.specs.Bits.{count_set, sectors_for};
+ghost use Rattle.file_io.specs.Places.{given, AreUsed, KeepsMap, LosesNone};
 
 use alloc_bitmap::Bitmap;
 use fork_map::ExtentList;
@@ -16,6 +16,10 @@ pub fn give_all(alloc: Global, map: &mut Bitmap, list: &[Extent]) -> Result<(), 
     ensures given { AreApart (blocks_of list.now) → AreUsed map.old (blocks_of list.now) → OnOk result (map.new ≡ given list.now map.old) }
     // Also where it fails, it is a bitmap of the same volume.
     ensures keeps { length map.old.changed ≡ sectors_for (length map.old.used) → KeepsMap map.old map.new }
+    // Each block that was used or held is used or held, also where it fails.
+    ensures none_lost { LosesNone map.old map.new }
+    // At most one sector of the bitmap for each block has bits that were changed, then too.
+    ensures few { count_set map.new.changed ≤ count_set map.old.changed + length (blocks_of list.now) }
 {
     for extent in list {
         if map.have(*extent, true) {
@@ -63,7 +67,7 @@ pub fn shrink_step(
     Ok(stays)
 }
 
-/// How many blocks extents have.
+/// How many blocks extents have; at most the largest `u64` is said.
 pub fn blocks_in(items: &[Extent]) -> u64
     ensures { result ≡ min (length (blocks_of items.now)) (2 ^ 64 - 1) }
 {

@@ -8,6 +8,7 @@ ghost use Rattle.sector_disk.specs.Lists.{sector};
 ghost use Rattle.sector_disk.specs.Clock.{TimePasses};
 ghost use Rattle.sector_disk.specs.Space.{SameSpace, SameRoom, LeavesDurable};
 ghost use Rattle.fork_map.specs.Blocks.{blocks_of, AreNumbers};
+ghost use Rattle.fork_map.specs.Cut.{front, back, join};
 ghost use Rattle.flag_rows.specs.Bits.{count_set, sectors_for};
 ghost use Rattle.alloc_bitmap.specs.Apart.{AreApart};
 ghost use Rattle.alloc_bitmap.specs.Map.{free_of, PicksFree};
@@ -49,6 +50,8 @@ pub fn write<P: SectorSpace>(
         HoldZeros (P.SectorView.space space.old).content (sectors_in block (fresh_of map.old (new_blocks block size from (from + length value.now)))) (zeros_at block size from (from + length value.now) * (block / 512)) (zeroed * (block / 512)) }
     requires may_spill { (taken_block : ℕ) (sector : ℕ) → slice_index_or (free_of map.old) taken_block false ≡ true → taken_block * (block / 512) ≤ sector → sector < taken_block * (block / 512) + block / 512 → MaySpill (P.SectorView.space space.old) sector }
     ensures blocks { 0 < length value.now → IfOk result (λ list. blocks_of list ≡ take (first_block block size from) (blocks_of fork.now) ++ blocks_of (fresh_of map.old (new_blocks block size from (from + length value.now))) ++ drop (old_end block size (from + length value.now)) (blocks_of fork.now)) }
+    // Extents are joined at the two seams alone.
+    ensures extents { 0 < length value.now → IfOk result (λ list. list ≡ join (join (front (first_block block size from) fork.now) (fresh_of map.old (new_blocks block size from (from + length value.now)))) (back (old_end block size (from + length value.now)) fork.now)) }
     ensures bytes { IsTrue (P.SectorView.space space.old).tells → 0 < length value.now → IfOk result (λ list.
         take (max size (from + length value.now)) (fork_bytes (P.SectorView.space space.new).content block list) ≡ written (take size (fork_bytes (P.SectorView.space space.old).content block fork.now)) from value.now) }
     ensures holds { 0 < length value.now → IfOk result (λ list. max size (from + length value.now) ≤ length (sectors_in block list) * 512) }
@@ -159,6 +162,7 @@ fn rewrite<P: SectorSpace>(
         HoldZeros (P.SectorView.space space.old).content (sectors_in block (fresh_of map.old (new_blocks block size from end))) (zeros_at block size from end * (block / 512)) (zeroed * (block / 512)) }
     requires may_spill { (taken_block : ℕ) (sector : ℕ) → slice_index_or (free_of map.old) taken_block false ≡ true → taken_block * (block / 512) ≤ sector → sector < taken_block * (block / 512) + block / 512 → MaySpill (P.SectorView.space space.old) sector }
     ensures blocks { IfOk result (λ list. blocks_of list ≡ take (first_block block size from) (blocks_of fork.now) ++ blocks_of (fresh_of map.old (new_blocks block size from end)) ++ drop (old_end block size end) (blocks_of fork.now)) }
+    ensures extents { IfOk result (λ list. list ≡ join (join (front (first_block block size from) fork.now) (fresh_of map.old (new_blocks block size from end))) (back (old_end block size end) fork.now)) }
     ensures bytes { IsTrue (P.SectorView.space space.old).tells → IfOk result (λ list. (q : ℕ) → q < max size end →
         byte_in (P.SectorView.space space.new).content (sectors_in block list) q ≡ new_byte (P.SectorView.space space.old).content (sectors_in block fork.now) size from value.now q) }
     ensures enough { IfOk result (λ list. max size end ≤ length (sectors_in block list) * 512) }
@@ -221,6 +225,7 @@ fn remake(
     ensures fresh { IfOk result (λ parts. parts.0 ≡ fresh_of map.old (behind - first)) }
     ensures picks { IfOk result (λ parts. PicksFree (free_of map.old) (behind - first) parts.0) }
     ensures blocks { IfOk result (λ parts. blocks_of parts.1 ≡ take first (blocks_of fork.now) ++ blocks_of parts.0 ++ drop old_behind (blocks_of fork.now)) }
+    ensures extents { IfOk result (λ parts. parts.1 ≡ join (join (front first fork.now) (fresh_of map.old (behind - first))) (back old_behind fork.now)) }
     ensures map { AreApart (blocks_of fork.now) → OnOk result (map.new ≡ given (middle first old_behind fork.now) (taken (behind - first) map.old)) }
     ensures keeps { length map.old.changed ≡ sectors_for (length map.old.used) → KeepsMap map.old map.new }
 {

@@ -100,7 +100,7 @@ impl<'a> Out<'a> {
         node.path = path;
         match reply {
             Reply::Content(value) => self.keep_value(&name, value.into_vec())?,
-            other => self.lose(&node, &other)?,
+            other => self.lose_value(&node, &name, &other)?,
         }
         self.walk.push(Next::Entry { node, facts })
     }

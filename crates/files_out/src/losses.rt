@@ -5,20 +5,42 @@ use crate::shown::{shown_path, word_of_name};
 use crate::walk::Node;
 use cmd_lang::print_reply;
 use files_talk::{Facts, reason_of};
-use hfs_language::{Path, Reply};
-use hx_bytes::OutOfMemory;
+use hfs_language::{Path, Refusal, Reply};
+use hx_bytes::{OutOfMemory, Units};
 use std::alloc::AllocError;
 
 impl<'a> Out<'a> {
     /// Tells that an entry of the volume is left out, for the reason that a reply gives.
     pub(crate) fn lose(&mut self, node: &Node, reply: &Reply) -> Result<(), AllocError> {
+        let why = self.reason(reply)?;
+        self.lose_for(&node.path, why.as_str())
+    }
+
+    /// Tells that an attribute of an entry is left out, for the reason that a reply gives: that it is too large, or another one.
+    pub(crate) fn lose_value(
+        &mut self,
+        node: &Node,
+        name: &Units,
+        reply: &Reply,
+    ) -> Result<(), AllocError> {
+        let alloc = self.notes.rt().alloc();
+        let word = word_of_name(alloc, name)?;
+        let reason = match reply {
+            Reply::No(Refusal::TooLarge) => self.reason(&Reply::No(Refusal::AttributeTooLarge))?,
+            _ => self.reason(reply)?,
+        };
+        let why = format!(in alloc; "its attribute {}: {}", word.as_str(), reason.as_str())?;
+        self.lose_for(&node.path, why.as_str())
+    }
+
+    // The reason that a reply gives.
+    fn reason(&self, reply: &Reply) -> Result<String, AllocError> {
         let alloc = self.notes.rt().alloc();
         let text = match print_reply(alloc, reply) {
             Ok(text) => text,
             Err(OutOfMemory) => return Err(AllocError),
         };
-        let why = reason_of(alloc, text.as_slice().trim_ascii_end())?;
-        self.lose_for(&node.path, why.as_str())
+        reason_of(alloc, text.as_slice().trim_ascii_end())
     }
 
     /// Tells that an entry of the volume is left out, for a reason.

@@ -35,6 +35,7 @@ fn meaning_of(refusal: &str) -> Option<&'static str> {
         "TooDeep" | "OverflowFull" => Some("the volume's trees can't grow further"),
         "TooBig" => Some("the volume's journal is too small for it"),
         "TooLarge" => Some("a file can't be so large"),
+        "AttributeTooLarge" => Some("an attribute has at most 131,072 bytes"),
         "TooLong" => Some("its path is too long"),
         "NameTooLong" => Some("its name has more than 255 UTF-16 units"),
         "Private" => Some("the volume keeps this name for itself"),

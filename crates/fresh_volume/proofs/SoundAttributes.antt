@@ -1,4 +1,5 @@
 -- The two files of the journal of a volume that was just made, in its content.
+use Rattle.hfs_volume.specs.Values.{IsValue}
 use Rattle.std.proofs.Common.{◌≡◌, ℕ, ◌+◌, ◌-◌, ◌*◌, ◌/◌, ◌^◌, ◌<◌, ◌==◌, Bool, true, false, List, [], ◌∷◌, length, if◌then◌else◌, IsTrue, refl, sym, ◌∙◌, ap, subst, arith}
 use Rattle.std.specs.List.{All, AllByRecursion}
 use Rattle.std.proofs.lemmas.List.Elements.{All-nil}
@@ -10,7 +11,7 @@ use Rattle.jnl_format.specs.Recovery.{Content, sector, info_sector_of, header_of
 use Rattle.jnl_format.specs.declared.structures.Info.{Info}
 use Rattle.hfs_model.specs.Step.{journal_name, journal_info_name}
 use Rattle.hfs_model.specs.Fresh.{new_entry, no_fork}
-use Rattle.hfs_volume.specs.Records.{Placed, Overflow}
+use Rattle.hfs_volume.specs.Records.{Placed, Overflow, Attribute}
 use Rattle.hfs_volume.specs.Forks.{extents_of, data_kind, parts_for}
 use Rattle.hfs_volume.specs.Content.{JournalPlace, volume_of, records_of, overflow_in_volume, has_attributes}
 use Rattle.hfs_volume.specs.Attributes.{IsAttribute, IsOneExtent, journal_extent, info_extent}
@@ -107,6 +108,7 @@ module _ (sectors block journal : ℕ) (name : List ℕ) (old new : Content) (si
       let head = head_of_state in
       record {
         each = no_pairs_left pairs;
+        values = subst (λ (l : List Attribute). All (IsValue l) l) (sym records.attributes) (All-nil (IsValue []));
         journal = moved journal_name (journal_extent (fresh_header layout) place) (journal_extent (volume_of new).head (volume_of new).journal)
             (ap (λ (h : VolumeHeader). journal_extent h (volume_of new).journal) head ∙ ap (journal_extent (fresh_header layout)) place_is) records journal_stands;
         info_block = moved journal_info_name (info_extent (fresh_header layout)) (info_extent (volume_of new).head) (ap info_extent head) records info_stands;

@@ -1,5 +1,7 @@
 -- The header and the blocks of a volume that was just made, in its content.
-use Rattle.std.proofs.Common.{◌≡◌, ℕ, ◌+◌, ◌-◌, ◌*◌, ◌/◌, ◌^◌, ◌<◌, ◌≤◌, false, List, [], length, map, IsTrue, refl, sym, ◌∙◌, ap, subst, arith, ⊎_elim, mul_assoc}
+use Rattle.alloc_bitmap.proofs.ApartLaws.{times-append}
+use Rattle.hfs_volume.specs.Values.{blocks_of_values}
+use Rattle.std.proofs.Common.{◌≡◌, ℕ, ◌+◌, ◌-◌, ◌*◌, ◌/◌, ◌^◌, ◌<◌, ◌≤◌, false, List, [], length, map, IsTrue, refl, sym, ◌∙◌, ap, subst, arith, ⊎_elim, mul_assoc, ◌++◌}
 use Rattle.std.specs.List.{All, AllByRecursion, range_with_len}
 use Rattle.std.proofs.lemmas.Bool.{cases_lt}
 use Rattle.std.proofs.lemmas.List.{get_or_past}
@@ -14,10 +16,10 @@ use Rattle.btree_node.specs.TreeFile.{TreeFile, TreeHead}
 use Rattle.btree_node.specs.declared.codec.TreeHeader.{TreeHeader}
 use Rattle.jnl_format.specs.Recovery.{Content, sector, header_of_volume}
 use Rattle.hfs_model.specs.Fresh.{empty_tree, catalog_tree}
-use Rattle.hfs_volume.specs.Records.{Overflow}
+use Rattle.hfs_volume.specs.Records.{Overflow, Attribute}
 use Rattle.hfs_volume.specs.Forks.{Owned, used_blocks, all_forks}
 use Rattle.hfs_volume.specs.Content.{volume_of, overflow_in_volume, is_set, bit_in, bitmap_sectors, facts_of, extents_file, catalog_file, attributes_file}
-use Rattle.hfs_volume.specs.Blocks.{HasBlocks, HasForks, HasFiles, HasBits, HasSizes, HasFork, HasTreeSize, GoesOn, GoOnBad, LieInside, IsGoodHeader, AgreesWith, used_in, forks_of, is_among, count_used}
+use Rattle.hfs_volume.specs.Blocks.{HasBlocks, HasForks, HasFiles, HasBits, HasSizes, HasFork, HasTreeSize, GoesOn, GoOnBad, LieInside, IsGoodHeader, AgreesWith, used_in, forks_of, is_among, count_used, HasValueSizes}
 use Rattle.volume_make.specs.declared.layout.Layout.{Layout}
 use Rattle.volume_make.specs.Layout.{CanBe, IsFitting, layout_of, count_of, end_of, is_used}
 use Rattle.volume_make.specs.Refusal.{is_name}
@@ -90,10 +92,14 @@ module _ (sectors block journal : ℕ) (name : List ℕ) (old new : Content) (si
   abbrev used : List ℕ
   used = used_in (volume_of new)
 
+  no_values : (k : ℕ) → times k (blocks_of_values []) ≡ 0
+  unfolding blocks_of_values
+  no_values k = refl
+
   used_are : (k : ℕ) → times k used ≡ times k (range_with_len 0 (end_of layout.catalog)) + times k (range_with_len layout.last.start layout.last.count)
   used_are k =
-      let same : used ≡ used_blocks sectors (fresh_header layout) (fresh_records layout name) [] = λ i. used_blocks (sectors_are i) (head_of_state i) (found.records i) (found.overflow i) in
-      ap (λ (l : List ℕ). times k l) same ∙ times_used sectors block journal name can bitmap_some k
+      let same : used ≡ used_blocks sectors (fresh_header layout) (fresh_records layout name) [] ++ blocks_of_values [] = λ i. used_blocks (sectors_are i) (head_of_state i) (found.records i) (found.overflow i) ++ blocks_of_values (found.attributes i) in
+      omega (arith, ap (λ (l : List ℕ). times k l) same, times-append k (used_blocks sectors (fresh_header layout) (fresh_records layout name) []) (blocks_of_values []), no_values k, times_used sectors block journal name can bitmap_some k)
 
   behind : end_of layout.catalog ≤ layout.last.start
   behind = apart sectors block journal name can
@@ -187,6 +193,7 @@ module _ (sectors block journal : ℕ) (name : List ℕ) (old new : Content) (si
             (subst (λ (l : List Owned). All (GoesOn []) l) (sym forks_are) (all_go_on sectors block journal name can));
         bad_goes_on = subst (λ (o : List Overflow). GoOnBad o) (sym found.overflow) (tt, tt);
         owned = subst (λ (o : List Overflow). All (HasFork forks) o) (sym found.overflow) (All-nil (HasFork forks));
+        values = subst (λ (l : List Attribute). All (HasValueSizes (volume_of new).head.total_blocks (volume_of new).head.block_size l) l) (sym found.attributes) (All-nil (HasValueSizes (volume_of new).head.total_blocks (volume_of new).head.block_size []));
         once = each_once used (end_of layout.catalog) layout.last behind used_are;
       }
 

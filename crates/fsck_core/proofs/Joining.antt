@@ -93,7 +93,7 @@ pub lists_are_sound : (volume : VolumeState) → IsGoodHeader volume.sectors vol
 lists_are_sound volume header alternate files keep = record {
   entries = entries_hold volume.head volume.catalog_pairs keep.threads keep.rooted keep.counts.valences keep.counts.counts keep.ids;
   links = keep.names.links;
-  attributes = keep.names.attributes;
+  attributes = keep.names.attributes.attributes;
   blocks = record {
     header = header;
     alternate = alternate;
@@ -104,6 +104,7 @@ lists_are_sound volume header alternate files keep = record {
       goes_on = keep.forks.goes_on;
       bad_goes_on = keep.forks.bad_goes_on;
       owned = keep.forks.owned;
+      values = keep.names.attributes.sizes;
       once = keep.once;
     };
     bits = bits_hold volume keep.counts.bits keep.counts.free;

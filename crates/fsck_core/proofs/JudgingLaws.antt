@@ -3,21 +3,21 @@ use Rattle.std.proofs.Common.{◌≡◌, ◌⊎◌, ◌↔◌, ◌<◌, ◌≤�
 use Rattle.std.specs.Prelude.{Contains, IsTrue, All, Result, Ok, Err, IfOk}
 use Rattle.std.specs.List.{flat_map, count_by}
 use Rattle.std.specs.List.Sorted.{IsNonDecreasingBy}
+use Rattle.std.proofs.lemmas.List.Elements.{Contains-append_left, Contains-append_right}
 use Rattle.alloc_bitmap.specs.Apart.{AreApart}
 use Rattle.btree_node.specs.Keys.{IsCatalogKey}
 use Rattle.btree_node.specs.Levels.{Pair}
 use Rattle.fsck_list.specs.declared.finding.Finding.{Finding as Listed}
 use Rattle.hfs_volume.specs.Blocks.{GoesOn, GoOnBad, HasFork, HasSizes, LieInside, forks_of, used_in}
-use Rattle.hfs_volume.specs.Broken.{Finding, AllMet, IsUnmet, IsFailed, FailsKind, FailsThread, FailsParent, FailsOverflow, FailsAttribute, id_wants, fork_wants, overflow_wants}
+use Rattle.hfs_volume.specs.Broken.{Finding, AllMet, IsUnmet, IsFailed, FailsKind, FailsThread, FailsParent, FailsOverflow, Want, want, id_wants, fork_wants, overflow_wants, value_wants}
 use Rattle.hfs_volume.specs.Changes.{AreSorted}
-use Rattle.hfs_volume.specs.Content.{VolumeState, records_of, overflow_in_volume}
+use Rattle.hfs_volume.specs.Content.{VolumeState, records_of, overflow_in_volume, attributes_of}
 use Rattle.hfs_volume.specs.Entries.{AreSpelled, AreThreaded, AreRooted}
 use Rattle.hfs_volume.specs.Links.{AreLinks}
-use Rattle.hfs_volume.specs.Attributes.{AreAttributes}
 use Rattle.hfs_volume.specs.Records.{Placed, Overflow, placed_in, entries_of, id_of, is_thread, is_empty}
 use Rattle.hfs_volume.specs.Forks.{Owned, all_forks}
 use Rattle.hfs_volume.proofs.Members.{at_front}
-use Rattle.fsck_core.specs.Attributes.{HasAttributes}
+use Rattle.fsck_core.specs.Attributes.{HasAttributes, KeepsAttributes, IsBrokenOfNames}
 use Rattle.fsck_core.specs.Catalogs.{IsCatalog, HasRows}
 use Rattle.fsck_core.specs.Decided.{Decided}
 use Rattle.fsck_core.specs.Links.{IsBrokenName}
@@ -73,13 +73,26 @@ module _ (pairs : List Pair) (keys : All (λ (pair : Pair). IsCatalogKey pair.0)
 
 -- ---- each rule, in the words of the lists
 
+-- rule 16, of the forks of files and of those of attributes
+abbrev file_sizes : VolumeState → List Want
+file_sizes volume = flat_map (fork_wants volume) (forks_of volume) ++ flat_map (overflow_wants volume) (overflow_in_volume volume)
+
+abbrev value_sizes : VolumeState → List Want
+value_sizes volume = flat_map (value_wants volume) (attributes_of volume)
+
+of_forks : (volume : VolumeState) (f : Finding) → IsUnmet 16 f (file_sizes volume) → IsBrokenList volume f
+of_forks volume f unmet = inr (inr (inr (inr (inr (inr (inr (inl (unmet.0, unmet.1, Contains-append_left (file_sizes volume) (value_sizes volume) (want f.place f.found f.wanted) unmet.2))))))))
+
+of_values : (volume : VolumeState) (f : Finding) → IsUnmet 16 f (value_sizes volume) → IsBrokenList volume f
+of_values volume f unmet = inr (inr (inr (inr (inr (inr (inr (inl (unmet.0, unmet.1, Contains-append_right (file_sizes volume) (value_sizes volume) (want f.place f.found f.wanted) unmet.2))))))))
+
 pub sizes_passed : (volume : VolumeState) (old new : List Listed) (met : Bool) → IsTrue met ↔ (All (HasSizes volume.head (overflow_in_volume volume)) (forks_of volume) × All (λ (more : Overflow). LieInside volume.head.total_blocks more.extents) (overflow_in_volume volume))
     → Judged 16 (flat_map (fork_wants volume) (forks_of volume) ++ flat_map (overflow_wants volume) (overflow_in_volume volume)) old new met → Passed (IsBrokenList volume) (HaveSizes volume) old new
 sizes_passed volume old new met tells judged = record {
   holds = λ none. (let both = tells.0 (by met refl none) in record { sizes = both.0; more_inside = both.1 });
   still = stays old new judged.still;
   each = λ f stands. ⊎_elim (λ (before : Contains old f). inl before)
-      (λ (unmet : IsUnmet 16 (as_found f) (flat_map (fork_wants volume) (forks_of volume) ++ flat_map (overflow_wants volume) (overflow_in_volume volume))). inr (inr (inr (inr (inr (inr (inr (inr (inl unmet))))))))) (judged.each f stands);
+      (λ (unmet : IsUnmet 16 (as_found f) (flat_map (fork_wants volume) (forks_of volume) ++ flat_map (overflow_wants volume) (overflow_in_volume volume))). inr (of_forks volume (as_found f) unmet)) (judged.each f stands);
 }
   where
     by : (m : Bool) → met ≡ m → length new ≡ 0 → IsTrue met
@@ -94,14 +107,15 @@ pub links_passed : (volume : VolumeState) (old new : List Listed) (met : Bool) �
     → Passed (IsBrokenList volume) (AreLinks (records_of volume) (overflow_in_volume volume)) old new
 links_passed volume old new met decided = passed_decided (IsBrokenList volume) (IsBrokenName volume) (AreLinks (records_of volume) (overflow_in_volume volume)) old new met (of_name volume) decided
 
-pub attributes_passed : (volume : VolumeState) (old new : List Listed) (met : Bool)
-    → Decided (λ f. IsFailed 20 f (FailsAttribute volume)) (AreAttributes volume.head volume.journal (records_of volume) (overflow_in_volume volume) volume.attribute_pairs) old new met
-    → Passed (IsBrokenList volume) (AreAttributes volume.head volume.journal (records_of volume) (overflow_in_volume volume) volume.attribute_pairs) old new
-attributes_passed volume old new met decided = passed_decided (IsBrokenList volume) (λ f. IsFailed 20 f (FailsAttribute volume)) (AreAttributes volume.head volume.journal (records_of volume) (overflow_in_volume volume) volume.attribute_pairs) old new met
-    (λ f fails. inr (inl (inr (inr fails)))) decided
+of_attribute : (volume : VolumeState) (f : Finding) → IsBrokenOfNames volume f → IsBrokenList volume f
+of_attribute volume f (inl fails) = inr (inl (inr (inr fails)))
+of_attribute volume f (inr unmet) = of_values volume f unmet
+
+pub attributes_passed : (volume : VolumeState) (old new : List Listed) (met : Bool) → Decided (IsBrokenOfNames volume) (KeepsAttributes volume) old new met → Passed (IsBrokenList volume) (KeepsAttributes volume) old new
+attributes_passed volume old new met decided = passed_decided (IsBrokenList volume) (IsBrokenOfNames volume) (KeepsAttributes volume) old new met (of_attribute volume) decided
 
 pub names_passed : (volume : VolumeState) (old first second new : List Listed) → Passed (IsBrokenList volume) (HaveSizes volume) old first → Passed (IsBrokenList volume) (AreLinks (records_of volume) (overflow_in_volume volume)) first second
-    → Passed (IsBrokenList volume) (AreAttributes volume.head volume.journal (records_of volume) (overflow_in_volume volume) volume.attribute_pairs) second new → Passed (IsBrokenList volume) (HaveSizes volume × HaveNames volume) old new
+    → Passed (IsBrokenList volume) (KeepsAttributes volume) second new → Passed (IsBrokenList volume) (HaveSizes volume × HaveNames volume) old new
 names_passed volume old first second new sizes links attributes =
     passed_both (IsBrokenList volume) (HaveSizes volume) (HaveNames volume) old first new sizes
     (passed_as (IsBrokenList volume) _ (HaveNames volume) first new (λ both. record { links = both.0; attributes = both.1 }) (passed_both (IsBrokenList volume) _ _ first second new links attributes))
@@ -149,7 +163,7 @@ rows_there volume lists rows are entries goes_on =
     record { pairs_are = are.catalog; catalog = entries.catalog; rows_are = there.rows_are; goes_on = goes_on }
 
 pub attributes_there : (volume : VolumeState) (lists : Lists) → AreLists volume lists → 0 < lists.head.block_size → HasAttributes volume lists.head lists.info (overflows_in lists.overflow.items) lists.attributes
-attributes_there volume lists are some = record { head_is = are.head; some = some; journal_is = are.journal; overflow_is = are.overflow; attributes_are = are.attributes; keys = are.attribute_keys }
+attributes_there volume lists are some = record { head_is = are.head; some = some; journal_is = are.journal; overflow_is = are.overflow; attributes_are = are.attributes; keyed = are.keyed }
 
 pub forks_there : (volume : VolumeState) (head : VolumeHeader) (pairs : List Pair) (forks : List Owned) → head ≡ volume.head → pairs ≡ volume.catalog_pairs → forks ≡ all_forks head (placed_in pairs) → forks ≡ forks_of volume
 forks_there volume head pairs forks head_is pairs_are are = are ∙ (λ i. all_forks (head_is i) (placed_in (pairs_are i)))

@@ -40,3 +40,8 @@ pub mod BitsLaws
 pub mod UsedLists
 pub mod StretchLaws
 pub mod RecordBytes
+pub mod ValueOrder
+pub mod ValueLaws
+pub mod ValueFound
+pub mod ValueJudged
+pub mod RecordJudged

@@ -81,7 +81,7 @@ goes id kind front (row ∷ rows) = at (goes id kind front rows) (goes id kind n
         ))
 
 -- unused extents have no blocks
-used_length : (es : List Extent) → length (blocks_of (in_use es)) ≡ length (blocks_of es)
+pub used_length : (es : List Extent) → length (blocks_of (in_use es)) ≡ length (blocks_of es)
 used_length [] = refl
 used_length (e ∷ es) = at (used_length es) (e.count == 0) refl
   where

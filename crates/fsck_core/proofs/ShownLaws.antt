@@ -1,21 +1,25 @@
 -- What a content's trees hold, and findings of its first ten rules.
-use Rattle.std.proofs.Common.{◌≡◌, ◌≢◌, ◌⊎◌, ◌<◌, ◌≤◌, ℕ, zero, suc, ◌*◌, ◌/◌, Bool, true, false, not, List, [], ◌∷◌, length, get_or, inl, inr, refl, sym, ◌∙◌, ap, subst, arith, IsTrue}
-use Rattle.std.specs.Prelude.{Contains, All, None, Some, Option, Result, Ok, Err, IfOk, MatchOption, if◌then◌else◌}
+use Rattle.std.proofs.Common.{◌≡◌, ◌≢◌, ◌⊎◌, ◌<◌, ◌≤◌, ℕ, zero, suc, ◌*◌, ◌/◌, Bool, true, false, not, List, [], ◌∷◌, length, map, get_or, inl, inr, refl, sym, ◌∙◌, ap, subst, arith, IsTrue}
+use Rattle.std.specs.Prelude.{Contains, All, None, Some, Option, Result, Ok, Err, IfOk, MatchOption, slice_index_or, if◌then◌else◌}
+use Rattle.std.specs.List.{AllByRecursion}
+use Rattle.std.specs.Ordering.{is_lt}
 use Rattle.std.specs.declared.cmp.Ordering.{Ordering}
+use Rattle.std.specs.declared.cmp.Ordering.TheVariants.{Less}
 use Rattle.std.proofs.lemmas.List.{get_or_default}
 use Rattle.sector_disk.specs.Space.{Space}
 use Rattle.jnl_format.specs.Recovery.{Content, header_of_volume}
 use Rattle.volume_header.specs.declared.header.VolumeHeader.{VolumeHeader}
 use Rattle.btree_file.specs.Frame.{ReadsSpace}
 use Rattle.btree_node.specs.Keys.{IsCatalogKey, IsExtentKey, IsAttrKey, catalog_cmp, extent_cmp, attr_cmp, is_eight_extents, anything}
-use Rattle.btree_node.specs.Levels.{Pair, pair_of, key_of, entries, level, leaves}
+use Rattle.btree_node.specs.Levels.{Pair, Ascends, pair_of, key_of, entries, level, leaves}
 use Rattle.btree_node.specs.Store.{Store}
 use Rattle.btree_node.specs.Tree.{IsTree, pairs_of}
 use Rattle.btree_node.specs.TreeFile.{TreeFile, TreeForm, IsTreeFile, store_of, extents_form, catalog_form, attributes_form}
 use Rattle.fsck_list.specs.declared.finding.Finding.{Finding as Listed}
 use Rattle.hfs_volume.specs.Blocks.{IsGoodHeader}
 use Rattle.hfs_volume.specs.Broken.{Finding, want, node_place, AllMet, IsUnmet, IsBrokenTree, file_wants}
-use Rattle.hfs_volume.specs.Changes.{AreSorted}
+use Rattle.hfs_model.specs.Sorted.{IsInOrder}
+use Rattle.hfs_volume.specs.Changes.{AreSorted, AreSortedAttributes, attribute_before}
 use Rattle.hfs_volume.specs.Content.{volume_of, extents_file, catalog_file, attributes_file, has_attributes, overflow_of_content}
 use Rattle.hfs_volume.specs.Forks.{extents_id, catalog_id, attributes_id}
 use Rattle.hfs_volume.proofs.Ascending.{tree_sorted}
@@ -23,8 +27,9 @@ use Rattle.hfs_volume.proofs.Members.{all_of, each_of, map_cases}
 use Rattle.fsck_core.specs.Overflows.{IsOverflowPair, overflows_in, overflows_of}
 use Rattle.fsck_core.specs.declared.overflow.OverflowRow.{OverflowRow}
 use Rattle.hfs_volume.specs.Findings.{HasBytes}
-use Rattle.hfs_volume.specs.Records.{Overflow}
+use Rattle.hfs_volume.specs.Records.{Attribute, Overflow, attribute_of}
 use Rattle.std.proofs.lemmas.Bool.{true≢false, eq-eqb, ne_eqb}
+use Rattle.fsck_core.specs.Attributes.{AreKeyed}
 use Rattle.fsck_core.specs.Shown.{Shows, IsEarly, FindsEarly, IsBrokenHeader, HoldsExtents, HoldsCatalog, HoldsAttributes, HoldsTrees}
 use Rattle.fsck_core.specs.Wants.{as_found}
 use Rattle.fsck_core.specs.Judged.{Judged}
@@ -90,13 +95,32 @@ catalog_keys tree is = tree_keys IsCatalogKey catalog_cmp (store_of tree) is.rul
 pub catalog_sorted : (tree : TreeFile) → IsTreeFile catalog_form IsCatalogKey anything catalog_cmp tree → AreSorted (pairs_of (store_of tree))
 catalog_sorted tree is = tree_sorted IsCatalogKey (store_of tree) is.rules
 
-pub attribute_keys : (content : Content) → (IsTrue (has_attributes (header_of_volume content)) → IsTreeFile attributes_form IsAttrKey anything attr_cmp (attributes_file content))
-    → All (λ (pair : Pair). IsAttrKey pair.0) (if has_attributes (header_of_volume content) then pairs_of (store_of (attributes_file content)) else [])
-attribute_keys content is = by (has_attributes (header_of_volume content)) is
+attribute_first : (x : List ℕ) (xs : List (List ℕ)) → ((j : ℕ) → j < length xs → attr_cmp (key_of x) (key_of (slice_index_or xs j [])) ≡ Less)
+    → AllByRecursion (λ (later : Attribute). attribute_before (attribute_of (pair_of x)) later ≡ true) (map attribute_of (map pair_of xs))
+unfolding attribute_of
+attribute_first x [] before = tt
+attribute_first x (y ∷ ys) before = (ap is_lt (before 0 (omega arith)), attribute_first x ys (λ j fits. before (suc j) (omega (arith, fits))))
+
+attributes_rise : (xs : List (List ℕ)) → Ascends attr_cmp xs → IsInOrder attribute_before (map attribute_of (map pair_of xs))
+attributes_rise [] rises = tt
+attributes_rise (x ∷ xs) rises =
+    (attribute_first x xs (λ j fits. rises 0 (suc j) (omega arith) (omega (arith, fits))), attributes_rise xs (λ i j before fits. rises (suc i) (suc j) (omega (arith, before)) (omega (arith, fits))))
+
+attributes_sorted : (store : Store) → IsTree IsAttrKey attr_cmp store → AreSortedAttributes (pairs_of store)
+attributes_sorted store tree = by_depth store.shape.depth refl
   where
-    by : (b : Bool) → (IsTrue b → IsTreeFile attributes_form IsAttrKey anything attr_cmp (attributes_file content)) → All (λ (pair : Pair). IsAttrKey pair.0) (if b then pairs_of (store_of (attributes_file content)) else [])
-    by true tree = let file = tree refl in tree_keys IsAttrKey attr_cmp (store_of (attributes_file content)) file.rules
-    by false tree = all_of (λ (pair : Pair). IsAttrKey pair.0) [] (λ pair stands. absurd (omega (arith, stands.1)))
+    by_depth : (depth : ℕ) → store.shape.depth ≡ depth → AreSortedAttributes (leaves store.nodes store.shape.root depth)
+    by_depth zero is = tt
+    by_depth (suc below) is = attributes_rise (entries store.nodes (level store.nodes store.shape.root below)) (tree.ordered.ascends below (omega (arith, is)))
+
+pub attributes_keyed : (content : Content) → (IsTrue (has_attributes (header_of_volume content)) → IsTreeFile attributes_form IsAttrKey anything attr_cmp (attributes_file content))
+    → AreKeyed (if has_attributes (header_of_volume content) then pairs_of (store_of (attributes_file content)) else [])
+attributes_keyed content is = by (has_attributes (header_of_volume content)) is
+  where
+    by : (b : Bool) → (IsTrue b → IsTreeFile attributes_form IsAttrKey anything attr_cmp (attributes_file content)) → AreKeyed (if b then pairs_of (store_of (attributes_file content)) else [])
+    by true tree =
+        let file = tree refl in record { keys = tree_keys IsAttrKey attr_cmp (store_of (attributes_file content)) file.rules; sorted = attributes_sorted (store_of (attributes_file content)) file.rules }
+    by false tree = record { keys = all_of (λ (pair : Pair). IsAttrKey pair.0) [] (λ pair stands. absurd (omega (arith, stands.1))); sorted = tt }
 
 -- ---- findings of the first ten rules
 
@@ -248,7 +272,7 @@ lists_there content lists trees sectors head journal flags = record {
   flags = flags;
   keys = subst (λ (l : List Pair). All (λ (pair : Pair). IsCatalogKey pair.0) l) (sym trees.of_catalog.pairs_are) (catalog_keys (catalog_file content) trees.of_catalog.tree);
   sorted = subst (λ (l : List Pair). AreSorted l) (sym trees.of_catalog.pairs_are) (catalog_sorted (catalog_file content) trees.of_catalog.tree);
-  attribute_keys = subst (λ (l : List Pair). All (λ (pair : Pair). IsAttrKey pair.0) l) (sym trees.of_attributes.pairs_are) (attribute_keys content trees.of_attributes.tree);
+  keyed = subst (λ (l : List Pair). AreKeyed l) (sym trees.of_attributes.pairs_are) (attributes_keyed content trees.of_attributes.tree);
 }
 
 pub trees_there : (content : Content) (rows : List OverflowRow) (catalog attributes : List Pair) → HoldsTrees content rows catalog attributes → (catalog_file content).head.compare ≡ 0xBC → HasTrees content

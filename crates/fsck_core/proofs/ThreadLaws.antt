@@ -50,7 +50,7 @@ by_each before x (y ∷ ys) order zero d inside = order.0.0
 by_each before x (y ∷ ys) order (suc k) d inside = by_each before x ys (order.0.1, order.1.1) k d (omega (arith, inside))
 
 -- of two places the earlier has what comes before
-order_at : {X : Type 0} (before : X → X → Bool) (xs : List X) → IsInOrder before xs → (i j : ℕ) (d : X) → i < j → j < length xs → before (get_or xs i d) (get_or xs j d) ≡ true
+pub order_at : {X : Type 0} (before : X → X → Bool) (xs : List X) → IsInOrder before xs → (i j : ℕ) (d : X) → i < j → j < length xs → before (get_or xs i d) (get_or xs j d) ≡ true
 order_at before [] order i j d less inside = absurd (omega (arith, inside))
 order_at before (x ∷ xs) order zero zero d less inside = absurd (omega (arith, less))
 order_at before (x ∷ xs) order zero (suc j) d less inside = by_each before x xs order j d (omega (arith, inside))

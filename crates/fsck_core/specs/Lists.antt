@@ -1,13 +1,14 @@
 -- The lists of a volume that was read, and what judging them finds.
 use Rattle.std.specs.Prelude.{◌≡◌, ◌⊎◌, List, length, Contains, All}
 use Rattle.fsck_list.specs.declared.finding.Finding.{Finding as Listed}
-use Rattle.btree_node.specs.Keys.{IsCatalogKey, IsAttrKey}
+use Rattle.btree_node.specs.Keys.{IsCatalogKey}
 use Rattle.btree_node.specs.Levels.{Pair}
 use Rattle.hfs_volume.specs.Changes.{AreSorted}
 use Rattle.hfs_volume.specs.Content.{VolumeState, overflow_in_volume}
 use Rattle.hfs_volume.specs.Entries.{AreThreaded, AreRooted}
 use Rattle.hfs_volume.specs.Records.{placed_in, entries_of}
 use Rattle.hfs_volume.specs.Broken.{Finding, IsFailed, FailsKind, FailsThread, FailsParent}
+use Rattle.fsck_core.specs.Attributes.{AreKeyed}
 use Rattle.fsck_core.specs.Catalogs.{IsCatalog}
 use Rattle.fsck_core.specs.Flags.{AreBits}
 use Rattle.fsck_core.specs.Overflows.{overflows_in}
@@ -28,7 +29,7 @@ pub record AreLists (volume : VolumeState) (lists : Lists) : Type 0 where
   pub flags : AreBits volume lists.flags
   pub keys : All (λ pair. IsCatalogKey pair.0) lists.catalog
   pub sorted : AreSorted lists.catalog
-  pub attribute_keys : All (λ pair. IsAttrKey pair.0) lists.attributes
+  pub keyed : AreKeyed lists.attributes
 
 -- one of rules 8 to 10 is broken in a catalog
 abbrev pub IsBrokenCatalog : List Pair → Finding → Type 0

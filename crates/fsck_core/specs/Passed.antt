@@ -7,10 +7,10 @@ use Rattle.fsck_list.specs.Kept.{IsListed}
 use Rattle.hfs_volume.specs.Records.{entries_of}
 use Rattle.hfs_volume.specs.Entries.{AreThreaded, AreRooted}
 use Rattle.hfs_volume.specs.Links.{AreLinks}
-use Rattle.hfs_volume.specs.Attributes.{AreAttributes}
 use Rattle.hfs_volume.specs.Blocks.{GoesOn, GoOnBad, HasFork, HasSizes, LieInside, forks_of, used_in}
 use Rattle.hfs_volume.specs.Content.{VolumeState, records_of, overflow_in_volume}
 use Rattle.hfs_volume.specs.Broken.{Finding, AllMet, IsUnmet, IsBrokenEntry, IsBrokenLink, IsBrokenBlock, valence_wants, count_wants, id_wants, bit_wants, free_wants}
+use Rattle.fsck_core.specs.Attributes.{KeepsAttributes}
 use Rattle.fsck_core.specs.Wants.{as_found}
 
 -- A part of the rules was judged: where nothing is found it holds, something found stays so, and each finding that was added is of a broken rule.
@@ -37,7 +37,7 @@ ListsLate volume list = (f : Listed) → IsLate volume (as_found f) → IsListed
 abbrev pub HasEarly : List Listed → Type 0
 HasEarly list = (f : Listed) × Contains list f × (f.rule ≤ 10)
 
--- Rules 16 and 17: the forks of a volume lie in it and have the sizes that they say, and its overflow records go on behind them.
+-- Rules 16 and 17 of files: the forks of a volume lie in it and have the sizes that they say, and its overflow records go on behind them.
 pub record HaveForks (volume : VolumeState) : Type 0 where
   pub goes_on : All (GoesOn (overflow_in_volume volume)) (forks_of volume)
   pub bad_goes_on : GoOnBad (overflow_in_volume volume)
@@ -45,15 +45,15 @@ pub record HaveForks (volume : VolumeState) : Type 0 where
   pub sizes : All (HasSizes volume.head (overflow_in_volume volume)) (forks_of volume)
   pub more_inside : All (λ more. LieInside volume.head.total_blocks more.extents) (overflow_in_volume volume)
 
--- Rule 16 alone.
+-- Rule 16 of files.
 pub record HaveSizes (volume : VolumeState) : Type 0 where
   pub sizes : All (HasSizes volume.head (overflow_in_volume volume)) (forks_of volume)
   pub more_inside : All (λ more. LieInside volume.head.total_blocks more.extents) (overflow_in_volume volume)
 
--- Rules 19 and 20.
+-- Rules 19 and 20, and rule 16 of the forks of attributes.
 pub record HaveNames (volume : VolumeState) : Type 0 where
   pub links : AreLinks (records_of volume) (overflow_in_volume volume)
-  pub attributes : AreAttributes volume.head volume.journal (records_of volume) (overflow_in_volume volume) volume.attribute_pairs
+  pub attributes : KeepsAttributes volume
 
 -- Rules 11 to 14.
 pub record HaveCounts (volume : VolumeState) : Type 0 where

@@ -4,14 +4,14 @@ ghost use Rattle.std.specs.List.Sorted.{IsNonDecreasing};
 ghost use Rattle.alloc_bitmap.specs.Apart.{times};
 ghost use Rattle.btree_node.specs.Keys.{attr_file};
 ghost use Rattle.hx_bytes.specs.declared.extents.Extent.{Extent as Span};
-ghost use Rattle.hfs_volume.specs.Attributes.{AreAttributes, IsOneExtent, journal_extent, info_extent};
-ghost use Rattle.hfs_volume.specs.Broken.{IsFailed, FailsAttribute};
-ghost use Rattle.hfs_volume.specs.Content.{VolumeState, records_of, overflow_in_volume};
+ghost use Rattle.hfs_volume.specs.Attributes.{IsOneExtent, journal_extent, info_extent};
+ghost use Rattle.hfs_volume.specs.Broken.{IsFailed};
+ghost use Rattle.hfs_volume.specs.Content.{VolumeState};
 ghost use Rattle.hfs_volume.specs.Entries.{AreSpelled};
 ghost use Rattle.hfs_volume.specs.Records.{placed_in};
-ghost use Rattle.fsck_core.specs.Attributes.{owner_here, owner_count, inline_value, is_good, good_at, IsSpan, IsOneFile, HasOneFile, FailsFile, HasAttributes};
+ghost use Rattle.fsck_core.specs.Attributes.{owner_here, owner_count, is_owned, attribute_at, HasFirstFork, AreAttributesOf, AreOwnersOf, IsGoodRecord, AreGood, IsBrokenValue, Judges, IsBrokenOfNames, KeepsAttributes, IsSpan, IsOneFile, HasOneFile, FailsFile, HasAttributes};
 ghost use Rattle.fsck_core.specs.Catalogs.{HasRows};
-ghost use Rattle.fsck_core.specs.Decided.{Adds, Decided, AllPass, IsMissed};
+ghost use Rattle.fsck_core.specs.Decided.{Adds, Decided};
 ghost use Rattle.fsck_core.specs.Names.{pair_at};
 ghost use Rattle.fsck_core.specs.Overflows.{overflows_in};
 
@@ -20,20 +20,15 @@ use crate::names::{id_found, record_in_root};
 use crate::numbers::{count_number, sort_numbers};
 use crate::overflow::{OverflowRow, fork_extents};
 use crate::rows::Row;
+use crate::values::{is_forked, judge_value, owner_of};
 use crate::want::both;
 use cat_records::CatRecord;
 use fsck_list::Findings;
 use fsck_scan::Pairs;
-use hx_bytes::{Extent, OutOfMemory, read_be32};
+use hx_bytes::{Extent, OutOfMemory};
 use jnl_format::Info;
 use std::alloc::Global;
 use volume_header::VolumeHeader;
-
-/// The type of an attribute whose value stands in its record.
-const INLINE: u32 = 0x10;
-
-/// The bytes of such a record before its value.
-const FRONT: usize = 16;
 
 const DATA: u8 = 0;
 
@@ -74,55 +69,52 @@ fn owner_ids(alloc: Global, rows: &[Row]) -> Result<Vec<u32>, OutOfMemory>
     Ok(ids)
 }
 
-/// Whether a record is an attribute with its value (TN1150, "Attributes File Data").
-fn has_value(value: &[u8]) -> bool
-    ensures { result ≡ inline_value value.now }
+/// Whether a key has a name of one unit at least, and belongs to one of these owners.
+fn is_owned(key: &[u8], owners: &[u32]) -> bool
+    ensures { 14 ≤ length key.now → IsNonDecreasing owners.now → result ≡ is_owned key.now (times (attr_file key.now) owners.now) }
 {
-    if value.len() < FRONT {
-        return false;
-    }
-    let size = read_be32(value, 12) as usize;
-    read_be32(value, 0) == INLINE && value.len() == FRONT + size + size % 2
+    key.len() >= 16 && count_number(owners, owner_of(key)) != 0
 }
 
-/// The CNID in a key of the attributes file, and 0 where bytes are too short for a key.
-fn owner_of(key: &[u8]) -> u32
-    ensures { 14 ≤ length key.now → result ≡ attr_file key.now }
+/// Judges the record at a place, of an attribute that begins with a fork or doesn't: it belongs to an owner, has a name, and its value is one.
+fn judge_record(
+    alloc: Global,
+    head: &VolumeHeader,
+    attributes: &Pairs,
+    owners: &[u32],
+    at: usize,
+    forked: bool,
+    out: &mut Findings,
+) -> Result<bool, OutOfMemory>
+    requires { at < length attributes.now }
+    ensures judged { (volume : VolumeState) → AreAttributesOf volume head.now attributes.now → AreOwnersOf volume owners.now → IsTrue forked ↔ HasFirstFork attributes.now (attribute_at attributes.now at)
+        → IfOk result (λ met. Judges volume (IsGoodRecord volume (pair_at volume.attribute_pairs at)) out.old out.new met) }
+    ensures each { (volume : VolumeState) → AreAttributesOf volume head.now attributes.now → AreOwnersOf volume owners.now → IsTrue forked ↔ HasFirstFork attributes.now (attribute_at attributes.now at)
+        → Adds (IsBrokenValue volume) out.old out.new }
 {
-    if key.len() < 14 {
-        return 0;
-    }
-    read_be32(key, 4)
+    let key = attributes.key(at);
+    let owned = add_unless(20, is_owned(key, owners), owner_of(key), out)?;
+    let stands = judge_value(alloc, head, attributes, at, forked, out)?;
+    Ok(both(stands, owned))
 }
 
-/// Whether a pair is an attribute of one of these owners, which has a name.
-fn is_good(key: &[u8], value: &[u8], owners: &[u32]) -> bool
-    ensures { 14 ≤ length key.now → IsNonDecreasing owners.now → result ≡ is_good (key.now, value.now) (times (attr_file key.now) owners.now) }
-{
-    if key.len() < 16 {
-        return false;
-    }
-    if read_be32(key, 8) != 0 {
-        return false;
-    }
-    if !has_value(value) {
-        return false;
-    }
-    count_number(owners, owner_of(key)) != 0
-}
-
-/// Judges each attribute.
-fn judge_each(attributes: &Pairs, owners: &[u32], out: &mut Findings) -> Result<bool, OutOfMemory>
-    ensures decided { All (λ pair. 14 ≤ length pair.0) attributes.now → IsNonDecreasing owners.now
-        → IfOk result (λ met. Decided (IsMissed 20 (good_at attributes.now owners.now) (λ k. attr_file (pair_at attributes.now k).0) (length attributes.now)) (AllPass (good_at attributes.now owners.now) (length attributes.now)) out.old out.new met) }
-    ensures each { All (λ pair. 14 ≤ length pair.0) attributes.now → IsNonDecreasing owners.now
-        → Adds (IsMissed 20 (good_at attributes.now owners.now) (λ k. attr_file (pair_at attributes.now k).0) (length attributes.now)) out.old out.new }
+/// Judges each record of the attributes file.
+fn judge_records(
+    alloc: Global,
+    head: &VolumeHeader,
+    attributes: &Pairs,
+    owners: &[u32],
+    out: &mut Findings,
+) -> Result<bool, OutOfMemory>
+    ensures judged { (volume : VolumeState) → AreAttributesOf volume head.now attributes.now → AreOwnersOf volume owners.now
+        → IfOk result (λ met. Judges volume (AreGood volume (length volume.attribute_pairs)) out.old out.new met) }
+    ensures each { (volume : VolumeState) → AreAttributesOf volume head.now attributes.now → AreOwnersOf volume owners.now → Adds (IsBrokenValue volume) out.old out.new }
 {
     let mut met = true;
+    let mut forked = false;
     for at in 0..attributes.len() {
-        let key = attributes.key(at);
-        let good = is_good(key, attributes.value(at), owners);
-        let one = add_unless(20, good, owner_of(key), out)?;
+        forked = is_forked(alloc, attributes, at, forked)?;
+        let one = judge_record(alloc, head, attributes, owners, at, forked, out)?;
         met = both(one, met);
     }
     Ok(met)
@@ -217,8 +209,9 @@ fn judge_journal_file(
     add_unless(20, holds, id_found(&found), out)
 }
 
-/// Judges the attributes of a volume, and the two files of its journal: each attribute belongs to a folder or a file, has a name, and its
-/// value in its record; and each file is one extent, where the volume header and the info block say (TN1150, "Attributes File", "Journal").
+/// Judges the attributes of a volume, and the two files of its journal: each attribute belongs to a folder or a file, has a name, and its value in its
+/// record or in a fork, which lies in the volume and has the sizes that it says (rules 16 and 20); and each file is one extent, where the volume header
+/// and the info block say (TN1150, "Attributes File", "Journal").
 pub fn judge_attributes(
     alloc: Global,
     head: &VolumeHeader,
@@ -231,12 +224,12 @@ pub fn judge_attributes(
 ) -> Result<bool, OutOfMemory>
     requires { AreSpelled pairs.now }
     ensures decided { (volume : VolumeState) → HasRows volume pairs.now rows.now → HasAttributes volume head.now info.now (overflows_in overflow.now) attributes.now
-        → IfOk result (λ met. Decided (λ finding. IsFailed 20 finding (FailsAttribute volume)) (AreAttributes volume.head volume.journal (records_of volume) (overflow_in_volume volume) volume.attribute_pairs) out.old out.new met) }
+        → IfOk result (λ met. Decided (IsBrokenOfNames volume) (KeepsAttributes volume) out.old out.new met) }
     ensures each { (volume : VolumeState) → HasRows volume pairs.now rows.now → HasAttributes volume head.now info.now (overflows_in overflow.now) attributes.now
-        → Adds (λ finding. IsFailed 20 finding (FailsAttribute volume)) out.old out.new }
+        → Adds (IsBrokenOfNames volume) out.old out.new }
 {
     let owners = owner_ids(alloc, rows)?;
-    let each = judge_each(attributes, &owners, out)?;
+    let each = judge_records(alloc, head, attributes, &owners, out)?;
     let journal = journal_blocks(head, info);
     let one = judge_journal_file(alloc, pairs, overflow, JOURNAL.as_slice(), journal, out)?;
     let info_block = info_blocks(head);

@@ -30,7 +30,7 @@ pub(crate) struct Front {
 }
 
 /// Whether none of the extents of a record is unused.
-fn has_no_room(extents: &ExtentRecord) -> bool
+pub(crate) fn has_no_room(extents: &ExtentRecord) -> bool
     ensures { result ≡ is_full extents.now.extents }
 {
     extents.extents.iter().all(|extent| extent.count != 0)
@@ -44,7 +44,7 @@ fn has_extents(extents: &ExtentRecord) -> bool
 }
 
 /// How many blocks up to eight extents have.
-fn count_blocks(extents: &[Extent]) -> u64
+pub(crate) fn count_blocks(extents: &[Extent]) -> u64
     requires { length extents.now ≤ 8 }
     ensures value { result ≡ length (blocks_of extents.now) }
     ensures few { result ≤ 2 ^ 35 }
@@ -57,7 +57,7 @@ fn count_blocks(extents: &[Extent]) -> u64
 }
 
 /// The front behind a row, if it goes on there and has an extent in use; a row of another fork leaves it as it is.
-fn next_front(id: u32, kind: u8, front: Front, row: &OverflowRow) -> Option<Front>
+pub(crate) fn next_front(id: u32, kind: u8, front: Front, row: &OverflowRow) -> Option<Front>
     ensures { result ≡ next_front id kind front row.now }
 {
     if row.id != id {

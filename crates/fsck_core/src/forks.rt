@@ -45,7 +45,7 @@ fn judge_extent(
 }
 
 /// Judges the extents of a record.
-fn judge_extents(
+pub(crate) fn judge_extents(
     id: u32,
     total: u32,
     extents: &[Extent],

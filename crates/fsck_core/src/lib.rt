@@ -36,6 +36,7 @@ mod threads;
 mod trees;
 mod used;
 mod uses;
+mod values;
 mod volume;
 mod want;
 

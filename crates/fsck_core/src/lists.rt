@@ -47,7 +47,14 @@ pub(crate) fn judge_blocks_used(
     ensures passed { (volume : VolumeState) → AreLists volume lists.now → owned_all forks.now ≡ forks_of volume → IfOk result (λ _. Passed (IsBrokenList volume) (AreApart (used_in volume)) out.old out.new) }
     ensures used { (volume : VolumeState) → AreLists volume lists.now → owned_all forks.now ≡ forks_of volume → IfOk result (λ used. AreUsed volume used) }
 {
-    let extents = read_used(alloc, lists.sectors, &lists.head, &lists.overflow, forks)?;
+    let extents = read_used(
+        alloc,
+        lists.sectors,
+        &lists.head,
+        &lists.overflow,
+        forks,
+        &lists.attributes,
+    )?;
     let mut used = no_marks(alloc, lists.head.total_blocks)?;
     judge_uses(alloc, extents.as_slice(), &mut used, out)?;
     Ok(used)

@@ -58,7 +58,7 @@ pub fn read_overflow(alloc: Global, pairs: &Pairs) -> Result<Vec<OverflowRow>, O
 }
 
 /// Adds the extents in use to a list.
-fn push_used(list: &mut ExtentList, extents: &[Extent]) -> Result<(), OutOfMemory>
+pub(crate) fn push_used(list: &mut ExtentList, extents: &[Extent]) -> Result<(), OutOfMemory>
     ensures { OnOk result (list.new ≡ list.old ++ in_use extents.now) }
 {
     for extent in extents {

@@ -88,7 +88,7 @@ fn same_kind(one: bool, other: bool) -> bool
 }
 
 /// Whether the units from one place of some bytes on are those from a place of others on.
-fn same_units(one: &[u8], from: usize, other: &[u8], there: usize) -> bool
+pub(crate) fn same_units(one: &[u8], from: usize, other: &[u8], there: usize) -> bool
     requires from { from ≤ 16 }
     requires there { there ≤ 16 }
     ensures { result ≡ bytes_eq (units (drop from one.now)) (units (drop there other.now)) }

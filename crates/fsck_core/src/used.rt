@@ -1,18 +1,22 @@
 //! The extents of what uses a volume's blocks.
-ghost use Rattle.std.specs.Prelude.{◌≡◌, ◌≤◌, ◌+◌, ◌-◌, ◌*◌, ◌/◌, ◌^◌, ◌++◌, IfOk, OnOk};
+ghost use Rattle.std.specs.Prelude.{◌≡◌, ◌≤◌, ◌+◌, ◌-◌, ◌*◌, ◌/◌, ◌^◌, ◌++◌, map, IfOk, OnOk};
 ghost use Rattle.std.specs.List.{flat_map};
 ghost use Rattle.fork_map.specs.Blocks.{blocks_of};
 ghost use Rattle.hfs_volume.specs.Blocks.{IsGoodHeader, forks_of, used_in};
 ghost use Rattle.hfs_volume.specs.Content.{VolumeState, overflow_in_volume};
-ghost use Rattle.hfs_volume.specs.Forks.{blocks_owned};
+ghost use Rattle.hfs_volume.specs.Forks.{blocks_owned, in_use};
+ghost use Rattle.hfs_volume.specs.Records.{attribute_of, spelled_value};
+ghost use Rattle.hfs_volume.specs.Values.{blocks_of_values, extents_in};
 ghost use Rattle.fsck_core.specs.Overflows.{overflows_in};
 ghost use Rattle.fsck_core.specs.Owners.{owned_all};
 ghost use Rattle.fsck_core.specs.UsedExtents.{reserved_extents, bad_in};
 
 use crate::follow::OwnedFork;
-use crate::overflow::OverflowRow;
+use crate::overflow::{OverflowRow, push_used};
 use crate::stretch::{are_in_order, own_extents};
+use cat_records::{AttrRecord, RecordFault, read_attr};
 use fork_map::ExtentList;
+use fsck_scan::Pairs;
 use hx_bytes::{Extent, OutOfMemory};
 use std::alloc::Global;
 use volume_header::VolumeHeader;
@@ -113,21 +117,46 @@ fn add_bad(list: &mut ExtentList, rows: &[OverflowRow]) -> Result<(), OutOfMemor
     Ok(())
 }
 
-/// The extents of all that uses blocks of a volume of so many sectors, whose header keeps rule 1: its reserved blocks, its forks, and its bad
-/// blocks.
+/// Adds the extents in use of a record of the attributes file.
+fn add_value(alloc: Global, list: &mut ExtentList, value: &[u8]) -> Result<(), OutOfMemory>
+    ensures { OnOk result (list.new ≡ list.old ++ in_use (extents_in (spelled_value value.now))) }
+{
+    match read_attr(alloc, value) {
+        Ok(AttrRecord::Fork(fork)) => push_used(list, &fork.extents.extents),
+        Ok(AttrRecord::More(more)) => push_used(list, &more.extents),
+        Ok(AttrRecord::Inline(_)) => Ok(()),
+        Err(RecordFault::Memory) => Err(OutOfMemory),
+        Err(RecordFault::BadRecord { .. }) => Ok(()),
+    }
+}
+
+/// Adds the extents of the values of attributes.
+fn add_values(alloc: Global, list: &mut ExtentList, attributes: &Pairs) -> Result<(), OutOfMemory>
+    ensures { OnOk result (blocks_of list.new ≡ blocks_of list.old ++ blocks_of_values (map attribute_of attributes.now)) }
+{
+    for at in 0..attributes.len() {
+        add_value(alloc, list, attributes.value(at))?;
+    }
+    Ok(())
+}
+
+/// The extents of all that uses blocks of a volume of so many sectors, whose header keeps rule 1: its reserved blocks, its forks, its bad
+/// blocks, and the values of its attributes.
 pub fn read_used(
     alloc: Global,
     sectors: u64,
     head: &VolumeHeader,
     rows: &[OverflowRow],
     forks: &[OwnedFork],
+    attributes: &Pairs,
 ) -> Result<ExtentList, OutOfMemory>
     requires { IsGoodHeader sectors head.now }
-    ensures { (volume : VolumeState) → sectors ≡ volume.sectors → head.now ≡ volume.head → overflows_in rows.now ≡ overflow_in_volume volume → owned_all forks.now ≡ forks_of volume
+    ensures { (volume : VolumeState) → sectors ≡ volume.sectors → head.now ≡ volume.head → overflows_in rows.now ≡ overflow_in_volume volume → owned_all forks.now ≡ forks_of volume → attributes.now ≡ volume.attribute_pairs
         → IfOk result (λ list. blocks_of list ≡ used_in volume) }
 {
     let mut list = read_reserved(alloc, sectors, head)?;
     add_owned(alloc, &mut list, rows, forks)?;
     add_bad(&mut list, rows)?;
+    add_values(alloc, &mut list, attributes)?;
     Ok(list)
 }

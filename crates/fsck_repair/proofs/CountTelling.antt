@@ -86,6 +86,10 @@ module _ (content : Content) (headers : Headers) (tree : Head) (trees : Trees) (
   pub catalog_is : trees.catalog ≡ (volume_of content).catalog_pairs
   catalog_is = pairs_are
 
+  pub attributes_are : trees.attributes ≡ (volume_of content).attribute_pairs
+  unfolding volume_of
+  attributes_are = are.of_attributes.pairs_are
+
   pub head_is : headers.head ≡ (volume_of content).head
   unfolding volume_of
   head_is = has.head
@@ -111,7 +115,7 @@ module _ (content : Content) (headers : Headers) (tree : Head) (trees : Trees) (
   can_mend extents kinds inside is kinds_met kinds_told inside_met inside_told once = record {
     header = has.good;
     sizes = sized.sizes;
-    trees = record { extents = are.of_extents.tree; catalog = are.of_catalog.tree; compare = sized.compare; attributes = are.of_attributes };
+    trees = record { extents = are.of_extents.tree; catalog = are.of_catalog.tree; compare = sized.compare; attributes = are.of_attributes.tree };
     spelled = subst (λ (l : List Pair). AreSpelled l) pairs_are (kinds_told.0 kinds_met).0;
     kinds = subst (λ (l : List Pair). All (λ placed. is_thread placed.value ≡ is_empty placed.name) (placed_in l)) pairs_are (kinds_told.0 kinds_met).1;
     inside = subst (λ (h : VolumeHeader). LieInside h.total_blocks (extents_of (overflow_in_volume (volume_of content)) allocation_id data_kind h.allocation_fork)) head_is

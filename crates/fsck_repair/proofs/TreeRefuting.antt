@@ -1,7 +1,6 @@
 -- A finding of a tree denies that the content can be repaired.
-use Rattle.std.proofs.Common.{◌≡◌, ◌<◌, ◌≤◌, ℕ, ◌+◌, ◌-◌, ◌/◌, true, false, List, [], length, get_or, sym, ◌∙◌, subst, arith, IsTrue}
+use Rattle.std.proofs.Common.{◌≡◌, ◌<◌, ◌≤◌, ℕ, ◌+◌, ◌-◌, ◌/◌, true, List, [], length, get_or, sym, ◌∙◌, subst, arith, IsTrue}
 use Rattle.std.specs.Prelude.{Contains, Option, None, Some, MatchOption, Result, Ok, Err, IfOk}
-use Rattle.std.proofs.lemmas.Bool.{true≢false}
 use Rattle.std.proofs.lemmas.List.Elements.{All-contains_itself}
 use Rattle.sector_disk.specs.Space.{Space}
 use Rattle.jnl_format.specs.Recovery.{Content, header_of_volume}
@@ -14,11 +13,10 @@ use Rattle.hfs_volume.specs.Broken.{IsBrokenTree}
 use Rattle.hfs_volume.specs.Content.{extents_file, catalog_file, attributes_file, has_attributes}
 use Rattle.hfs_volume.specs.Forks.{extents_id, catalog_id, attributes_id}
 use Rattle.hfs_volume.proofs.TreeUnbroken.{tree_is_unbroken}
-use Rattle.fsck_core.specs.Shown.{Shows, HoldsCatalog}
+use Rattle.fsck_core.specs.Shown.{Shows, HoldsAttributes, HoldsCatalog}
 use Rattle.fsck_core.specs.Wants.{as_found}
-use Rattle.fsck_core.proofs.ShownLaws.{catalog_held}
+use Rattle.fsck_core.proofs.ShownLaws.{attributes_held, catalog_held}
 use Rattle.volume_repair.specs.Repair.{IsMendable}
-use Rattle.fsck_repair.specs.Counted.{Decides, HasAttributesTree}
 
 catalog_long : (key : List ℕ) → IsCatalogKey key → length key + 4 ≤ 4096 / 2 - 10
 catalog_long key is = let own = is.size in let name = is.name in let most = is.most in omega (arith, own, name, most)
@@ -64,12 +62,11 @@ catalog_told space content (Err e) out shows each found = tt
 catalog_told space content (Ok None) out shows each found = no_catalog space content shows out found each
 catalog_told space content (Ok (Some pairs)) out shows each found = catalog_held space content pairs out shows found
 
--- it holds, or the content can't be repaired
-pub decided_yes : (content : Content) (Holds : Type 0) → Holds → Decides content Holds true
-decided_yes content Holds has = record { holds = λ _. has; fails = λ is. absurd (true≢false is) }
-
-pub decided_no : (content : Content) (Holds : Type 0) → ¬ IsMendable content → Decides content Holds false
-decided_no content Holds none = record { holds = λ is. absurd (true≢false (sym is)); fails = λ _. none }
-
-pub no_attributes_told : (content : Content) → has_attributes (header_of_volume content) ≡ false → Decides content (HasAttributesTree content) true
-no_attributes_told content none = record { holds = λ is has. absurd (true≢false (sym has ∙ none)); fails = λ is. absurd (true≢false is) }
+-- what a scan of the attributes file gives, where there is one
+pub attributes_told : {E : Type 0} (space : Space) (content : Content) (result : Result (Option (List Pair)) E) (out : List Listed) → Shows space content → has_attributes (header_of_volume content) ≡ true
+    → ((f : Listed) → Contains out f → IsBrokenTree attributes_form IsAttrKey anything attr_cmp attributes_id (attributes_file space.content) (as_found f))
+    → IfOk result (λ o. MatchOption o (0 < length out) (λ pairs. IsTreeFile attributes_form IsAttrKey anything attr_cmp (attributes_file space.content) × (pairs ≡ pairs_of (store_of (attributes_file space.content))) × (out ≡ [])))
+    → IfOk result (λ o. MatchOption o (¬ IsMendable content) (λ pairs. HoldsAttributes content pairs))
+attributes_told space content (Err e) out shows has each found = tt
+attributes_told space content (Ok None) out shows has each found = no_attributes space content shows out found has each
+attributes_told space content (Ok (Some pairs)) out shows has each found = attributes_held space content pairs out shows has found

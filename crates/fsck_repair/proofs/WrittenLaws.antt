@@ -9,8 +9,9 @@ use Rattle.alloc_bitmap.specs.Apart.{times}
 use Rattle.alloc_bitmap.proofs.ApartLaws.{times-append, times-cons}
 use Rattle.jnl_format.specs.Recovery.{Content, header_of_volume}
 use Rattle.hfs_volume.specs.Blocks.{used_in}
-use Rattle.hfs_volume.specs.Content.{VolumeState, volume_of, records_of, overflow_in_volume, overflow_of_content, bitmap_sectors}
+use Rattle.hfs_volume.specs.Content.{VolumeState, volume_of, records_of, attributes_of, overflow_in_volume, overflow_of_content, bitmap_sectors}
 use Rattle.hfs_volume.specs.Forks.{fork_blocks, reserved_blocks, used_blocks, all_forks, file_forks, blocks_owned, bad_extents, per_block_of, allocation_id, catalog_id, extents_id, startup_id, attributes_id, data_kind}
+use Rattle.hfs_volume.specs.Values.{blocks_of_values}
 use Rattle.hfs_volume.proofs.Members.{at_front, behind, each_of}
 use Rattle.volume_repair.specs.Repair.{IsMendable, blocks_written, catalog_sectors, place_from}
 use Rattle.fsck_repair.proofs.PlaceLaws.{place_once, place_none, stands_some, times_sectors}
@@ -49,12 +50,14 @@ module _ (volume : VolumeState) where
       let extents = fork_blocks overflow extents_id data_kind head.extents_fork in
       let reserved = reserved_blocks volume.sectors head in
       let bad = blocks_of (bad_extents overflow) in
+      let values = blocks_of_values (attributes_of volume) in
+      let v = times-append block ((reserved ++ (extents ++ (catalog ++ (allocation ++ (startup ++ (attributes ++ files)))))) ++ bad) values in
       let e = times-append block (reserved ++ (extents ++ (catalog ++ (allocation ++ (startup ++ (attributes ++ files)))))) bad in
       let a = times-append block reserved (extents ++ (catalog ++ (allocation ++ (startup ++ (attributes ++ files))))) in
       let b = times-append block extents (catalog ++ (allocation ++ (startup ++ (attributes ++ files)))) in
       let c = times-append block catalog (allocation ++ (startup ++ (attributes ++ files))) in
       let d = times-append block allocation (startup ++ (attributes ++ files)) in
-      omega (arith, e, a, b, c, d)
+      omega (arith, v, e, a, b, c, d)
 
   -- so each of them stands once in one of the files
   pub each_once : (block : ℕ) → All (λ b. times b (used_in volume) ≤ 1) (blocks_written volume) → times block allocation + times block catalog ≤ 1

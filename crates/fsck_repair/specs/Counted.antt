@@ -5,20 +5,18 @@ use Rattle.hx_bytes.specs.Field.{big}
 use Rattle.sector_disk.specs.Lists.{Content}
 use Rattle.jnl_format.specs.Recovery.{header_of_volume}
 use Rattle.alloc_bitmap.specs.Apart.{times}
-use Rattle.btree_node.specs.Keys.{IsAttrKey, attr_cmp, anything}
-use Rattle.btree_node.specs.TreeFile.{IsTreeFile, attributes_form}
 use Rattle.hfs_volume.specs.Blocks.{IsGoodHeader, HasTreeSize, used_in}
 use Rattle.hfs_volume.specs.Records.{Placed, entries_of}
 use Rattle.hfs_volume.specs.Links.{private_id}
 use Rattle.hfs_volume.specs.Forks.{extents_of, allocation_id, catalog_id, data_kind}
-use Rattle.hfs_volume.specs.Content.{VolumeState, volume_of, records_of, overflow_of_content, attributes_file, catalog_file, has_attributes}
+use Rattle.hfs_volume.specs.Content.{VolumeState, volume_of, records_of, overflow_of_content, catalog_file, has_attributes}
 use Rattle.fsck_scan.specs.Form.{head_in}
 use Rattle.fsck_scan.specs.declared.form.Head.{Head}
 use Rattle.fsck_core.specs.Flags.{AreUsed}
 use Rattle.fsck_core.specs.Links.{link_count}
 use Rattle.fsck_core.specs.Rows.{rows_of}
 use Rattle.fsck_core.specs.declared.reading.Headers.{Headers}
-use Rattle.fsck_core.specs.Shown.{HoldsExtents, HoldsCatalog}
+use Rattle.fsck_core.specs.Shown.{HoldsAttributes, HoldsCatalog, HoldsExtents}
 use Rattle.volume_repair.specs.Recount.{header_recounted}
 use Rattle.volume_repair.specs.Repair.{IsMendable, HasFileSizes, blocks_written, needs_copy}
 use Rattle.fsck_repair.specs.declared.counts.Counts.{Counts}
@@ -32,15 +30,11 @@ pub record Decides (content : Content) (Holds : Type 0) (met : Bool) : Type 0 wh
   pub holds : met ≡ true → Holds
   pub fails : met ≡ false → ¬ IsMendable content
 
--- the attributes file is a tree in its file, where there is one
-abbrev pub HasAttributesTree : Content → Type 0
-HasAttributesTree content = IsTrue (has_attributes (header_of_volume content)) → IsTreeFile attributes_form IsAttrKey anything attr_cmp (attributes_file content)
-
--- All trees keep their rules, and these are the overflow records and the pairs of the catalog.
+-- All trees keep their rules, and these are the overflow records and the pairs of the catalog and of the attributes file.
 pub record AreTrees (content : Content) (trees : Trees) : Type 0 where
   pub of_extents : HoldsExtents content trees.overflow.items
   pub of_catalog : HoldsCatalog content trees.catalog
-  pub of_attributes : HasAttributesTree content
+  pub of_attributes : HoldsAttributes content trees.attributes
 
 -- the attributes file has whole blocks and whole nodes, where there is one
 abbrev pub HasAttributesSize : Content → Type 0

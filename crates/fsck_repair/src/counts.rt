@@ -100,14 +100,15 @@ fn mark_once(
     head: &VolumeHeader,
     rows: &[OverflowRow],
     catalog: &Pairs,
+    attributes: &Pairs,
 ) -> Result<Option<Marks>, OutOfMemory>
     requires good { IsGoodHeader sectors head.now }
     requires spelled { AreSpelled catalog.now }
-    ensures { (volume : VolumeState) → sectors ≡ volume.sectors → head.now ≡ volume.head → overflows_in rows.now ≡ overflow_in_volume volume → catalog.now ≡ volume.catalog_pairs
+    ensures { (volume : VolumeState) → sectors ≡ volume.sectors → head.now ≡ volume.head → overflows_in rows.now ≡ overflow_in_volume volume → catalog.now ≡ volume.catalog_pairs → attributes.now ≡ volume.attribute_pairs
         → IfOk result (λ o. MatchOption o (¬ UsesOnce volume) (λ used. UsesOnce volume × AreUsed volume used)) }
 {
     let forks = read_forks(alloc, head, catalog)?;
-    let extents = read_used(alloc, sectors, head, rows, &forks)?;
+    let extents = read_used(alloc, sectors, head, rows, &forks, attributes)?;
     let mut used = Marks::new(alloc, head.total_blocks)?;
     let apart = mark_used(alloc, &extents, &mut used)?;
     if apart {
@@ -158,7 +159,15 @@ fn count_trees(
     if !lie_inside(head.total_blocks, allocation.as_slice()) {
         return Ok(None);
     }
-    let Some(used) = mark_once(alloc, sectors, &head, &trees.overflow, &trees.catalog)? else {
+    let found = mark_once(
+        alloc,
+        sectors,
+        &head,
+        &trees.overflow,
+        &trees.catalog,
+        &trees.attributes,
+    )?;
+    let Some(used) = found else {
         return Ok(None);
     };
     let catalog = catalog_extents(alloc, &head, &trees.overflow)?;

@@ -7,9 +7,9 @@ ghost use Rattle.btree_file.specs.Frame.{ReadsSpace};
 ghost use Rattle.hfs_volume.specs.Blocks.{IsGoodHeader};
 ghost use Rattle.hfs_volume.specs.Content.{overflow_of_content};
 ghost use Rattle.fsck_core.specs.Overflows.{overflows_in};
-ghost use Rattle.fsck_core.specs.Shown.{Shows, HoldsExtents, HoldsCatalog};
+ghost use Rattle.fsck_core.specs.Shown.{HoldsAttributes, HoldsCatalog, HoldsExtents, Shows};
 ghost use Rattle.volume_repair.specs.Repair.{IsMendable};
-ghost use Rattle.fsck_repair.specs.Counted.{Decides, HasAttributesTree, AreTrees};
+ghost use Rattle.fsck_repair.specs.Counted.{AreTrees};
 
 use fsck_core::{OverflowRow, read_overflow, scan_attributes, scan_catalog, scan_extents};
 use fsck_list::Findings;
@@ -24,6 +24,7 @@ use volume_header::VolumeHeader;
 pub(crate) struct Trees {
     pub overflow: Vec<OverflowRow>,
     pub catalog: Pairs,
+    pub attributes: Pairs,
 }
 
 /// Reads the overflow records, if their tree keeps its rules.
@@ -63,27 +64,24 @@ fn read_catalog<V: SectorView>(
     scan_catalog(alloc, view, head, rows, &mut out)
 }
 
-/// Whether the attributes file keeps its rules, where the volume has one.
-fn has_attributes_tree<V: SectorView>(
+/// Reads the attributes file, if it keeps its rules; a volume without one has no attributes.
+fn read_attributes<V: SectorView>(
     alloc: Global,
     view: &mut V,
     head: &VolumeHeader,
     rows: &[OverflowRow],
-) -> Result<bool, Trouble>
+) -> Result<Option<Pairs>, Trouble>
     requires good { IsGoodHeader (V.space view.old).sectors head.now }
-    ensures met { (content : Content) → Shows (V.space view.old) content → head.now ≡ header_of_volume content → overflows_in rows.now ≡ overflow_of_content content → IfOk result (Decides content (HasAttributesTree content)) }
+    ensures found { (content : Content) → Shows (V.space view.old) content → head.now ≡ header_of_volume content → overflows_in rows.now ≡ overflow_of_content content → IfOk result (λ o. MatchOption o (¬ IsMendable content) (λ pairs. HoldsAttributes content pairs)) }
     ensures reads { ReadsSpace (V.space view.old) (V.space view.new) }
     ensures below { V.follows view.old view.new }
     ensures disk { IsErrOf result Disk → Rose (V.space view.old).faults (V.space view.new).faults }
 {
     if head.attributes_fork.logical_size == 0 {
-        return Ok(true);
+        return Ok(Some(Pairs::new(alloc)));
     }
     let mut out = Findings::new(alloc);
-    let Some(_pairs) = scan_attributes(alloc, view, head, rows, &mut out)? else {
-        return Ok(false);
-    };
-    Ok(true)
+    scan_attributes(alloc, view, head, rows, &mut out)
 }
 
 /// Reads what the trees hold, if all of them keep their rules.
@@ -101,12 +99,15 @@ pub(crate) fn read_trees<V: SectorView>(
     let Some(overflow) = read_rows(alloc, view, head)? else {
         return Ok(None);
     };
-    let attributes = has_attributes_tree(alloc, view, head, &overflow)?;
-    if !attributes {
+    let Some(attributes) = read_attributes(alloc, view, head, &overflow)? else {
         return Ok(None);
-    }
+    };
     let Some(catalog) = read_catalog(alloc, view, head, &overflow)? else {
         return Ok(None);
     };
-    Ok(Some(Trees { overflow, catalog }))
+    Ok(Some(Trees {
+        overflow,
+        catalog,
+        attributes,
+    }))
 }

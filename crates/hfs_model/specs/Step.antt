@@ -34,7 +34,7 @@ most_links = 32767
 
 -- the most bytes of an attribute's value
 abbrev pub most_attribute : ℕ
-most_attribute = 1700
+most_attribute = 131072
 
 -- ---- names that the volume keeps for itself
 
@@ -241,6 +241,10 @@ to_set tree path value = then_ (to_node tree path) (λ node. unless (nat_lt most
 abbrev pub to_attribute : PlainTree → List (List ℕ) → List ℕ → Result (PlainNode × PlainAttribute) Refusal
 to_attribute tree path name = then_ (to_node tree path) (λ node. then_ (ok_or (attribute_at node name) refusal.NoAttribute) (λ attribute. Ok (node, attribute)))
 
+-- the same, of a value that a reply holds: another system may have written a longer one
+abbrev pub to_value : PlainTree → List (List ℕ) → List ℕ → Result (PlainNode × PlainAttribute) Refusal
+to_value tree path name = then_ (to_attribute tree path name) (λ pair. unless (nat_lt most_attribute (length pair.1.value)) refusal.TooLarge pair)
+
 -- ---- changes of the tree
 
 -- entries of the folder changed at this moment
@@ -371,7 +375,7 @@ step tree (command.Ls path) = on tree (to_folder tree path) (λ folder. (reply.L
 step tree (command.Stat path) = on tree (to_node tree path) (λ node. (reply.Facts (facts_of tree node), tree))
 step tree (command.Chmod path mode) = on tree (to_node tree path) (λ node. (reply.Ok, marked node.id (with_changed node.id (λ old. record old { mode = mode }) tree)))
 step tree (command.SetAttr path name value) = on tree (to_set tree path value) (λ node. (reply.Ok, marked node.id (with_changed node.id (with_attribute name value) tree)))
-step tree (command.GetAttr path name) = on tree (to_attribute tree path name) (λ pair. (reply.Content pair.1.value, tree))
+step tree (command.GetAttr path name) = on tree (to_value tree path name) (λ pair. (reply.Content pair.1.value, tree))
 step tree (command.DelAttr path name) = on tree (to_attribute tree path name) (λ pair. (reply.Ok, marked pair.0.id (with_changed pair.0.id (without_attribute name) tree)))
 step tree (command.LsAttr path) = on tree (to_node tree path) (λ node. (reply.Listing (map listed_attribute node.attributes), tree))
 step tree (command.At moment) = (reply.Ok, record tree { moment = moment })

@@ -4,7 +4,7 @@ ghost use Rattle.hfs_language.specs.declared.reply.Reply.TheVariants as reply;
 ghost use Rattle.hfs_model.specs.Plain.{entries_in, with_changed, with_attribute, without_attribute};
 ghost use Rattle.hfs_model.specs.Change.{change_of};
 ghost use Rattle.hfs_model.specs.Answers.{step_told};
-ghost use Rattle.hfs_model.specs.Step.{on, to_make, to_rm, to_rmdir, to_mv, to_link, to_node, to_file, to_folder, to_write, to_read, to_trunc, to_set, to_attribute, made, removed, removed_folder, moved_over, is_same_file, vacated, linked, written, resized, with_bytes, marked, facts_of, listed, listed_attribute};
+ghost use Rattle.hfs_model.specs.Step.{on, to_make, to_rm, to_rmdir, to_mv, to_link, to_node, to_file, to_folder, to_write, to_read, to_trunc, to_set, to_attribute, made, removed, removed_folder, moved_over, is_same_file, vacated, linked, written, resized, with_bytes, marked, facts_of, listed, listed_attribute, to_value, moved};
 
 use crate::bytes::{part, resized, written};
 use crate::changing::NodeChange;
@@ -294,10 +294,10 @@ impl PlainTree {
         path: &[Units],
         name: &Units,
     ) -> Result<Answer, OutOfMemory>
-        ensures { IfOk result (λ answer. step_told self.now answer ≡ on self.now (to_attribute self.now path.now name.now) (λ pair. (reply.Content pair.1.value, self.now))) }
+        ensures { IfOk result (λ answer. step_told self.now answer ≡ on self.now (to_value self.now path.now name.now) (λ pair. (reply.Content pair.1.value, self.now))) }
     {
         let root = PlainEntry::root(alloc);
-        match self.to_attribute(&root, path, name) {
+        match self.to_value(&root, path, name) {
             Ok((_, attribute)) => Ok(told(Reply::Content(copy_list(alloc, &attribute.value)?))),
             Err(why) => Ok(refused(why)),
         }

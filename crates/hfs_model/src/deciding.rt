@@ -1,6 +1,6 @@
 //! What a command is about on a plain tree, or the first reason against it.
 ghost use Rattle.std.specs.Prelude.{◌≡◌, option_copied};
-ghost use Rattle.hfs_model.specs.Step.{root_entry, to_make, to_rm, to_rmdir, to_pair, stands_in_way, to_mv, to_ln, to_link, to_node, to_file, to_folder, to_write, to_read, to_trunc, to_set, to_attribute};
+ghost use Rattle.hfs_model.specs.Step.{root_entry, to_make, to_rm, to_rmdir, to_pair, stands_in_way, to_mv, to_ln, to_link, to_node, to_file, to_folder, to_write, to_read, to_trunc, to_set, to_attribute, to_value};
 ghost use Rattle.hfs_model.specs.Refers.{pointed, site_told, pair_told, link_told, attribute_told};
 
 use crate::plain::{PlainAttribute, PlainEntry, PlainNode, PlainTree};
@@ -18,7 +18,7 @@ const MOST_BYTES: u64 = 65_536;
 const MOST_LINKS: usize = 32_767;
 
 /// The most bytes of an attribute's value.
-const MOST_ATTRIBUTE: usize = 1_700;
+const MOST_ATTRIBUTE: usize = 131_072;
 
 impl PlainTree {
     pub(crate) fn to_make<'a>(
@@ -268,6 +268,23 @@ impl PlainTree {
             Some(attribute) => Ok((node, attribute)),
             None => Err(Refusal::NoAttribute),
         }
+    }
+
+    /// The same, of a value that a reply holds: another system may have written a longer one.
+    pub(crate) fn to_value(
+        &self,
+        root: &PlainEntry,
+        path: &[Units],
+        name: &Units,
+    ) -> Result<(&PlainNode, &PlainAttribute), Refusal>
+        requires root { root.now ≡ root_entry }
+        ensures { attribute_told result ≡ to_value self.now path.now name.now }
+    {
+        let (node, attribute) = self.to_attribute(root, path, name)?;
+        if attribute.value.len() > MOST_ATTRIBUTE {
+            return Err(Refusal::TooLarge);
+        }
+        Ok((node, attribute))
     }
 }
 

@@ -1,6 +1,6 @@
 -- Stretches of which each line was answered, from batch to batch and from stage to stage.
 use Rattle.std.proofs.Common.{◌≡◌, ◌⊎◌, inl, inr, ⊎_elim, ◌+◌, ◌++◌, [], ℕ, List, length, take, Result, Err, refl, sym, ◌∙◌, ap, subst, arith}
-use Rattle.std.specs.Prelude.{IfErr, IsErrOf, IsTrue, None, Option, Some}
+use Rattle.std.specs.Prelude.{IfErr, IsTrue, None, Option, Some}
 use Rattle.std.proofs.lemmas.List.{append-nil, length-map, take_all}
 use Rattle.hx_bytes.specs.declared.faults.Trouble.{Trouble}
 use Rattle.hx_bytes.specs.declared.faults.Trouble.TheVariants as trouble
@@ -15,36 +15,40 @@ use Rattle.jnl_store.specs.Spaces.{found}
 use Rattle.hfs_volume.specs.Aside.{AsideIsFree}
 use Rattle.hfs_volume.specs.Mount.{MountsTo}
 use Rattle.hfs_volume.specs.Reclaim.{Tidies}
-use Rattle.volume_runs.specs.Run.{Entry, content_after, lines_of, replies_of, shrunk_in, tree_after}
+use Rattle.volume_runs.specs.Run.{Entry, content_after, shrunk_in, tree_after}
 use Rattle.hfs_volume.specs.Sound.{IsSound}
+use Rattle.hfs_volume.specs.TreeOf.{tree_of}
 use Rattle.hfs_serving.specs.Beginning.{BeginsRun}
 use Rattle.hfs_serving.specs.Closing.{Finishes}
-use Rattle.hfs_serving.specs.Ending.{AnswersRig, AnswersRun, AnswersStep, AnswersToTheLast, BeginsMore, EndsAtRest, EndsTaking, FinishesRun, IsFinal, IsPutAway, stop_in}
+use Rattle.hfs_serving.specs.Ending.{AnswersRig, AnswersRun, AnswersToTheLast, BeginsMore, EndsAtRest, EndsTaking, FinishesRun, IsFinal, IsPutAway, stop_in}
 use Rattle.hfs_serving.specs.Going.{Knowing}
 use Rattle.hfs_serving.specs.Grounds.{anchor_of}
 use Rattle.hfs_serving.specs.Opening.{MayServe, Opens}
 use Rattle.hfs_serving.specs.Outside.{Outside, outside_of}
 use Rattle.hfs_serving.specs.Readying.{IsVersioned, mounted_plan}
-use Rattle.hfs_serving.specs.Runs.{Crashes, IsMarked, KeepsPlace, LeadsToRest, Serves, StandsAs, plain_answers}
+use Rattle.hfs_serving.specs.Runs.{IsMarked, KeepsPlace, LeadsToRest, Serves, StandsAs, texts_of}
 use Rattle.hfs_serving.specs.Stages.{Turns}
 use Rattle.hfs_language.specs.declared.reply.Change.{Change}
-use Rattle.hfs_serving.specs.Steps.{ServesStep, stop_of}
-use Rattle.hfs_serving.specs.Watching.{AnswersHeard, AnswersRigHeard, FinishesHeard, LastHeard, ServesHeard, StopsHeard}
+use Rattle.hfs_serving.specs.Speaking.{Said, Speech}
+use Rattle.hfs_serving.specs.Spoken.{AnswersRigSpoken, AnswersSpoken, ServesSpoken}
+use Rattle.hfs_serving.specs.Steps.{stop_of}
+use Rattle.hfs_serving.specs.Watching.{AnswersRigHeard, FinishesHeard, LastHeard, StopsHeard}
+use Rattle.hfs_language.specs.Language.{most_bytes}
+use Rattle.line_source.specs.Batch.{held}
 use Rattle.hfs_serving.specs.Taking.{HasTaken}
-use Rattle.hfs_serving.specs.Top.{AreTaken, KnowsTo}
+use Rattle.hfs_serving.specs.Top.{KnowsTo}
 use Rattle.hfs_serving.specs.declared.telling.Stop.{Stop}
 use Rattle.hfs_serving.specs.declared.telling.Stop.TheVariants as stop
 use Rattle.hfs_serving.proofs.Attached.{mount_serves}
-use Rattle.hfs_serving.proofs.Causes.{the_fault}
 use Rattle.hfs_serving.proofs.Grounding.{outside_by}
 use Rattle.hfs_serving.proofs.Lists.{shrunk_in-none}
 use Rattle.hfs_serving.proofs.Leading.{leads_to_rest, place_both, tidies_of}
-use Rattle.hfs_serving.proofs.Mounting.{found_in_run, plain_keeps, promises_all}
-use Rattle.hfs_serving.proofs.Plain.{served_plain}
-use Rattle.hfs_serving.proofs.Promising.{finds_by}
+use Rattle.hfs_serving.proofs.Mounting.{found_in_run, promises_all}
+use Rattle.hfs_serving.proofs.Pending.{held_all, held_take}
+use Rattle.hfs_serving.proofs.Promising.{crashes_behind, finds_by, mounted_tree}
 use Rattle.hfs_serving.proofs.Served.{finds_mounted}
 use Rattle.hfs_serving.proofs.Staging.{end_crashes}
-use Rattle.hfs_serving.proofs.Stretches.{plain_crashes_both, serves_crashes}
+use Rattle.hfs_serving.proofs.Stretches.{serves_crashes}
 use Rattle.hfs_serving.proofs.Texts.{texts_of-none}
 
 -- ---- which ends are final
@@ -64,10 +68,6 @@ trouble_ends trouble.Memory final = final
 
 pub no_end_of_trouble : {U : Type 0} (e : Trouble) (f : Stop) (r : Result U Stop) → r ≡ Err f → f ≡ stop_of e → IsFinal (stop_in r) → ⊥
 no_end_of_trouble e f r given same final = trouble_ends e (final_of (stop_of e) f r given same final)
-
--- the fault that was answered is the one that was given
-pub the_stop : {U : Type 0} (e f : Stop) (r : Result U Stop) (why : Stop) → r ≡ Err f → f ≡ e → IsErrOf r why → e ≡ why
-the_stop e f r why given same is = sym same ∙ the_fault r f why given is
 
 trouble_is : (t : Trouble) → (stop_of t ≡ stop.Disk) ⊎ (stop_of t ≡ stop.Memory)
 trouble_is trouble.Disk = inl refl
@@ -96,104 +96,97 @@ handed_answers e f r P taken source source_new given same answers final =
 -- ---- joining
 
 -- a step ends at rest
-step_rests : (count capacity : ℕ) (shrunk : Option ℕ) (start : Content) (old : Outside) (texts : List (List ℕ)) (knows : Knowing) (space : Space) (new : Outside) (step : ServesStep count capacity knows start shrunk old texts space new) → EndsAtRest capacity shrunk start step.run new
-step_rests count capacity shrunk start old texts knows space new step = record { last = step.now; rests = step.rests; stood = step.now; marked = inl refl; place = step.rests.place; leaves = step.serves.rests }
+step_rests : (said : Said) (heard : List Change) (count capacity : ℕ) (shrunk : Option ℕ) (start : Content) (old : Outside) (texts : List (List ℕ)) (knows : Knowing) (space : Space) (new : Outside) (step : ServesSpoken said heard count capacity knows start shrunk old texts space new) → EndsAtRest capacity shrunk start step.speech.run new
+step_rests said heard count capacity shrunk start old texts knows space new step = record { last = step.now; rests = step.rests; stood = step.now; marked = inl refl; place = step.rests.place; leaves = step.serves.rests }
 
--- served to the end
-pub answers_ends : (capacity : ℕ) (shrunk : Option ℕ) (start : Content) (old : Outside) (texts : List (List ℕ)) (knows : Knowing) (space : Space) (new : Outside) → ServesStep (length texts) capacity knows start shrunk old texts space new → AnswersStep capacity start shrunk old texts new
-answers_ends capacity shrunk start old texts knows space new step = record {
-  run = step.run;
-  crashes = serves_crashes capacity shrunk start old new step.run (plain_answers step.run) step.now step.serves;
-  asked = step.asked ∙ take_all (length texts) texts (omega arith);
-  told = served_plain old.told new.told step.run step.serves.told;
-  rested = step_rests (length texts) capacity shrunk start old texts knows space new step;
+-- the first of some lines were served
+pub answers_front : (said : Said) (heard : List Change) (count capacity : ℕ) (shrunk : Option ℕ) (start : Content) (old : Outside) (texts : List (List ℕ)) (knows : Knowing) (space : Space) (new : Outside) → ServesSpoken said heard count capacity knows start shrunk old (held most_bytes texts) space new
+    → AnswersSpoken said heard capacity start shrunk old (held most_bytes (take count texts)) new
+answers_front said heard count capacity shrunk start old texts knows space new step = record {
+  speech = step.speech;
+  crashes = serves_crashes capacity shrunk start old new step.speech.run step.speech.answers step.now step.serves;
+  asked = step.asked ∙ held_take count texts;
+  told = step.serves.told;
+  rested = step_rests said heard count capacity shrunk start old (held most_bytes texts) knows space new step;
+  is = step.is;
+  changes = step.changes;
 }
-
--- the first of some lines were
-pub answers_front : (count capacity : ℕ) (shrunk : Option ℕ) (start : Content) (old : Outside) (texts : List (List ℕ)) (knows : Knowing) (space : Space) (new : Outside) → ServesStep count capacity knows start shrunk old texts space new → AnswersStep capacity start shrunk old (take count texts) new
-answers_front count capacity shrunk start old texts knows space new step =
-    record { run = step.run; crashes = serves_crashes capacity shrunk start old new step.run (plain_answers step.run) step.now step.serves; asked = step.asked; told = served_plain old.told new.told step.run step.serves.told; rested = step_rests count capacity shrunk start old texts knows space new step }
-
-pub front_heard : (heard : List Change) (count capacity : ℕ) (shrunk : Option ℕ) (start : Content) (old : Outside) (texts : List (List ℕ)) (knows : Knowing) (space : Space) (new : Outside) → ServesHeard 0 heard count capacity knows start shrunk old texts space new → AnswersHeard heard capacity start shrunk old (take count texts) new
-unfolding answers_front
-front_heard heard count capacity shrunk start old texts knows space new step = (answers_front count capacity shrunk start old texts knows space new step.0, step.1)
 
 -- the end behind the last batch
-pub answers_finish : (capacity : ℕ) (start : Content) (old mid new : Outside) (texts : List (List ℕ)) (knows : Knowing) (space : Space) (step : ServesStep (length texts) capacity knows start None old texts space mid) → Finishes step.now mid new → AnswersStep capacity start None old texts new
-answers_finish capacity start old mid new texts knows space step finishes = record {
-  run = step.run;
-  crashes = end_crashes capacity None start step.run (plain_answers step.run) step.now finishes.ended old mid new step.serves (inr (inr finishes.sets)) finishes.place finishes.turns.may;
-  asked = step.asked ∙ take_all (length texts) texts (omega arith);
-  told = finishes.turns.may.told ∙ served_plain old.told mid.told step.run step.serves.told;
+pub answers_finish : (said : Said) (heard : List Change) (capacity : ℕ) (start : Content) (old mid new : Outside) (texts : List (List ℕ)) (knows : Knowing) (space : Space) (step : ServesSpoken said heard (length texts) capacity knows start None old (held most_bytes texts) space mid) → Finishes step.now mid new
+    → AnswersSpoken said heard capacity start None old (held most_bytes texts) new
+answers_finish said heard capacity start old mid new texts knows space step finishes = record {
+  speech = step.speech;
+  crashes = end_crashes capacity None start step.speech.run step.speech.answers step.now finishes.ended old mid new step.serves (inr (inr finishes.sets)) finishes.place finishes.turns.may;
+  asked = step.asked ∙ held_all texts;
+  told = finishes.turns.may.told ∙ step.serves.told;
   rested = record { last = step.now; rests = step.rests; stood = finishes.ended; marked = inr (inr finishes.sets); place = place_both start step.now finishes.ended step.rests.place finishes.place; leaves = finishes.turns.leaves };
+  is = step.is;
+  changes = step.changes;
 }
-
-pub all_heard : (heard : List Change) (capacity : ℕ) (start : Content) (old mid new : Outside) (texts : List (List ℕ)) (knows : Knowing) (space : Space) (step : ServesHeard 0 heard (length texts) capacity knows start None old texts space mid) → Finishes step.0.now mid new → AnswersHeard heard capacity start None old texts new
-unfolding answers_finish
-all_heard heard capacity start old mid new texts knows space step finishes = (answers_finish capacity start old mid new texts knows space step.0 finishes, step.1)
 
 -- seen by the plan of its start
-pub answers_seen : {heard : List Change} (capacity : ℕ) (start : Content) (plan plan_new : Plan) (before : Outside) (new : State) (texts : List (List ℕ)) → anchor_of plan_new ≡ anchor_of plan → AnswersHeard heard capacity start None before texts (outside_of plan_new new)
-    → AnswersHeard heard capacity start None before texts (outside_of plan new)
-answers_seen {heard} capacity start plan plan_new before new texts same step = subst (λ (f : Content → Content). AnswersHeard heard capacity start None before texts (outside_by f new)) (finds_by plan_new plan same) step
+pub answers_seen : {said : Said} {heard : List Change} (capacity : ℕ) (start : Content) (plan plan_new : Plan) (before : Outside) (new : State) (texts : List (List ℕ)) → anchor_of plan_new ≡ anchor_of plan → AnswersSpoken said heard capacity start None before texts (outside_of plan_new new)
+    → AnswersSpoken said heard capacity start None before texts (outside_of plan new)
+answers_seen {said} {heard} capacity start plan plan_new before new texts same step = subst (λ (f : Content → Content). AnswersSpoken said heard capacity start None before texts (outside_by f new)) (finds_by plan_new plan same) step
 
 -- a mount before it
-pub answers_joins : (capacity : ℕ) (start now : Content) (texts : List (List ℕ)) (before mid after : Outside) → Serves capacity None start before [] [] now mid → AnswersStep capacity now None mid texts after → AnswersStep capacity start None before texts after
-answers_joins capacity start now texts before mid after mounts step = record {
-  run = step.run;
-  crashes =
-      let no_more : 0 + length step.run ≡ length step.run = omega arith in
-      subst (λ (n : ℕ). Crashes capacity None start before step.run (plain_answers step.run) n after) no_more
-      (plain_crashes_both capacity None start before mid after [] step.run now mounts (length step.run) (subst (λ (s : Option ℕ). Crashes capacity s now mid step.run (plain_answers step.run) (length step.run) after) (sym (shrunk_in-none None)) step.crashes));
-  asked = step.asked;
-  rested =
-      let it = step.rested in
-      record {
-        last = it.last;
-        rests = leads_to_rest capacity None start [] step.run now mounts.leads None it.last (subst (λ (s : Option ℕ). LeadsToRest capacity s None now step.run it.last) (sym (shrunk_in-none None)) it.rests);
-        stood = it.stood;
-        marked = it.marked;
-        place = place_both start now it.stood mounts.leads.place it.place;
-        leaves = it.leaves;
-      };
-  told = step.told ∙ ap (λ (l : List ℕ). l ++ replies_of step.run) (mounts.told ∙ ap (λ (l : List ℕ). before.told ++ l) texts_of-none ∙ append-nil before.told);
-}
+answers_joins : {said : Said} {heard : List Change} (capacity : ℕ) (start now : Content) (texts : List (List ℕ)) (before mid after : Outside) → Serves capacity None start before [] [] now mid → AnswersSpoken said heard capacity now None mid texts after → AnswersSpoken said heard capacity start None before texts after
+answers_joins capacity start now texts before mid after mounts step =
+    let speech = step.speech in
+    record {
+      speech = speech;
+      crashes = crashes_behind capacity start now before mid after speech mounts (length speech.run) step.crashes;
+      asked = step.asked;
+      rested =
+          let it = step.rested in
+          record {
+            last = it.last;
+            rests = leads_to_rest capacity None start [] speech.run now mounts.leads None it.last (subst (λ (s : Option ℕ). LeadsToRest capacity s None now speech.run it.last) (sym (shrunk_in-none None)) it.rests);
+            stood = it.stood;
+            marked = it.marked;
+            place = place_both start now it.stood mounts.leads.place it.place;
+            leaves = it.leaves;
+          };
+      told = step.told ∙ ap (λ (l : List ℕ). l ++ texts_of speech.answers) (mounts.told ∙ ap (λ (l : List ℕ). before.told ++ l) texts_of-none ∙ append-nil before.told);
+      is = step.is;
+      changes = step.changes;
+    }
 
-joins_heard : {heard : List Change} (capacity : ℕ) (start now : Content) (texts : List (List ℕ)) (before mid after : Outside) → Serves capacity None start before [] [] now mid → AnswersHeard heard capacity now None mid texts after → AnswersHeard heard capacity start None before texts after
-unfolding answers_joins
-joins_heard capacity start now texts before mid after mounts step = (answers_joins capacity start now texts before mid after mounts step.0, step.1)
+-- of which something else is said
+answers_more : {heard : List Change} (said further : Said) (capacity : ℕ) (start : Content) (shrunk : Option ℕ) (old : Outside) (lines : List (List ℕ)) (new : Outside) → ((speech : Speech) → said speech → further speech) → AnswersSpoken said heard capacity start shrunk old lines new
+    → AnswersSpoken further heard capacity start shrunk old lines new
+answers_more said further capacity start shrunk old lines new more step =
+    record { speech = step.speech; crashes = step.crashes; asked = step.asked; told = step.told; rested = step.rested; is = more step.speech step.is; changes = step.changes }
 
 -- behind a run that was begun
-module _ (heard : List Change) (capacity : ℕ) (start now : Content) (plan : Plan) (first disk : State) (versioned : IsVersioned start now) (place : KeepsPlace start now) (turns : Turns start now (outside_of plan first) (outside_of plan disk)) (mid new : Plan) (same : found mid ≡ found plan) (anchor : anchor_of new ≡ anchor_of mid)
+module _ (said : Said) (heard : List Change) (capacity : ℕ) (start now : Content) (said_at : Content → Said) (more : (begun : Content) → tree_of begun ≡ tree_of start → (speech : Speech) → said_at begun speech → said speech) (plan : Plan) (first disk : State) (versioned : IsVersioned start now) (place : KeepsPlace start now) (turns : Turns start now (outside_of plan first) (outside_of plan disk)) (mid new : Plan) (same : found mid ≡ found plan) (anchor : anchor_of new ≡ anchor_of mid)
     (after last : State) (texts : List (List ℕ)) (knows : Knowing) (space : Space) where
   same_new : found new ≡ found plan
   same_new = finds_by new mid anchor ∙ same
 
   abbrev GoesOnBy : (Content → Content) → (Content → Content) → Type 0
   GoesOnBy f g =
-      (begins : BeginsRun capacity knows now None (outside_by f disk) space (outside_by g after)) → AnswersHeard heard capacity begins.begun None (outside_by g after) texts (outside_by g last) → AnswersHeard heard capacity start None (outside_of plan first) texts (outside_of plan last)
+      (begins : BeginsRun capacity knows now None (outside_by f disk) space (outside_by g after)) → AnswersSpoken (said_at begins.begun) heard capacity begins.begun None (outside_by g after) texts (outside_by g last) → AnswersSpoken said heard capacity start None (outside_of plan first) texts (outside_of plan last)
 
   by_plan : GoesOnBy (found plan) (found plan)
   by_plan begins step =
-      joins_heard capacity start begins.begun texts (outside_of plan first) (outside_of plan after) (outside_of plan last)
-      (mount_serves capacity start now (outside_of plan first) (outside_of plan disk) place turns knows space (outside_of plan after) begins versioned) step
+      let mounts = mount_serves capacity start now (outside_of plan first) (outside_of plan disk) place turns knows space (outside_of plan after) begins versioned in
+      answers_joins capacity start begins.begun texts (outside_of plan first) (outside_of plan after) (outside_of plan last) mounts
+      (answers_more (said_at begins.begun) said capacity begins.begun None (outside_of plan after) texts (outside_of plan last) (more begins.begun (mounted_tree capacity start begins.begun (outside_of plan first) (outside_of plan after) mounts)) step)
 
-  pub begun_answers : (begins : BeginsRun capacity knows now None (outside_of mid disk) space (outside_of new after)) → AnswersHeard heard capacity begins.begun None (outside_of new after) texts (outside_of new last) → AnswersHeard heard capacity start None (outside_of plan first) texts (outside_of plan last)
+  pub begun_answers : (begins : BeginsRun capacity knows now None (outside_of mid disk) space (outside_of new after)) → AnswersSpoken (said_at begins.begun) heard capacity begins.begun None (outside_of new after) texts (outside_of new last) → AnswersSpoken said heard capacity start None (outside_of plan first) texts (outside_of plan last)
   begun_answers = subst (λ (g : Content → Content). GoesOnBy (found mid) g) (sym same_new) (subst (λ (f : Content → Content). GoesOnBy f (found plan)) (sym same) by_plan)
 
 -- by the plan of the image
-pub answers_from : {heard : List Change} (plan ready : Plan) → ready ≡ mounted_plan plan → (capacity : ℕ) (start now : Content) (old mid new : State) (texts : List (List ℕ)) → Turns start now (outside_of plan old) (outside_of plan mid)
-    → (Turns start now (outside_of ready old) (outside_of ready mid) → AnswersHeard heard capacity start None (outside_of ready old) texts (outside_of ready new)) → AnswersHeard heard capacity start None (outside_of plan old) texts (outside_of plan new)
-answers_from {heard} plan ready is capacity start now old mid new texts turns goes =
+pub answers_from : {said : Said} {heard : List Change} (plan ready : Plan) → ready ≡ mounted_plan plan → (capacity : ℕ) (start now : Content) (old mid new : State) (texts : List (List ℕ)) → Turns start now (outside_of plan old) (outside_of plan mid)
+    → (Turns start now (outside_of ready old) (outside_of ready mid) → AnswersSpoken said heard capacity start None (outside_of ready old) texts (outside_of ready new)) → AnswersSpoken said heard capacity start None (outside_of plan old) texts (outside_of plan new)
+answers_from {said} {heard} plan ready is capacity start now old mid new texts turns goes =
     let same : found ready ≡ found plan = ap found is ∙ finds_mounted plan in
-    subst (λ (f : Content → Content). AnswersHeard heard capacity start None (outside_by f old) texts (outside_by f new)) same
+    subst (λ (f : Content → Content). AnswersSpoken said heard capacity start None (outside_by f old) texts (outside_by f new)) same
     (goes (subst (λ (f : Content → Content). Turns start now (outside_by f old) (outside_by f mid)) (sym same) turns))
 
 -- ---- over a rig
-
-taken_all : (source source_new : Stream) (texts : List (List ℕ)) (run : List Entry) → lines_of run ≡ texts → HasTaken [] source texts source_new → AreTaken source run source_new
-taken_all source source_new texts run asked has =
-    record { taken = has.used; left = has.bytes; first = (has.first.0, has.first.1 ∙ ap (λ (l : List (List ℕ)). l ++ has.first.0) (sym asked)) }
 
 -- what a mount finds where housekeeping came to rest, it opens
 opens_rested : (law : AsideIsFree) (capacity : ℕ) (start : Content) (run : List Entry) (plan : Plan) → IsSound start → MayServe plan capacity start → (image last stood : Content) → LeadsToRest capacity None None start run last → IsMarked last stood → KeepsPlace start stood → StandsAs stood (found plan image) → Opens image capacity (found plan image)
@@ -212,27 +205,24 @@ opens_rested law capacity start run plan sound may image last stood leads marked
       stands = stands;
     })).0
 
-pub answers_rig : (law : AsideIsFree) (capacity : ℕ) (start : Content) (plan : Plan) (old new : State) (texts : List (List ℕ)) → ((image : Content) (told : List ℕ) → old.clock.left old.clock.moment image told → LeftNow old image told)
+pub answers_rig : (said : Said) (heard : List Change) (law : AsideIsFree) (capacity : ℕ) (start : Content) (plan : Plan) (old new : State) (texts : List (List ℕ)) → ((image : Content) (told : List ℕ) → old.clock.left old.clock.moment image told → LeftNow old image told)
     → ((image : Content) → IsImage old.candidates image → StandsAs start (found plan image)) → IsSound start → MayServe plan capacity start → (source source_new : Stream) → (IsTrue source.tells → HasTaken [] source texts source_new)
-    → AnswersStep capacity start None (outside_of plan old) texts (outside_of plan new) → AnswersRig capacity start old source texts new source_new
-answers_rig law capacity start plan old new texts only_now starts sound may source source_new taken step = record {
-  run = step.run;
-  keeps =
-      plain_keeps capacity start old source step.run (length step.run) new source_new (promises_all law plan capacity start old new step.run (plain_answers step.run) (length step.run) step.crashes starts only_now sound may)
-      (λ tells. taken_all source source_new texts step.run step.asked (taken tells));
-  asked = step.asked;
-  told = step.told;
-  rested = λ image is.
-      let it = step.rested in
-      let stands = it.leaves (found plan image) (image, is, refl) in
-      record { last = it.last; rests = it.rests.rests; stood = it.stood; marked = it.marked; recovered = found plan image; opens = opens_rested law capacity start step.run plan sound may image it.last it.stood it.rests it.marked it.place stands; stands = stands };
-}
-
-pub rig_heard : {heard : List Change} (law : AsideIsFree) (capacity : ℕ) (start : Content) (plan : Plan) (old new : State) (texts : List (List ℕ)) → ((image : Content) (told : List ℕ) → old.clock.left old.clock.moment image told → LeftNow old image told)
-    → ((image : Content) → IsImage old.candidates image → StandsAs start (found plan image)) → IsSound start → MayServe plan capacity start → (source source_new : Stream) → (IsTrue source.tells → HasTaken [] source texts source_new)
-    → AnswersHeard heard capacity start None (outside_of plan old) texts (outside_of plan new) → AnswersRigHeard heard capacity start old source texts new source_new
-unfolding answers_rig
-rig_heard law capacity start plan old new texts only_now starts sound may source source_new taken step = (answers_rig law capacity start plan old new texts only_now starts sound may source source_new taken step.0, step.1)
+    → AnswersSpoken said heard capacity start None (outside_of plan old) (held most_bytes texts) (outside_of plan new) → AnswersRigSpoken said heard capacity start old source texts new source_new
+answers_rig said heard law capacity start plan old new texts only_now starts sound may source source_new taken step =
+    let run = step.speech.run in
+    record {
+      speech = step.speech;
+      keeps = promises_all law plan capacity start old new run step.speech.answers (length run) step.crashes starts only_now sound may;
+      taken = taken;
+      asked = step.asked;
+      told = step.told;
+      rested = λ image is.
+          let it = step.rested in
+          let stands = it.leaves (found plan image) (image, is, refl) in
+          record { last = it.last; rests = it.rests.rests; stood = it.stood; marked = it.marked; recovered = found plan image; opens = opens_rested law capacity start run plan sound may image it.last it.stood it.rests it.marked it.place stands; stands = stands };
+      is = step.is;
+      changes = step.changes;
+    }
 
 -- ---- as users read it
 

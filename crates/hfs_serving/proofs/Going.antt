@@ -1,25 +1,27 @@
 -- A volume that goes on within a batch.
-use Rattle.std.proofs.Common.{◌≡◌, ◌⊎◌, ◌≤◌, ◌+◌, ◌∷◌, [], ◌++◌, ℕ, List, true, false, inl, inr, ⊎_elim, refl, sym, ◌∙◌, ap, arith, length, subst, take}
+use Rattle.std.proofs.Common.{◌≡◌, ◌⊎◌, ◌≤◌, ◌+◌, ◌∷◌, [], ◌++◌, ℕ, List, true, false, inl, inr, ⊎_elim, refl, sym, ◌∙◌, ap, subst}
 use Rattle.std.specs.Prelude.{◌&&◌, Bool, Option, None, Result, Ok, Err, OnOk, OnErr}
-use Rattle.std.proofs.lemmas.List.{append-nil, length-map, length-take-le}
 use Rattle.sector_disk.specs.Space.{Space}
 use Rattle.jnl_format.specs.Recovery.{Content}
+use Rattle.hfs_language.specs.Text.{reply_text}
 use Rattle.hfs_language.specs.declared.command.Command.{Command}
+use Rattle.hfs_language.specs.declared.reply.Change.{Change}
+use Rattle.hfs_language.specs.declared.reply.Reply.{Reply}
 use Rattle.hfs_volume.specs.Content.{volume_of}
 use Rattle.volume_runs.specs.Rest.{IsAtRest, IsTidiedFor, TidiesFor, no_step, one_step}
-use Rattle.volume_runs.specs.Run.{Entry, IsRunFrom, content_after, shrunk_in, lines_of}
-use Rattle.hfs_serving.specs.Going.{Knowing, Stands, Stays, Tidied, Answered, AnswersTo, ahead_of, asked_in, is_answered, wants_commit, GoesTidy, GoesRested, GoesOn, ServesBatch, ServesLine, ServesLines, StopsLines, StopsOn, line_if}
+use Rattle.volume_runs.specs.Run.{Entry, IsRunFrom, content_after, shrunk_in, lines_of, replies_of}
+use Rattle.volume_runs.specs.Told.{changes_in}
+use Rattle.hfs_serving.specs.Going.{Does, DoesOn, Hearing, Knowing, Stands, Stays, Tidied, AnswersTo, ahead_of, asked_in, is_answered, wants_commit, GoesTidy, GoesRested, GoesOn, StopsOn}
 use Rattle.hfs_serving.specs.declared.volume.Step.{Step}
 use Rattle.hfs_serving.specs.declared.volume.Step.TheVariants as step
 use Rattle.hfs_serving.specs.Outside.{Outside}
 use Rattle.hfs_serving.specs.Runs.{Leads, LeadsToRest}
 use Rattle.hfs_serving.specs.Serving.{Touches, MayCommit, Commits, Goes, Stops}
-use Rattle.hfs_serving.proofs.Lists.{shrunk_in-none, shrunk_in-one, shrunk_in-append, lines_of-append, content_after-none}
-use Rattle.hfs_serving.proofs.Saying.{joined_both, joined_none, said_append, said_none}
-use Rattle.hfs_serving.specs.Said.{joined, said_of, untold}
-use Rattle.hfs_serving.specs.declared.volume.ToTell.{ToTell}
+use Rattle.hfs_serving.proofs.Lists.{replies_of-one, shrunk_in-none, shrunk_in-one, content_after-none}
+use Rattle.hfs_serving.proofs.Saying.{said_none, tells_both}
+use Rattle.hfs_serving.specs.Said.{untold}
 use Rattle.hfs_serving.proofs.Leading.{for_any, leads_any, leads_on, leads_entry, leads_rest, leads_to_rest, rest_any, rest_on}
-use Rattle.hfs_serving.proofs.Batches.{goes_as, goes_none, goes_both, goes_stops, stops_as, stops_there, touched_on}
+use Rattle.hfs_serving.proofs.Batches.{goes_as, goes_none, stops_as, stops_there, touched_on}
 use Rattle.hfs_serving.proofs.Joining.{commit_goes_here, commit_stops_here, touch_stops_here}
 
 -- ---- whatever the answer
@@ -34,22 +36,22 @@ on_ok (Err e) goes p = tt
 
 -- ---- a step of a line
 
--- a line that wasn't answered had no reply: a step of housekeeping was made for it, or it was only looked at
-module _ (capacity : ℕ) (knows : Knowing) (committed now : Content) (shrunk : Option ℕ) (space : Space) (number : ℕ) (line : List ℕ) (before after : ToTell) where
-  pub left_line : (made : Step) → is_answered made ≡ false → AnswersTo made capacity knows committed now shrunk space number line before after → (after ≡ before) × (Tidied capacity (asked_in line) knows committed now shrunk space ⊎ Stays knows committed now shrunk space)
+-- a command that wasn't answered had no reply: a step of housekeeping was made for it, or it was only looked at
+module _ (capacity : ℕ) (knows : Knowing) (committed now : Content) (shrunk : Option ℕ) (space : Space) (number : ℕ) (line : List ℕ) (hears : Hearing) (same : Type 0) where
+  pub left_line : (made : Step) → is_answered made ≡ false → AnswersTo made capacity knows committed now shrunk space number line hears same → same × (Tidied capacity (asked_in line) knows committed now shrunk space ⊎ Stays knows committed now shrunk space)
   left_line step.Answered other answers = absurd (cc other)
   left_line step.Again other answers = (answers.0, inl answers.1)
   left_line step.CommitFirst other answers = (answers.0, inr answers.1)
   left_line step.Forgone other answers = absurd answers
 
-  pub answered_line : (made : Step) → is_answered made ≡ true → AnswersTo made capacity knows committed now shrunk space number line before after → (said : ToTell) × (after ≡ joined before said) × Answered capacity knows committed now shrunk space number line said
+  pub answered_line : (made : Step) → is_answered made ≡ true → AnswersTo made capacity knows committed now shrunk space number line hears same → (said : Reply) × (changes : List Change) × hears said changes × Does capacity knows committed now shrunk space number line said changes
   answered_line step.Answered is answers = answers
   answered_line step.Again is answers = absurd (cc is)
   answered_line step.CommitFirst is answers = absurd (cc is)
   answered_line step.Forgone is answers = absurd answers
 
   -- a line that is left was only looked at
-  pub waiting_line : (made : Step) (may_wait : Bool) → (wants_commit made && may_wait) ≡ true → AnswersTo made capacity knows committed now shrunk space number line before after → (after ≡ before) × Stays knows committed now shrunk space
+  pub waiting_line : (made : Step) (may_wait : Bool) → (wants_commit made && may_wait) ≡ true → AnswersTo made capacity knows committed now shrunk space number line hears same → same × Stays knows committed now shrunk space
   waiting_line step.Answered may_wait waits answers = absurd (cc waits)
   waiting_line step.Again may_wait waits answers = absurd (cc waits)
   waiting_line step.CommitFirst may_wait waits answers = answers
@@ -255,23 +257,37 @@ module _ (capacity : ℕ) (shrunk : Option ℕ) (committed now : Content) (old :
 
   -- a line was answered
   module _ (knows : Knowing) (space : Space) (mid : Outside) (line : List ℕ) (rested : GoesRested capacity (asked_in line) knows committed now shrunk old space mid) where
-    pub rested_answers : (knows_new : Knowing) (number : ℕ) (said : ToTell) (new : Space) (after : Outside) → Touches rested.tidy.last space mid new after → Answered capacity knows_new rested.tidy.last rested.tidy.next shrunk new number line said
-        → GoesOn capacity knows_new committed now shrunk old number (line ∷ []) said new after
-    rested_answers knows_new number said new after touches answered =
+    pub rested_does : (knows_new : Knowing) (number : ℕ) (said : Reply) (changes : List Change) (new : Space) (after : Outside) → Touches rested.tidy.last space mid new after → Does capacity knows_new rested.tidy.last rested.tidy.next shrunk new number line said changes
+        → DoesOn capacity knows_new committed now shrunk old number line said changes new after
+    rested_does knows_new number said changes new after touches does =
         let first = rested.tidy in
-        let entry = answered.entry in
-        let own : LeadsToRest capacity shrunk (asked_in entry.line) now [] first.next = subst (λ (l : List ℕ). LeadsToRest capacity shrunk (asked_in l) now [] first.next) (sym answered.line_is) rested.rests in
-        let leads : Leads capacity shrunk None now (entry ∷ []) entry.after = leads_entry capacity shrunk now [] first.next entry own answered.before answered.served answered.place in
+        let entry = does.entry in
+        let own : LeadsToRest capacity shrunk (asked_in entry.line) now [] first.next = subst (λ (l : List ℕ). LeadsToRest capacity shrunk (asked_in l) now [] first.next) (sym does.line_is) rested.rests in
+        let leads : Leads capacity shrunk None now (entry ∷ []) entry.after = leads_entry capacity shrunk now [] first.next entry own does.before does.served does.place in
         record {
-          more = entry ∷ [];
+          entry = entry;
           last = first.last;
-          next = entry.after;
-          goes = touched_on capacity shrunk committed now old [] (entry ∷ []) first.last first.next space mid first.goes new after touches leads answered.reads;
-          heads = answered.heads;
-          known = subst (λ (s : Option ℕ). knows_new first.last entry.after s) (sym (shrunk_in-one shrunk entry)) answered.known;
-          asked = ap (λ (l : List ℕ). l ∷ []) answered.line_is;
-          told = answered.told;
+          goes = touched_on capacity shrunk committed now old [] (entry ∷ []) first.last first.next space mid first.goes new after touches leads does.reads;
+          heads = does.heads;
+          known = subst (λ (s : Option ℕ). knows_new first.last entry.after s) (sym (shrunk_in-one shrunk entry)) does.known;
+          line_is = does.line_is;
+          reply = does.reply;
+          told = does.told;
         }
+
+  -- one command is a stretch with an entry
+  pub does_goes : (knows : Knowing) (number : ℕ) (line : List ℕ) (said : Reply) (changes : List Change) (space : Space) (mid : Outside) → DoesOn capacity knows committed now shrunk old number line said changes space mid
+      → GoesOn capacity knows committed now shrunk old number (line ∷ []) (record { replies = reply_text said; changes = changes }) space mid
+  does_goes knows number line said changes space mid does = record {
+    more = does.entry ∷ [];
+    last = does.last;
+    next = does.entry.after;
+    goes = does.goes;
+    heads = does.heads;
+    known = does.known;
+    asked = ap (λ (l : List ℕ). l ∷ []) does.line_is;
+    told = tells_both (replies_of (does.entry ∷ [])) (reply_text said) (changes_in number (does.entry ∷ [])) changes (replies_of-one does.entry ∙ ap reply_text does.reply) does.told;
+  }
 
 -- ---- one call from where the volume stands
 
@@ -326,110 +342,3 @@ module _ (capacity : ℕ) (shrunk : Option ℕ) (committed now : Content) (old :
       then_commit_stops end may =
           commit_stops_tidy capacity shrunk committed now old knows_new new after
           (looks_tidy capacity shrunk committed now old knows space old (begins capacity shrunk committed now old knows space stands) knows_new new after touches stays) end may
-
--- ---- with entries
-
-module _ (capacity : ℕ) (shrunk : Option ℕ) (committed now : Content) (old : Outside) where
-  pub on_none : (knows : Knowing) (space : Space) (number : ℕ) → Stands knows committed now shrunk space old → GoesOn capacity knows committed now shrunk old number [] untold space old
-  on_none knows space number stands = record {
-    more = [];
-    last = committed;
-    next = now;
-    goes = goes_none capacity shrunk committed now old space stands.below stands.reads stands.leaves;
-    heads = stands.heads;
-    known = subst (λ (s : Option ℕ). knows committed now s) (sym (shrunk_in-none shrunk)) stands.known;
-    asked = refl;
-    told = said_none number;
-  }
-
-  module _ (knows : Knowing) (number : ℕ) (lines : List (List ℕ)) (said : ToTell) (space : Space) (mid : Outside) (goes : GoesOn capacity knows committed now shrunk old number lines said space mid) where
-    pub stands_on_there : Stands knows goes.last goes.next (shrunk_in shrunk goes.more) space mid
-    stands_on_there = record { known = goes.known; below = goes.goes.below; reads = goes.goes.reads; heads = goes.heads; leaves = goes.goes.leaves }
-
-    pub on_both : (knows_new : Knowing) (others : List (List ℕ)) (then : ToTell) (new : Space) (after : Outside) → GoesOn capacity knows_new goes.last goes.next (shrunk_in shrunk goes.more) mid (number + length goes.more) others then new after
-        → GoesOn capacity knows_new committed now shrunk old number (lines ++ others) (joined said then) new after
-    on_both knows_new others then new after second = record {
-      more = goes.more ++ second.more;
-      last = second.last;
-      next = second.next;
-      goes = goes_both capacity shrunk committed now old goes.more second.more goes.last goes.next space mid goes.goes second.last second.next new after second.goes;
-      heads = second.heads;
-      known = subst (λ (s : Option ℕ). knows_new second.last second.next s) (sym (shrunk_in-append shrunk goes.more second.more)) second.known;
-      asked = lines_of-append goes.more second.more ∙ ap (λ (l : List (List ℕ)). l ++ lines_of second.more) goes.asked ∙ ap (λ (l : List (List ℕ)). lines ++ l) second.asked;
-      told = said_append number goes.more second.more ∙ ap (λ (l : ToTell). joined l (said_of (number + length goes.more) second.more)) goes.told ∙ ap (λ (l : ToTell). joined said l) second.told;
-    }
-
-    pub on_stops : (others : List (List ℕ)) (after : Outside) → StopsOn capacity goes.last goes.next (shrunk_in shrunk goes.more) mid others after → StopsOn capacity committed now shrunk old (lines ++ others) after
-    on_stops others after second = record { more = goes.more ++ second.more; asked = lines_of-append goes.more second.more ∙ ap (λ (l : List (List ℕ)). l ++ lines_of second.more) goes.asked ∙ ap (λ (l : List (List ℕ)). lines ++ l) second.asked; stops = goes_stops capacity shrunk committed now old goes.more second.more goes.last goes.next space mid goes.goes after second.stops }
-
-    pub commit_stops_on : (after : Outside) → MayCommit space mid after → StopsOn capacity committed now shrunk old lines after
-    commit_stops_on after may = record { more = goes.more; asked = goes.asked; stops = commit_stops_here capacity shrunk committed now old goes.more goes.last goes.next space mid goes.goes after may }
-
--- ---- lines
-
--- the number behind some lines
-numbers_on : (number count : ℕ) (lines : List (List ℕ)) (run : List Entry) → count ≤ length lines → lines_of run ≡ take count lines → number + count ≡ number + length run
-numbers_on number count lines run few asked = omega (arith, ap (λ (l : List (List ℕ)). length l) asked, length-map run (λ (e : Entry). e.line), length-take-le count lines few)
-
-module _ (capacity : ℕ) (shrunk : Option ℕ) (committed now : Content) (old : Outside) (number : ℕ) (lines : List (List ℕ)) (before : ToTell) where
-  pub lines_none : (knows : Knowing) (space : Space) → Stands knows committed now shrunk space old → ServesLines 0 capacity knows committed now shrunk old number lines before before space old
-  lines_none knows space stands = record { said = untold; told = sym (joined_none before); goes = on_none capacity shrunk committed now old knows space number stands }
-
-  module _ (count : ℕ) (knows : Knowing) (middle : ToTell) (space : Space) (mid : Outside) (first : ServesLines count capacity knows committed now shrunk old number lines before middle space mid) where
-    pub stands_in_lines : Stands knows first.goes.last first.goes.next (shrunk_in shrunk first.goes.more) space mid
-    stands_in_lines = stands_on_there capacity shrunk committed now old knows number (take count lines) first.said space mid first.goes
-
-    pub lines_stop : (after : Outside) → StopsOn capacity first.goes.last first.goes.next (shrunk_in shrunk first.goes.more) mid [] after → StopsLines capacity committed now shrunk old lines after
-    lines_stop after second = record {
-      count = count;
-      stops =
-          subst (λ (l : List (List ℕ)). StopsOn capacity committed now shrunk old l after) (append-nil (take count lines))
-          (on_stops capacity shrunk committed now old knows number (take count lines) first.said space mid first.goes [] after second);
-    }
-
-    -- one more, or none
-    pub lines_on : (knows_new : Knowing) (answered : Bool) (line : List ℕ) (after : ToTell) (new : Space) (end : Outside) (many : ℕ) → count ≤ length lines → take count lines ++ line_if answered line ≡ take many lines
-        → ServesLine answered capacity knows_new first.goes.last first.goes.next (shrunk_in shrunk first.goes.more) mid (number + count) line middle after new end → ServesLines many capacity knows_new committed now shrunk old number lines before after new end
-    lines_on knows_new answered line after new end many few are second = record {
-      said = joined first.said second.said;
-      told = second.told ∙ ap (λ (l : ToTell). joined l second.said) first.told ∙ joined_both before first.said second.said;
-      goes =
-          subst (λ (l : List (List ℕ)). GoesOn capacity knows_new committed now shrunk old number l (joined first.said second.said) new end) are
-          (on_both capacity shrunk committed now old knows number (take count lines) first.said space mid first.goes knows_new (line_if answered line) second.said new end
-          (subst (λ (n : ℕ). GoesOn capacity knows_new first.goes.last first.goes.next (shrunk_in shrunk first.goes.more) mid n (line_if answered line) second.said new end) (numbers_on number count lines first.goes.more few first.goes.asked) second.goes));
-    }
-
--- ---- the end of a batch
-
--- behind the last line housekeeping came to rest, and all is committed
-module _ (count capacity : ℕ) (shrunk : Option ℕ) (start : Content) (old : Outside) (number : ℕ) (lines : List (List ℕ)) (before after : ToTell) (knows : Knowing) (space : Space) (mid : Outside) (first : ServesLines count capacity knows start start shrunk old number lines before after space mid)
-    (knows_mid : Knowing) (new : Space) (end : Outside) (second : GoesRested capacity None knows_mid first.goes.last first.goes.next (shrunk_in shrunk first.goes.more) mid new end) where
-  pub stands_rested : Stands knows_mid second.tidy.last second.tidy.next (shrunk_in shrunk first.goes.more) new end
-  stands_rested = stands_there capacity (shrunk_in shrunk first.goes.more) first.goes.last first.goes.next mid knows_mid new end second.tidy
-
-  pub rested_stops : (out : Outside) → MayCommit new end out → StopsLines capacity start start shrunk old lines out
-  rested_stops out may =
-      lines_stop capacity shrunk start start old number lines before count knows after space mid first out
-      (commit_stops_tidy capacity (shrunk_in shrunk first.goes.more) first.goes.last first.goes.next mid knows_mid new end second.tidy out may)
-
-  pub batch_rests : (knows_new : Knowing) (last : Space) (out : Outside) → Commits new end last out → Stays knows_new second.tidy.next second.tidy.next (shrunk_in shrunk first.goes.more) last → ServesBatch count capacity knows_new start shrunk old number lines before after last out
-  batch_rests knows_new last out commits stays =
-      let more = first.goes.more in
-      let next = second.tidy.next in
-      let same : more ++ [] ≡ more = append-nil more in
-      record {
-        said = first.said;
-        told = first.told;
-        whole = record {
-          run = more ++ [];
-          now = next;
-          goes =
-              commit_goes_here capacity shrunk start start old (more ++ []) second.tidy.last next new end
-              (goes_both capacity shrunk start start old more [] first.goes.last first.goes.next space mid first.goes.goes second.tidy.last next new end second.tidy.goes) last out commits;
-          heads = stays.heads;
-          known = subst (λ (r : List Entry). knows_new next next (shrunk_in shrunk r)) (sym same) stays.known;
-          asked = ap (λ (r : List Entry). lines_of r) same ∙ first.goes.asked;
-          told = ap (λ (r : List Entry). said_of number r) same ∙ first.goes.told;
-          rests = leads_to_rest capacity shrunk start more [] first.goes.next first.goes.goes.leads None next second.rests;
-        };
-      }

@@ -1,6 +1,6 @@
 -- Watchers that were told something.
 use Rattle.std.proofs.Common.{◌≡◌, Bool, Result, Ok, Err, false, List}
-use Rattle.std.specs.Prelude.{IfOk, OnOk}
+use Rattle.std.specs.Prelude.{IfOk, OnErr, OnOk}
 use Rattle.std.specs.List.{AllByRecursion}
 use Rattle.hfs_language.specs.declared.reply.Change.{Change}
 use Rattle.watchers.specs.Told.{AreTold, nobody, left, stays}
@@ -19,3 +19,7 @@ no_ok_on P (Err fault) e is = tt
 pub no_ok : {T E : Type 0} (P : T → Type 0) (r : Result T E) (e : E) → r ≡ Err e → IfOk r P
 no_ok P (Ok x) e is = absurd (cc is)
 no_ok P (Err fault) e is = tt
+
+pub err_then : {T E P Q : Type 0} (r : Result T E) → (P → Q) → OnErr r P → OnErr r Q
+err_then (Ok x) goes p = tt
+err_then (Err e) goes p = goes p

@@ -1,7 +1,7 @@
 -- Runs as lists: what is behind them, and their replies.
 use Rattle.std.proofs.Common.{◌≡◌, ◌≤◌, ◌∷◌, [], ◌++◌, ℕ, List, length, refl, sym, ◌∙◌, ap, arith, append_assoc, length-append}
 use Rattle.std.specs.Prelude.{Option}
-use Rattle.std.proofs.lemmas.List.{append_cancel_left}
+use Rattle.std.proofs.lemmas.List.{append-nil, append_cancel_left}
 use Rattle.jnl_format.specs.Recovery.{Content}
 use Rattle.hfs_language.specs.Text.{reply_text}
 use Rattle.volume_runs.specs.Run.{Entry, content_after, shrunk_in, shrunk_after, lines_of, replies_of}
@@ -46,6 +46,10 @@ lines_of-append (entry ∷ run) more = ap (λ (l : List (List ℕ)). entry.line 
 pub replies_of-none : replies_of [] ≡ []
 unfolding replies_of
 replies_of-none = refl
+
+pub replies_of-one : (entry : Entry) → replies_of (entry ∷ []) ≡ reply_text entry.reply
+unfolding replies_of
+replies_of-one entry = append-nil (reply_text entry.reply)
 
 pub replies_of-append : (run more : List Entry) → replies_of (run ++ more) ≡ replies_of run ++ replies_of more
 unfolding replies_of

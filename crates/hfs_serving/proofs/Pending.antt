@@ -2,96 +2,61 @@
 use Rattle.std.proofs.Common.{◌≡◌, ◌≤◌, ◌+◌, ◌++◌, ◌∷◌, ◌==◌, [], Bool, true, ℕ, List, IsTrue, length, length-append, length-drop, take, drop, refl, sym, ◌∙◌, ap, subst, arith, append_assoc}
 use Rattle.std.specs.Prelude.{Option}
 use Rattle.std.proofs.lemmas.Bool.Decides.{nat_tests}
-use Rattle.std.proofs.lemmas.List.{drop-append-le, drop-drop, drop-map, length-map, map-append, take-append-le, take-map}
+use Rattle.std.proofs.lemmas.List.{drop-append-le, drop-drop, drop-map, length-map, map-append, take-append-le, take-map, take_all}
 use Rattle.sector_disk.specs.Source.{Stream}
 use Rattle.sector_disk.specs.Space.{Space}
 use Rattle.jnl_format.specs.Recovery.{Content}
 use Rattle.hfs_language.specs.Language.{most_bytes}
-use Rattle.volume_runs.specs.Run.{Entry, lines_of, replies_of}
-use Rattle.hfs_serving.specs.Going.{Knowing, Stands}
-use Rattle.hfs_serving.specs.Outside.{Outside}
-use Rattle.hfs_serving.specs.Runs.{IsPrefix}
-use Rattle.hfs_serving.specs.Steps.{CrashesStep, ServesStep}
-use Rattle.hfs_serving.specs.Watching.{CrashesHeard, ServesHeard}
 use Rattle.hfs_language.specs.declared.reply.Change.{Change}
-use Rattle.volume_runs.specs.Told.{changes_in}
+use Rattle.hfs_serving.specs.Going.{Knowing}
+use Rattle.hfs_serving.specs.Outside.{Outside}
+use Rattle.hfs_serving.specs.Speaking.{Said, Speaks, Spoken}
+use Rattle.hfs_serving.specs.Spoken.{CrashesSpoken, ServesSpoken}
 use Rattle.hfs_serving.specs.Taking.{HasTaken}
-use Rattle.hfs_serving.proofs.Relabelling.{Holds, crashes_text, holds_take, relabel, relabel_changes, relabel_take, relabel_lines, relabel_replies, relabel_shrunk, rest_text, serves_text}
 use Rattle.line_source.specs.Batch.{AddsLines, held}
 use Rattle.line_source.specs.Input.{ahead, SplitsIntoLines, TakesLines}
 use Rattle.line_source.proofs.Cuts.{front_cut, takes_both, takes_none}
 
--- ---- a step over held lines is one over their texts
+-- ---- more lines were read
 
-module _ (capacity : ℕ) (start : Content) (shrunk : Option ℕ) (old : Outside) (texts : List (List ℕ)) where
-  asked_held : (count : ℕ) (run : List Entry) → lines_of run ≡ take count (held most_bytes texts) → Holds run (take count texts)
-  asked_held count run asked = asked ∙ take-map (take (most_bytes + 1)) count texts
+pub held_drop : (count : ℕ) (texts : List (List ℕ)) → held most_bytes (drop count texts) ≡ drop count (held most_bytes texts)
+held_drop count texts = sym (drop-map (take (most_bytes + 1)) count texts)
 
-  pub step_texts : (count : ℕ) (knows : Knowing) (space : Space) (new : Outside) → ServesStep count capacity knows start shrunk old (held most_bytes texts) space new → ServesStep count capacity knows start shrunk old texts space new
-  step_texts count knows space new step =
-      let holds = asked_held count step.run step.asked in
-      let some = take count texts in
-      record {
-        run = relabel step.run some;
-        now = step.now;
-        serves = serves_text capacity shrunk start step.run some holds old new step.now step.serves;
-        stands = subst (λ (s : Option ℕ). Stands knows step.now step.now s space new) (sym (relabel_shrunk shrunk step.run some holds)) step.stands;
-        asked = relabel_lines step.run some holds;
-        rests = rest_text capacity shrunk start step.run some holds step.now step.rests;
-      }
+pub held_take : (count : ℕ) (texts : List (List ℕ)) → take count (held most_bytes texts) ≡ held most_bytes (take count texts)
+held_take count texts = take-map (take (most_bytes + 1)) count texts
 
-  pub crash_texts : (new : Outside) → CrashesStep capacity start shrunk old (held most_bytes texts) new → CrashesStep capacity start shrunk old texts new
-  crash_texts new step =
-      let holds = asked_held step.count step.run step.asked in
-      let some = take step.count texts in
-      record {
-        run = relabel step.run some;
-        known = step.known;
-        count = step.count;
-        crashes = crashes_text capacity shrunk start step.run some holds old new step.known step.crashes;
-        asked = relabel_lines step.run some holds;
-      }
+pub held_length : (texts : List (List ℕ)) → length (held most_bytes texts) ≡ length texts
+held_length texts = length-map texts (take (most_bytes + 1))
 
-  pub texts_heard : (number : ℕ) (heard : List Change) (count : ℕ) (knows : Knowing) (space : Space) (new : Outside) → ServesHeard number heard count capacity knows start shrunk old (held most_bytes texts) space new → ServesHeard number heard count capacity knows start shrunk old texts space new
-  unfolding step_texts
-  texts_heard number heard count knows space new step =
-      (step_texts count knows space new step.0, relabel_changes number step.0.run (take count texts) (asked_held count step.0.run step.0.asked) ∙ step.1)
+-- all of them
+pub held_all : (texts : List (List ℕ)) → take (length texts) (held most_bytes texts) ≡ held most_bytes texts
+held_all texts = take_all (length texts) (held most_bytes texts) (omega (arith, held_length texts))
 
-  pub crash_heard : (number : ℕ) (heard : List Change) (new : Outside) → CrashesHeard number heard capacity start shrunk old (held most_bytes texts) new → CrashesHeard number heard capacity start shrunk old texts new
-  unfolding crash_texts
-  crash_heard number heard new step =
-      let run = step.0.run in
-      let some = take step.0.count texts in
-      let known = step.0.known in
-      let holds = asked_held step.0.count run step.0.asked in (
-        crash_texts new step.0,
-        record {
-          changes = ap (λ (r : List Entry). changes_in number r) (relabel_take known run some) ∙ relabel_changes number (take known run) (take known some) (holds_take known run some holds) ∙ step.1.changes;
-          behind = (
-            step.1.behind.0,
-            subst (λ (l : List ℕ). IsPrefix step.1.behind.0 l)
-                (sym (ap (λ (r : List Entry). replies_of r) (relabel_take known run some) ∙ relabel_replies (take known run) (take known some) (holds_take known run some holds))) step.1.behind.1,
-            step.1.behind.2,
-          );
-        },
-      )
+pub step_more : (said : Said) (heard : List Change) (capacity : ℕ) (start : Content) (shrunk : Option ℕ) (old : Outside) (texts more : List (List ℕ)) (count : ℕ) (knows : Knowing) (space : Space) (new : Outside) → count ≤ length texts
+    → ServesSpoken said heard count capacity knows start shrunk old (held most_bytes texts) space new → ServesSpoken said heard count capacity knows start shrunk old (held most_bytes (texts ++ more)) space new
+step_more said heard capacity start shrunk old texts more count knows space new inside step = record {
+  speech = step.speech;
+  now = step.now;
+  serves = step.serves;
+  stands = step.stands;
+  asked = step.asked ∙ sym (take-append-le count (held most_bytes texts) (held most_bytes more) (omega (arith, inside, held_length texts))) ∙ ap (λ (l : List (List ℕ)). take count l) (sym (map-append (take (most_bytes + 1)) texts more));
+  rests = step.rests;
+  is = step.is;
+  changes = step.changes;
+}
 
-  -- more lines were read
-  pub step_more : (more : List (List ℕ)) (count : ℕ) (knows : Knowing) (space : Space) (new : Outside) → count ≤ length texts → ServesStep count capacity knows start shrunk old texts space new
-      → ServesStep count capacity knows start shrunk old (texts ++ more) space new
-  step_more more count knows space new inside step = record {
-    run = step.run;
-    now = step.now;
-    serves = step.serves;
-    stands = step.stands;
-    asked = step.asked ∙ sym (take-append-le count texts more inside);
-    rests = step.rests;
-  }
+-- a batch of the lines that are in memory
+module _ (from to : Spoken) (heard : List Change) (number count : ℕ) (capacity : ℕ) (start : Content) (shrunk : Option ℕ) (old : Outside) (lines texts : List (List ℕ)) (at : number ≡ count) (are : lines ≡ held most_bytes (drop count texts)) where
+  pub step_held : (many : ℕ) (knows : Knowing) (space : Space) (new : Outside) → ServesSpoken (Speaks number start from to) heard many capacity knows start shrunk old lines space new
+      → ServesSpoken (Speaks count start from to) heard many capacity knows start shrunk old (drop count (held most_bytes texts)) space new
+  step_held many knows space new step =
+      subst (λ (n : ℕ). ServesSpoken (Speaks n start from to) heard many capacity knows start shrunk old (drop count (held most_bytes texts)) space new) at
+      (subst (λ (l : List (List ℕ)). ServesSpoken (Speaks number start from to) heard many capacity knows start shrunk old l space new) (are ∙ held_drop count texts) step)
 
-  pub more_heard : (number : ℕ) (heard : List Change) (more : List (List ℕ)) (count : ℕ) (knows : Knowing) (space : Space) (new : Outside) → count ≤ length texts → ServesHeard number heard count capacity knows start shrunk old texts space new
-      → ServesHeard number heard count capacity knows start shrunk old (texts ++ more) space new
-  unfolding step_more
-  more_heard number heard more count knows space new inside step = (step_more more count knows space new inside step.0, step.1)
+  pub crash_held : (new : Outside) → CrashesSpoken (Speaks number start from to) heard capacity start shrunk old lines new → CrashesSpoken (Speaks count start from to) heard capacity start shrunk old (drop count (held most_bytes texts)) new
+  crash_held new step =
+      subst (λ (n : ℕ). CrashesSpoken (Speaks n start from to) heard capacity start shrunk old (drop count (held most_bytes texts)) new) at
+      (subst (λ (l : List (List ℕ)). CrashesSpoken (Speaks number start from to) heard capacity start shrunk old l new) (are ∙ held_drop count texts) step)
 
 -- ---- lines that were read, of which some are still in memory
 

@@ -10,13 +10,6 @@ unfolding texts_of replies_of
 texts_of_plain before [] = refl
 texts_of_plain before (entry ∷ run) = ap (λ (l : List ℕ). reply_text entry.reply ++ l) (texts_of_plain (before + 1) run)
 
--- what was told, in both forms
-pub told_plain : (before told : List ℕ) (run : List Entry) → (w : List ℕ) × IsPrefix w (texts_of (plain_answers run)) × (told ≡ before ++ w) → (w : List ℕ) × IsPrefix w (replies_of run) × (told ≡ before ++ w)
-told_plain before told run w = (w.0, (w.1.0, sym (texts_of_plain 0 run) ∙ w.1.1), w.2)
-
-pub served_plain : (before told : List ℕ) (run : List Entry) → told ≡ before ++ texts_of (plain_answers run) → told ≡ before ++ replies_of run
-served_plain before told run is = is ∙ ap (λ (l : List ℕ). before ++ l) (texts_of_plain 0 run)
-
 some_text : (reply : Reply) → 0 < length (reply_text reply)
 unfolding reply_text
 some_text reply = omega (arith, length-append (body_text reply) (10 ∷ []))

@@ -1,6 +1,6 @@
 -- From a run over a rig to its promises.
 use Rattle.std.proofs.Common.{◌≡◌, ◌+◌, ◌++◌, [], ℕ, List, refl, length, append_assoc, take, drop, sym, ◌∙◌, arith, ap, subst}
-use Rattle.std.proofs.lemmas.List.{append-nil, take-append-drop, take_all}
+use Rattle.std.proofs.lemmas.List.{append-nil, take-append-drop}
 use Rattle.std.specs.Prelude.{None, Option, IsTrue}
 use Rattle.sector_disk.specs.Disk.{IsImage, LeftNow, State}
 use Rattle.sector_disk.specs.Source.{Stream}
@@ -9,17 +9,21 @@ use Rattle.jnl_format.specs.Recovery.{Content}
 use Rattle.jnl_replay.specs.declared.plan.Plan.{Plan}
 use Rattle.jnl_store.specs.Spaces.{found}
 use Rattle.hfs_volume.specs.Aside.{AsideIsFree}
-use Rattle.volume_runs.specs.Run.{Entry, lines_of}
+use Rattle.hfs_volume.specs.TreeOf.{tree_of}
+use Rattle.volume_runs.specs.Run.{Entry, lines_of, tree_after}
 use Rattle.hfs_volume.specs.Sound.{IsSound}
 use Rattle.hfs_serving.specs.Closing.{Finishes, MayFinish}
 use Rattle.hfs_serving.specs.Going.{Knowing, Stands}
 use Rattle.hfs_serving.specs.Grounds.{anchor_of}
 use Rattle.hfs_serving.specs.Opening.{MayServe}
 use Rattle.hfs_serving.specs.Outside.{Outside, outside_of}
-use Rattle.hfs_serving.specs.Runs.{Crashes, Serves, StandsAs, plain_answers}
+use Rattle.hfs_language.specs.Language.{most_bytes}
+use Rattle.line_source.specs.Batch.{held}
+use Rattle.hfs_serving.specs.Runs.{Answer, Crashes, Serves, StandsAs, plain_answers}
+use Rattle.hfs_serving.specs.Speaking.{Speech, Said, spoken_on}
+use Rattle.hfs_serving.specs.Spoken.{CrashesSpoken, EndsSpoken, KeepsSpoken, ServesSpoken}
 use Rattle.hfs_language.specs.declared.reply.Change.{Change}
-use Rattle.hfs_serving.specs.Steps.{CrashesStep, EndsRun, KeepsRun, ServesStep}
-use Rattle.hfs_serving.specs.Watching.{CrashesHeard, HeardOf, KeepsHeard, ServesHeard}
+use Rattle.hfs_serving.specs.Steps.{CrashesStep, KeepsRun}
 use Rattle.hfs_serving.specs.Taking.{HasTaken}
 use Rattle.hfs_serving.specs.Top.{AreTaken}
 use Rattle.hfs_language.specs.Lines.{lines}
@@ -28,12 +32,13 @@ use Rattle.line_source.proofs.Cuts.{front_cut, none_left}
 use Rattle.hfs_serving.proofs.Agreeing.{stands_durable}
 use Rattle.hfs_serving.proofs.Bridging.{found_by}
 use Rattle.hfs_serving.proofs.Grounding.{outside_by}
-use Rattle.hfs_serving.proofs.Lists.{shrunk_in-none}
+use Rattle.hfs_serving.proofs.Lists.{content_after-none, shrunk_in-none}
 use Rattle.hfs_serving.proofs.Mounting.{plain_keeps, promises_all}
-use Rattle.hfs_serving.proofs.Plain.{served_plain, told_plain}
+use Rattle.hfs_serving.proofs.Pending.{held_all}
 use Rattle.hfs_serving.proofs.Staging.{end_crashes}
-use Rattle.hfs_serving.proofs.Stepping.{whole_heard}
-use Rattle.hfs_serving.proofs.Stretches.{plain_crashes_both}
+use Rattle.hfs_serving.proofs.Speeches.{behind_tree, shifted-none}
+use Rattle.hfs_serving.proofs.Stepping.{all_known}
+use Rattle.hfs_serving.proofs.Stretches.{crashes_both, plain_crashes_both}
 use Rattle.hfs_serving.proofs.Texts.{texts_of-none}
 
 -- what a mount finds hangs on the anchor alone
@@ -41,7 +46,7 @@ pub finds_by : (a b : Plan) → anchor_of a ≡ anchor_of b → found a ≡ foun
 finds_by a b same = λ i. λ image. found_by a b image (ap (λ x. x.place) same) (ap (λ x. x.info) same) (ap (λ x. x.blhdr) same) i
 
 -- a run over the first of the lines that were taken
-are_taken : (source source_new : Stream) (texts : List (List ℕ)) (run : List Entry) (count : ℕ) → lines_of run ≡ take count texts → HasTaken [] source texts source_new → AreTaken source run source_new
+pub are_taken : (source source_new : Stream) (texts : List (List ℕ)) (run : List Entry) (count : ℕ) → lines_of run ≡ take count texts → HasTaken [] source texts source_new → AreTaken source run source_new
 are_taken source source_new texts run count asked has = record {
   taken = has.used;
   left = has.bytes;
@@ -80,24 +85,38 @@ keeps_from law capacity start plan old new texts only_now starts sound may sourc
       (λ tells. are_taken source source_new texts step.run step.count step.asked (taken tells));
 }
 
-pub keeps_heard : {heard : List Change} (law : AsideIsFree) (capacity : ℕ) (start : Content) (plan : Plan) (old new : State) (texts : List (List ℕ)) → ((image : Content) (told : List ℕ) → old.clock.left old.clock.moment image told → LeftNow old image told)
+-- the same of whatever lines
+pub keeps_spoken : {said : Said} {heard : List Change} (law : AsideIsFree) (capacity : ℕ) (start : Content) (plan : Plan) (old new : State) (texts : List (List ℕ)) → ((image : Content) (told : List ℕ) → old.clock.left old.clock.moment image told → LeftNow old image told)
     → ((image : Content) → IsImage old.candidates image → StandsAs start (found plan image)) → IsSound start → MayServe plan capacity start → (source source_new : Stream) → (IsTrue source.tells → HasTaken [] source texts source_new)
-    → CrashesHeard 0 heard capacity start None (outside_of plan old) texts (outside_of plan new) → KeepsHeard heard capacity start old source new source_new
-unfolding keeps_from
-keeps_heard law capacity start plan old new texts only_now starts sound may source source_new taken step = (keeps_from law capacity start plan old new texts only_now starts sound may source source_new taken step.0, step.1)
+    → CrashesSpoken said heard capacity start None (outside_of plan old) (held most_bytes texts) (outside_of plan new) → KeepsSpoken said heard capacity start old source new source_new
+keeps_spoken law capacity start plan old new texts only_now starts sound may source source_new taken step =
+    let all = spoken_on step.whole step.rest in
+    record {
+      whole = step.whole;
+      rest = step.rest;
+      texts = texts;
+      count = step.count;
+      keeps = promises_all law plan capacity start old new all.run all.answers (length step.whole.run) step.crashes starts only_now sound may;
+      taken = taken;
+      asked = step.asked;
+      whole_is = step.whole_is;
+      is = step.is;
+      changes = step.changes;
+      behind = step.behind;
+    }
 
 -- what a mount finds hangs on the anchor alone, so the stretch is one by the plan of its start
-pub crash_seen : {heard : List Change} (capacity : ℕ) (start : Content) (plan plan_new : Plan) (before : Outside) (new : State) (texts : List (List ℕ)) → anchor_of plan_new ≡ anchor_of plan → CrashesHeard 0 heard capacity start None before texts (outside_of plan_new new)
-    → CrashesHeard 0 heard capacity start None before texts (outside_of plan new)
-crash_seen {heard} capacity start plan plan_new before new texts same step = subst (λ (f : Content → Content). CrashesHeard 0 heard capacity start None before texts (outside_by f new)) (finds_by plan_new plan same) step
+pub crash_seen : {said : Said} {heard : List Change} (capacity : ℕ) (start : Content) (plan plan_new : Plan) (before : Outside) (new : State) (texts : List (List ℕ)) → anchor_of plan_new ≡ anchor_of plan → CrashesSpoken said heard capacity start None before texts (outside_of plan_new new)
+    → CrashesSpoken said heard capacity start None before texts (outside_of plan new)
+crash_seen {said} {heard} capacity start plan plan_new before new texts same step = subst (λ (f : Content → Content). CrashesSpoken said heard capacity start None before texts (outside_by f new)) (finds_by plan_new plan same) step
 
-pub crash_keeps : {heard : List Change} (law : AsideIsFree) (capacity : ℕ) (start : Content) (plan plan_new : Plan) (old new : State) (texts : List (List ℕ)) (knows : Knowing) (space : Space) → anchor_of plan_new ≡ anchor_of plan
+pub crash_keeps : {said : Said} {heard : List Change} (law : AsideIsFree) (capacity : ℕ) (start : Content) (plan plan_new : Plan) (old new : State) (texts : List (List ℕ)) (knows : Knowing) (space : Space) → anchor_of plan_new ≡ anchor_of plan
     → ((image : Content) (told : List ℕ) → old.clock.left old.clock.moment image told → LeftNow old image told) → Stands knows start start None space (outside_of plan old) → IsSound start → MayServe plan capacity start
     → (source source_new : Stream) → (IsTrue source.tells → HasTaken [] source texts source_new)
-    → CrashesHeard 0 heard capacity start None (outside_of plan old) texts (outside_of plan_new new) → KeepsHeard heard capacity start old source new source_new
+    → CrashesSpoken said heard capacity start None (outside_of plan old) (held most_bytes texts) (outside_of plan_new new) → KeepsSpoken said heard capacity start old source new source_new
 crash_keeps law capacity start plan plan_new old new texts knows space same only_now stands sound may source source_new taken step =
-    keeps_heard law capacity start plan old new texts only_now (λ image is. stands_durable start space stands.below (found plan image) (stands.leaves (found plan image) (image, is, refl))) sound may source source_new taken
-    (crash_seen capacity start plan plan_new (outside_of plan old) new texts same step)
+    keeps_spoken law capacity start plan old new texts only_now (λ image is. stands_durable start space stands.below (found plan image) (stands.leaves (found plan image) (image, is, refl))) sound may source source_new taken
+    (crash_seen capacity start plan plan_new (outside_of plan old) new (held most_bytes texts) same step)
 
 -- a mount before the run
 pub mount_joins : (capacity : ℕ) (start now : Content) (texts : List (List ℕ)) (before mid after : Outside) → Serves capacity None start before [] [] now mid → CrashesStep capacity now None mid texts after → CrashesStep capacity start None before texts after
@@ -112,39 +131,65 @@ mount_joins capacity start now texts before mid after mounts step = record {
   asked = step.asked;
 }
 
-pub mount_heard : {heard : List Change} (capacity : ℕ) (start now : Content) (texts : List (List ℕ)) (before mid after : Outside) → Serves capacity None start before [] [] now mid → CrashesHeard 0 heard capacity now None mid texts after
-    → CrashesHeard 0 heard capacity start None before texts after
-unfolding mount_joins
-mount_heard {heard} capacity start now texts before mid after mounts step = (
-  mount_joins capacity start now texts before mid after mounts step.0,
-  subst (λ (t : List ℕ). HeardOf 0 heard step.0.run step.0.known t after.told) (mounts.told ∙ ap (λ (l : List ℕ). before.told ++ l) texts_of-none ∙ append-nil before.told) step.1,
-)
+-- the same of whatever lines
+pub crashes_behind : (capacity : ℕ) (start now : Content) (before mid after : Outside) (speech : Speech) → Serves capacity None start before [] [] now mid → (known : ℕ) → Crashes capacity None now mid speech.run speech.answers known after → Crashes capacity None start before speech.run speech.answers known after
+crashes_behind capacity start now before mid after speech mounts known crashes =
+    let same : 0 + known ≡ known = omega arith in
+    subst (λ (n : ℕ). Crashes capacity None start before speech.run speech.answers n after) same
+    (subst (λ (l : List Answer). Crashes capacity None start before speech.run l (0 + known) after) (shifted-none speech.answers)
+    (crashes_both capacity None start before mid after [] speech.run [] speech.answers now mounts known (subst (λ (s : Option ℕ). Crashes capacity s now mid speech.run speech.answers known after) (sym (shrunk_in-none None)) crashes)))
 
--- the end behind the last batch, whatever ended it
-pub finish_crashes : (capacity : ℕ) (start : Content) (old mid new : Outside) (lines : List (List ℕ)) (count : ℕ) (knows : Knowing) (space : Space) (step : ServesStep count capacity knows start None old lines space mid) → MayFinish step.now mid new → CrashesStep capacity start None old lines new
-finish_crashes capacity start old mid new lines count knows space step may = record {
-  run = step.run;
-  known = length step.run;
-  count = count;
-  crashes = end_crashes capacity None start step.run (plain_answers step.run) step.now may.ended old mid new step.serves may.marked may.place may.may;
+-- a mount keeps the tree
+pub mounted_tree : (capacity : ℕ) (start now : Content) (before mid : Outside) → Serves capacity None start before [] [] now mid → tree_of now ≡ tree_of start
+mounted_tree capacity start now before mid mounts =
+    let here : tree_after start [] ≡ tree_of start = ap (λ (c : Content). tree_of c) (content_after-none start) in
+    sym (behind_tree capacity None start start now [] [] here mounts.leads) ∙ here
+
+-- of which something else is said
+pub crash_more : {heard : List Change} (said further : Said) (capacity : ℕ) (start : Content) (shrunk : Option ℕ) (old : Outside) (lines : List (List ℕ)) (new : Outside) → ((speech : Speech) → said speech → further speech) → CrashesSpoken said heard capacity start shrunk old lines new
+    → CrashesSpoken further heard capacity start shrunk old lines new
+crash_more said further capacity start shrunk old lines new more step = record {
+  whole = step.whole;
+  rest = step.rest;
+  count = step.count;
+  crashes = step.crashes;
   asked = step.asked;
+  whole_is = more step.whole step.whole_is;
+  is = more (spoken_on step.whole step.rest) step.is;
+  changes = step.changes;
+  behind = step.behind;
 }
 
-pub finish_heard : (heard : List Change) (capacity : ℕ) (start : Content) (old mid new : Outside) (lines : List (List ℕ)) (count : ℕ) (knows : Knowing) (space : Space) (step : ServesHeard 0 heard count capacity knows start None old lines space mid) → MayFinish step.0.now mid new
-    → CrashesHeard 0 heard capacity start None old lines new
-unfolding finish_crashes
-finish_heard heard capacity start old mid new lines count knows space step may =
-    let ends = finish_crashes capacity start old mid new lines count knows space step.0 may in
-    (ends, whole_heard 0 heard step.0.run old.told new.told step.1 (told_plain old.told new.told step.0.run ends.crashes.told))
+pub mount_spoken : {said : Said} {heard : List Change} (capacity : ℕ) (start now : Content) (texts : List (List ℕ)) (before mid after : Outside) → Serves capacity None start before [] [] now mid → CrashesSpoken said heard capacity now None mid texts after
+    → CrashesSpoken said heard capacity start None before texts after
+mount_spoken capacity start now texts before mid after mounts step = record {
+  whole = step.whole;
+  rest = step.rest;
+  count = step.count;
+  crashes = crashes_behind capacity start now before mid after (spoken_on step.whole step.rest) mounts (length step.whole.run) step.crashes;
+  asked = step.asked;
+  whole_is = step.whole_is;
+  is = step.is;
+  changes = step.changes;
+  behind = (step.behind.0, step.behind.1, step.behind.2 ∙ ap (λ (l : List ℕ). l ++ step.behind.0) (mounts.told ∙ ap (λ (l : List ℕ). before.told ++ l) texts_of-none ∙ append-nil before.told));
+}
 
-pub finish_ends : (capacity : ℕ) (start : Content) (old mid new : Outside) (texts : List (List ℕ)) (knows : Knowing) (space : Space) (source : Stream) → (IsTrue source.tells → texts ≡ lines source.left)
-    → (step : ServesStep (length texts) capacity knows start None old texts space mid) → Finishes step.now mid new → EndsRun capacity start old source new
-finish_ends capacity start old mid new texts knows space source all step finishes = record {
-  run = step.run;
-  asked = λ tells. step.asked ∙ take_all (length texts) texts (omega arith) ∙ all tells;
+-- the end behind the last batch, whatever ended it
+pub finish_spoken : (said further : Said) (heard : List Change) (capacity : ℕ) (start : Content) (old mid new : Outside) (lines : List (List ℕ)) (count : ℕ) (knows : Knowing) (space : Space) → ((speech : Speech) → said speech → further speech)
+    → (step : ServesSpoken said heard count capacity knows start None old lines space mid) → MayFinish step.now mid new → CrashesSpoken further heard capacity start None old lines new
+finish_spoken said further heard capacity start old mid new lines count knows space more step may =
+    subst (λ (l : List Change). CrashesSpoken further l capacity start None old lines new) step.changes
+    (all_known capacity None start old lines count further step.speech new (end_crashes capacity None start step.speech.run step.speech.answers step.now may.ended old mid new step.serves may.marked may.place may.may) step.asked (more step.speech step.is))
+
+pub finish_ends : (said : Said) (heard : List Change) (capacity : ℕ) (start : Content) (old mid new : Outside) (texts : List (List ℕ)) (knows : Knowing) (space : Space) (source : Stream) → (IsTrue source.tells → texts ≡ lines source.left)
+    → (step : ServesSpoken said heard (length texts) capacity knows start None old (held most_bytes texts) space mid) → Finishes step.now mid new → EndsSpoken said capacity start old source new
+finish_ends said heard capacity start old mid new texts knows space source all step finishes = record {
+  speech = step.speech;
+  asked = λ tells. step.asked ∙ held_all texts ∙ ap (λ (l : List (List ℕ)). held most_bytes l) (all tells);
   now = step.now;
   rests = step.rests;
-  told = finishes.turns.may.told ∙ served_plain old.told mid.told step.run step.serves.told;
+  told = finishes.turns.may.told ∙ step.serves.told;
+  is = step.is;
   ended = finishes.ended;
   sets = finishes.sets;
   leaves = finishes.turns.leaves;

@@ -23,16 +23,18 @@ use Rattle.hfs_volume.specs.Aside.{IsAside}
 use Rattle.hfs_volume.specs.Attributing.{RemountKeeps}
 use Rattle.hfs_volume.specs.Records.{Placed, Overflow, overflow_of, entries_of}
 use Rattle.hfs_volume.specs.Forks.{Owned, per_block_of, parts_for, data_kind, extents_of, blocks_owned, special_forks, reserved_blocks, extents_id, catalog_id, allocation_id, attributes_id}
-use Rattle.hfs_volume.specs.Content.{VolumeState, volume_of, records_of, overflow_in_volume, block_sector, block_bytes, tree_of_fork, extents_file, catalog_file, attributes_file, overflow_of_content, facts_of, bit_in, bit_of_sector, has_attributes, journal_place}
+use Rattle.hfs_volume.specs.Content.{VolumeState, volume_of, attributes_of, records_of, overflow_in_volume, block_sector, block_bytes, tree_of_fork, extents_file, catalog_file, attributes_file, overflow_of_content, facts_of, bit_in, bit_of_sector, has_attributes, journal_place}
 use Rattle.hfs_volume.specs.Nodes.{HasTrees}
 use Rattle.hfs_volume.specs.Blocks.{forks_of}
 use Rattle.hfs_volume.specs.Sound.{IsSound, IsSoundVolume}
-use Rattle.hfs_volume.specs.TreeOf.{tree_in, tree_of, file_bytes}
-use Rattle.hfs_volume.proofs.Apart.{not_reserved}
+use Rattle.hfs_volume.specs.TreeOf.{BytesOf, bytes_in, file_bytes, tree_in, tree_of, valued}
+use Rattle.hfs_volume.specs.Values.{blocks_of_values}
+use Rattle.hfs_volume.proofs.Apart.{not_reserved, value_not_reserved}
 use Rattle.hfs_volume.proofs.BlockWants.{in_range}
 use Rattle.hfs_volume.proofs.Bytes.{same_bytes_same_tree}
 use Rattle.hfs_volume.proofs.Rereading.{same_bytes, same_tree, same_block_sector}
 use Rattle.hfs_volume.proofs.Sectors.{block_is, in_block, in_front}
+use Rattle.hfs_volume.proofs.Valued.{values_same}
 use Rattle.hfs_volume.proofs.Untouched.{HasWholeBlocks, whole_blocks, data_fork_of, file_fork_stands, special_stands, reserved_apart}
 use Rattle.hfs_serving.specs.Runs.{KeepsPlace, SetsVersion, version_header}
 use Rattle.hfs_serving.proofs.Agreeing.{agrees_self}
@@ -191,20 +193,26 @@ module _ (content other : Content) (sound : IsSound content) (size : length othe
       ∙ ap (take file.data_fork.logical_size) (same_bytes content other (head_was.total_blocks * per_was) (sectors_by head_was (overflow_in_volume was) file.fields.id file.data_fork)
       (λ at has. fork_stays (data_fork_of file) (file_fork_stands was p file stands is) at has))
 
+  -- nor do the values of attributes
+  values_stay : valued (bytes_in other) (attributes_of was) ≡ valued (bytes_in content) (attributes_of was)
+  values_stay =
+      values_same content other (attributes_of was) (ap (λ (h : VolumeHeader). h.block_size) head_is) (ap (λ (h : VolumeHeader). h.total_blocks) head_is) whole.some
+      (λ at has. same at (λ two. value_not_reserved was sound.volume.blocks.forks (2 / per_was) (subst (λ (n : ℕ). Contains (blocks_of_values (attributes_of was)) (n / per_was)) two has) block_of_header))
+
   module _ (law : RemountKeeps) where
-    remount : (bytes_of : FileRecord → List ℕ) → IsSoundVolume (record was { head = version_header was.head }) × (tree_in (record was { head = version_header was.head }) bytes_of ≡ tree_in was bytes_of)
+    remount : (bytes_of : BytesOf) → IsSoundVolume (record was { head = version_header was.head }) × (tree_in (record was { head = version_header was.head }) bytes_of ≡ tree_in was bytes_of)
     remount bytes_of =
         law (version_header was.head) was bytes_of sound.volume (record { accepted = sound.volume.blocks.header.accepted; next_id = sound.volume.blocks.header.next_id })
         (record { files = refl; folders = refl; free = refl; next = refl; moment = refl })
 
     tree_stays : tree_of other ≡ tree_of content
     unfolding tree_of
-    tree_stays = ap (λ v. tree_in v (file_bytes other)) volume_stays ∙ (remount (file_bytes other)).1 ∙ same_bytes_same_tree was (file_bytes other) (file_bytes content) bytes_stay
+    tree_stays = ap (λ v. tree_in v (bytes_in other)) volume_stays ∙ (remount (bytes_in other)).1 ∙ same_bytes_same_tree was (bytes_in other) (bytes_in content) bytes_stay values_stay
 
     pub sets_version : SetsVersion content other
     sets_version = record {
       volume = volume_stays;
-      keeps = record { sound = record { trees = trees_stay; volume = subst IsSoundVolume (sym volume_stays) (remount (file_bytes content)).0 }; tree = tree_stays };
+      keeps = record { sound = record { trees = trees_stay; volume = subst IsSoundVolume (sym volume_stays) (remount (bytes_in content)).0 }; tree = tree_stays };
     }
 
   pub version_place : KeepsPlace content other

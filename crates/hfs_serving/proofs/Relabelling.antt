@@ -1,10 +1,9 @@
 -- Runs over lines of which only a front is held: an entry of such a line is one of the whole text.
 use Rattle.std.proofs.Common.{◌≡◌, ◌⊎◌, ◌<◌, ◌≤◌, ◌+◌, ◌∷◌, [], ◌++◌, zero, suc, inl, inr, ⊎_elim, ℕ, List, length, take, refl, sym, ◌∙◌, ap, subst, arith, Result, Ok, Err}
-use Rattle.std.specs.Prelude.{Option, None, if◌then◌else◌}
+use Rattle.std.specs.Prelude.{Option, if◌then◌else◌}
 use Rattle.std.proofs.lemmas.Bool.{cases_lt}
 use Rattle.std.proofs.lemmas.Bool.Decides.{nat_tests}
 use Rattle.std.proofs.lemmas.List.{length-take-le, take_all}
-use Rattle.sector_disk.proofs.Passing.{passes_with}
 use Rattle.jnl_format.specs.Recovery.{Content}
 use Rattle.hfs_language.specs.Language.{command_of, most_bytes}
 use Rattle.hfs_language.specs.Text.{reply_text}
@@ -15,11 +14,9 @@ use Rattle.hfs_model.specs.Step.{step_line}
 use Rattle.hfs_volume.specs.TreeOf.{tree_of}
 use Rattle.volume_runs.specs.Told.{changes_by, changes_in, changes_of}
 use Rattle.hfs_language.specs.declared.reply.Change.{Change}
-use Rattle.hfs_volume.specs.Reclaim.{Tidies}
-use Rattle.volume_runs.specs.Rest.{Rests, TidiesFor}
+use Rattle.volume_runs.specs.Rest.{Rests}
 use Rattle.volume_runs.specs.Run.{DoesLine, Entry, IsAnswered, IsRunFrom, IsServed, LacksMemory, LacksResource, asked_by, content_after, is_ok, lines_of, or_before, replies_of, reply_to, shrunk_after, shrunk_by, shrunk_in, spelled}
-use Rattle.hfs_serving.specs.Outside.{Outside}
-use Rattle.hfs_serving.specs.Runs.{Answer, AreAnswers, Crashes, Leads, LeadsToRest, Serves, StandsIn, Survives, SurvivesFrom, plain_answers, replies_from}
+use Rattle.hfs_serving.specs.Runs.{Answer, replies_from}
 use Rattle.line_source.specs.Batch.{held}
 
 -- ---- one line
@@ -162,83 +159,3 @@ holds_take (suc k) (entry ∷ run) (text ∷ texts) holds =
     let first : entry.line ≡ take (most_bytes + 1) text = first_held entry run text texts holds in
     let rest = holds_take k run texts (rest_held entry run text texts holds) in
     cc (first, rest)
-
--- ---- what crashes leave of it
-
-module _ (capacity : ℕ) (shrunk : Option ℕ) (start : Content) (run : List Entry) (texts : List (List ℕ)) (holds : Holds run texts) where
-  tidies_text : (k : ℕ) (now : Content) → Tidies capacity (shrunk_in shrunk (take k run)) (content_after start (take k run)) now
-      → Tidies capacity (shrunk_in shrunk (take k (relabel run texts))) (content_after start (take k (relabel run texts))) now
-  tidies_text k now tidied =
-      let part = holds_take k run texts holds in
-      subst (λ (r : List Entry). Tidies capacity (shrunk_in shrunk r) (content_after start r) now) (sym (relabel_take k run texts))
-      (subst (λ (s : Option ℕ). Tidies capacity s (content_after start (relabel (take k run) (take k texts))) now) (sym (relabel_shrunk shrunk (take k run) (take k texts) part))
-      (subst (λ (c : Content). Tidies capacity (shrunk_in shrunk (take k run)) c now) (sym (relabel_content start (take k run) (take k texts) part)) tidied))
-
-  pub leads_text : (now : Content) → Leads capacity shrunk None start run now → Leads capacity shrunk None start (relabel run texts) now
-  leads_text now leads = record {
-    run_is = relabel_run capacity shrunk start run texts holds leads.run_is;
-    tidied =
-        subst (λ (s : Option ℕ). TidiesFor capacity s None (content_after start (relabel run texts)) now) (sym (relabel_shrunk shrunk run texts holds))
-        (subst (λ (c : Content). TidiesFor capacity (shrunk_in shrunk run) None c now) (sym (relabel_content start run texts holds)) leads.tidied);
-    place = leads.place;
-  }
-
-  pub rest_text : (now : Content) → LeadsToRest capacity shrunk None start run now → LeadsToRest capacity shrunk None start (relabel run texts) now
-  rest_text now leads = record {
-    run_is = relabel_run capacity shrunk start run texts holds leads.run_is;
-    rests =
-        subst (λ (s : Option ℕ). Rests capacity s None (content_after start (relabel run texts)) now) (sym (relabel_shrunk shrunk run texts holds))
-        (subst (λ (c : Content). Rests capacity (shrunk_in shrunk run) None c now) (sym (relabel_content start run texts holds)) leads.rests);
-    place = leads.place;
-  }
-
-  stands_text : (least : ℕ) (recovered : Content) → StandsIn capacity shrunk start run least recovered → StandsIn capacity shrunk start (relabel run texts) least recovered
-  stands_text least recovered within = record {
-    count = within.count;
-    many = within.many;
-    some = omega (arith, within.some, relabel_length run texts holds);
-    tidy = within.tidy;
-    tidied = tidies_text within.count within.tidy within.tidied;
-    stood = within.stood;
-    marked = within.marked;
-    place = within.place;
-    stands = within.stands;
-  }
-
-  survives_text : (answers : List Answer) (recovered : Content) (told : List ℕ) → Survives capacity shrunk start run answers recovered told → Survives capacity shrunk start (relabel run texts) answers recovered told
-  unfolding stands_text
-  survives_text answers recovered told survives = record { within = stands_text 0 recovered survives.within; front = survives.front; answered = survives.answered }
-
-  survives_from : (answers : List Answer) (before : List ℕ) (recovered : Content) (told : List ℕ) → SurvivesFrom capacity shrunk start before run answers recovered told → SurvivesFrom capacity shrunk start before (relabel run texts) answers recovered told
-  survives_from answers before recovered told survives = (survives.0, survives.1, survives_text answers recovered survives.0 survives.2)
-
-  are_text : (answers : List Answer) → AreAnswers (length run) answers → AreAnswers (length (relabel run texts)) answers
-  are_text answers are = subst (λ (n : ℕ). AreAnswers n answers) (sym (relabel_length run texts holds)) are
-
-  serves_by : (old new : Outside) (answers : List Answer) (now : Content) → Serves capacity shrunk start old run answers now new → Serves capacity shrunk start old (relabel run texts) answers now new
-  serves_by old new answers now serves = record {
-    leads = leads_text now serves.leads;
-    are = are_text answers serves.are;
-    time = passes_with old.clock new.clock _ _ serves.time (λ image told. survives_from answers old.told image told);
-    told = serves.told;
-    rests = serves.rests;
-  }
-
-  crashes_by : (old new : Outside) (answers : List Answer) (known : ℕ) → Crashes capacity shrunk start old run answers known new → Crashes capacity shrunk start old (relabel run texts) answers known new
-  crashes_by old new answers known crashes = record {
-    run_is = relabel_run capacity shrunk start run texts holds crashes.run_is;
-    are = are_text answers crashes.are;
-    time = passes_with old.clock new.clock _ _ crashes.time (λ image told. survives_from answers old.told image told);
-    told = crashes.told;
-    few = omega (arith, crashes.few, relabel_length run texts holds);
-    knows = λ recovered left. stands_text known recovered (crashes.knows recovered left);
-  }
-
-  -- of plain lines
-  pub serves_text : (old new : Outside) (now : Content) → Serves capacity shrunk start old run (plain_answers run) now new → Serves capacity shrunk start old (relabel run texts) (plain_answers (relabel run texts)) now new
-  serves_text old new now serves =
-      subst (λ (a : List Answer). Serves capacity shrunk start old (relabel run texts) a now new) (sym (relabel_answers 0 run texts holds)) (serves_by old new (plain_answers run) now serves)
-
-  pub crashes_text : (old new : Outside) (known : ℕ) → Crashes capacity shrunk start old run (plain_answers run) known new → Crashes capacity shrunk start old (relabel run texts) (plain_answers (relabel run texts)) known new
-  crashes_text old new known crashes =
-      subst (λ (a : List Answer). Crashes capacity shrunk start old (relabel run texts) a known new) (sym (relabel_answers 0 run texts holds)) (crashes_by old new (plain_answers run) known crashes)

@@ -6,7 +6,7 @@ use Rattle.volume_runs.specs.Run.{Entry, replies_of}
 use Rattle.volume_runs.specs.Told.{changes_by, changes_in}
 use Rattle.hfs_serving.specs.Said.{joined, said_of, untold}
 use Rattle.hfs_serving.specs.declared.volume.ToTell.{ToTell}
-use Rattle.hfs_serving.proofs.Lists.{replies_of-append, replies_of-none}
+use Rattle.hfs_serving.proofs.Lists.{replies_of-none}
 
 pub changes_in-none : (number : ℕ) → changes_in number [] ≡ []
 unfolding changes_in
@@ -29,10 +29,6 @@ module _ (a b : List ℕ) (x y : List Change) where
 
 pub said_none : (number : ℕ) → said_of number [] ≡ untold
 said_none number = tells_both (replies_of []) [] (changes_in number []) [] replies_of-none (changes_in-none number)
-
-pub said_append : (number : ℕ) (run more : List Entry) → said_of number (run ++ more) ≡ joined (said_of number run) (said_of (number + length run) more)
-said_append number run more =
-    tells_both (replies_of (run ++ more)) (replies_of run ++ replies_of more) (changes_in number (run ++ more)) (changes_in number run ++ changes_in (number + length run) more) (replies_of-append run more) (changes_in-append number run more)
 
 pub joined_none : (before : ToTell) → joined before untold ≡ before
 joined_none before = tells_both (before.replies ++ []) before.replies (before.changes ++ []) before.changes (append-nil before.replies) (append-nil before.changes)

@@ -8,7 +8,6 @@ use Rattle.sector_disk.specs.Source.{Stream}
 use Rattle.sector_disk.specs.Space.{Space}
 use Rattle.sector_disk.proofs.Passing.{none_passes}
 use Rattle.sector_disk.proofs.Stages.{image_only}
-use Rattle.hfs_language.specs.Lines.{lines}
 use Rattle.jnl_format.specs.Recovery.{Content, Journal, replayed}
 use Rattle.jnl_format.specs.declared.structures.JnlRefusal.{JnlRefusal}
 use Rattle.jnl_replay.specs.Plan.{FitsPlan, journal_of}
@@ -33,11 +32,15 @@ use Rattle.hfs_serving.specs.Opening.{MayServe}
 use Rattle.hfs_serving.specs.Outside.{Outside, outside_of}
 use Rattle.hfs_serving.specs.Readying.{IsVersioned, MayReady, mounted_plan}
 use Rattle.hfs_serving.specs.Refusing.{IsOpened}
-use Rattle.hfs_serving.specs.Runs.{Crashes, KeepsPlace, StandsAs}
+use Rattle.hfs_serving.specs.Runs.{Crashes, KeepsPlace, StandsAs, texts_of}
+use Rattle.hfs_serving.specs.Speaking.{Said, Speech, unspoken}
+use Rattle.hfs_serving.specs.Spoken.{CrashesSpoken, KeepsSpoken}
+use Rattle.hfs_serving.specs.Steps.{KeepsRun}
+use Rattle.hfs_serving.specs.Watching.{KeepsHeard}
+use Rattle.hfs_language.specs.Lines.{lines}
+use Rattle.hfs_serving.proofs.Saying.{changes_in-none}
 use Rattle.hfs_serving.specs.Stages.{MayTurn, Turns}
 use Rattle.hfs_language.specs.declared.reply.Change.{Change}
-use Rattle.hfs_serving.specs.Steps.{KeepsRun}
-use Rattle.hfs_serving.specs.Watching.{CrashesHeard, KeepsHeard}
 use Rattle.hfs_serving.proofs.Agreeing.{agrees_self}
 use Rattle.hfs_serving.proofs.Attachable.{capacity_one}
 use Rattle.hfs_serving.proofs.Bridging.{lifted}
@@ -47,25 +50,25 @@ use Rattle.hfs_serving.proofs.Grounding.{outside_by}
 use Rattle.hfs_serving.proofs.Leading.{place_none}
 use Rattle.hfs_serving.proofs.Lists.{content_after-none, replies_of-none}
 use Rattle.hfs_serving.proofs.Mounting.{keeps_case}
-use Rattle.hfs_serving.proofs.Plain.{told_plain}
-use Rattle.hfs_serving.proofs.Promising.{finds_by, mount_heard}
+use Rattle.hfs_serving.proofs.Promising.{crash_more, finds_by, has_none, mount_spoken, mounted_tree}
 use Rattle.hfs_serving.proofs.Recoveries.{recovery_parts}
 use Rattle.hfs_serving.proofs.Replays.{journal_lies}
-use Rattle.hfs_serving.proofs.Saying.{changes_in-none}
+use Rattle.hfs_serving.proofs.Stepping.{all_known}
+use Rattle.hfs_serving.proofs.Texts.{texts_of-none}
 use Rattle.hfs_serving.proofs.Staging.{mark_stage_crashes, tidy_stage_crashes}
 use Rattle.hfs_serving.proofs.Versions.{found_like}
 
 -- ---- ended before the first line
 
-no_line : (capacity : ℕ) (start : Content) (old new : Outside) → Crashes capacity None start old [] [] 0 new → CrashesHeard 0 [] capacity start None old [] new
-no_line capacity start old new crashes = (record { run = []; known = 0; count = 0; crashes = crashes; asked = refl }, record { changes = changes_in-none 0; behind = told_plain old.told new.told [] crashes.told })
+no_line : (said : Said) → said unspoken → (capacity : ℕ) (start : Content) (old new : Outside) → Crashes capacity None start old [] [] 0 new → CrashesSpoken said [] capacity start None old [] new
+no_line said none capacity start old new crashes = all_known capacity None start old [] 0 said unspoken new crashes refl none
 
-module _ (capacity : ℕ) (start now : Content) (plan : Plan) (first disk : State) (versioned : IsVersioned start now) (place : KeepsPlace start now) (turns : Turns start now (outside_of plan first) (outside_of plan disk)) where
-  stop_here : (last : State) → MayBegin now (outside_of plan disk) (outside_of plan last) → CrashesHeard 0 [] capacity start None (outside_of plan first) [] (outside_of plan last)
-  stop_here last begin = no_line capacity start (outside_of plan first) (outside_of plan last) (mount_stops capacity start now (outside_of plan first) (outside_of plan disk) place turns (outside_of plan last) versioned begin)
+module _ (said : Said) (none : said unspoken) (capacity : ℕ) (start now : Content) (plan : Plan) (first disk : State) (versioned : IsVersioned start now) (place : KeepsPlace start now) (turns : Turns start now (outside_of plan first) (outside_of plan disk)) where
+  stop_here : (last : State) → MayBegin now (outside_of plan disk) (outside_of plan last) → CrashesSpoken said [] capacity start None (outside_of plan first) [] (outside_of plan last)
+  stop_here last begin = no_line said none capacity start (outside_of plan first) (outside_of plan last) (mount_stops capacity start now (outside_of plan first) (outside_of plan disk) place turns (outside_of plan last) versioned begin)
 
   -- nothing more was done
-  pub nothing_more : CrashesHeard 0 [] capacity start None (outside_of plan first) [] (outside_of plan disk)
+  pub nothing_more : CrashesSpoken said [] capacity start None (outside_of plan first) [] (outside_of plan disk)
   nothing_more = stop_here disk (record {
     begun = now;
     marked = inl refl;
@@ -78,23 +81,24 @@ module _ (capacity : ℕ) (start now : Content) (plan : Plan) (first disk : Stat
     same_new = finds_by new mid anchor ∙ same
 
     -- the run wasn't begun
-    pub begin_stopped : (after : State) → MayBegin now (outside_of mid disk) (outside_of new after) → CrashesHeard 0 [] capacity start None (outside_of plan first) [] (outside_of plan after)
+    pub begin_stopped : (after : State) → MayBegin now (outside_of mid disk) (outside_of new after) → CrashesSpoken said [] capacity start None (outside_of plan first) [] (outside_of plan after)
     begin_stopped after begin =
         stop_here after
         (subst (λ (f : Content → Content). MayBegin now (outside_by f disk) (outside_of plan after)) same (subst (λ (f : Content → Content). MayBegin now (outside_of mid disk) (outside_by f after)) same_new begin))
 
     -- it was begun, and went on
-    module _ (heard : List Change) (after last : State) (texts : List (List ℕ)) (knows : Knowing) (space : Space) where
+    module _ (heard : List Change) (said_at : Content → Said) (more : (begun : Content) → tree_of begun ≡ tree_of start → (speech : Speech) → said_at begun speech → said speech) (after last : State) (texts : List (List ℕ)) (knows : Knowing) (space : Space) where
       abbrev GoesOnBy : (Content → Content) → (Content → Content) → Type 0
       GoesOnBy f g =
-          (begins : BeginsRun capacity knows now None (outside_by f disk) space (outside_by g after)) → CrashesHeard 0 heard capacity begins.begun None (outside_by g after) texts (outside_by g last) → CrashesHeard 0 heard capacity start None (outside_of plan first) texts (outside_of plan last)
+          (begins : BeginsRun capacity knows now None (outside_by f disk) space (outside_by g after)) → CrashesSpoken (said_at begins.begun) heard capacity begins.begun None (outside_by g after) texts (outside_by g last) → CrashesSpoken said heard capacity start None (outside_of plan first) texts (outside_of plan last)
 
       by_plan : GoesOnBy (found plan) (found plan)
       by_plan begins step =
-          mount_heard capacity start begins.begun texts (outside_of plan first) (outside_of plan after) (outside_of plan last)
-          (mount_serves capacity start now (outside_of plan first) (outside_of plan disk) place turns knows space (outside_of plan after) begins versioned) step
+          let mounts = mount_serves capacity start now (outside_of plan first) (outside_of plan disk) place turns knows space (outside_of plan after) begins versioned in
+          mount_spoken capacity start begins.begun texts (outside_of plan first) (outside_of plan after) (outside_of plan last) mounts
+          (crash_more (said_at begins.begun) said capacity begins.begun None (outside_of plan after) texts (outside_of plan last) (more begins.begun (mounted_tree capacity start begins.begun (outside_of plan first) (outside_of plan after) mounts)) step)
 
-      pub begun_goes_on : (begins : BeginsRun capacity knows now None (outside_of mid disk) space (outside_of new after)) → CrashesHeard 0 heard capacity begins.begun None (outside_of new after) texts (outside_of new last) → CrashesHeard 0 heard capacity start None (outside_of plan first) texts (outside_of plan last)
+      pub begun_goes_on : (begins : BeginsRun capacity knows now None (outside_of mid disk) space (outside_of new after)) → CrashesSpoken (said_at begins.begun) heard capacity begins.begun None (outside_of new after) texts (outside_of new last) → CrashesSpoken said heard capacity start None (outside_of plan first) texts (outside_of plan last)
       begun_goes_on = subst (λ (g : Content → Content). GoesOnBy (found mid) g) (sym same_new) (subst (λ (f : Content → Content). GoesOnBy f (found plan)) (sym same) by_plan)
 
 -- ---- made ready
@@ -108,8 +112,8 @@ ready_crashes capacity start now old new (inl same) place may =
     tidy_stage_crashes capacity None start start old new (subst (λ (x : Content). MayTurn start x old new) same may) (no_step start) (place_none start)
 ready_crashes capacity start now old new (inr sets) place may = mark_stage_crashes capacity None start now old new may (inr (inl sets)) place
 
-pub ready_stopped : (capacity : ℕ) (plan : Plan) (start : Content) (old new : State) → MayReady plan start old new → CrashesHeard 0 [] capacity start None (outside_of plan old) [] (outside_of plan new)
-ready_stopped capacity plan start old new may = no_line capacity start (outside_of plan old) (outside_of plan new) (ready_crashes capacity start may.now (outside_of plan old) (outside_of plan new) may.versioned may.place may.may)
+pub ready_stopped : (said : Said) → said unspoken → (capacity : ℕ) (plan : Plan) (start : Content) (old new : State) → MayReady plan start old new → CrashesSpoken said [] capacity start None (outside_of plan old) [] (outside_of plan new)
+ready_stopped said none capacity plan start old new may = no_line said none capacity start (outside_of plan old) (outside_of plan new) (ready_crashes capacity start may.now (outside_of plan old) (outside_of plan new) may.versioned may.place may.may)
 
 -- the plan that is left finds the same, and has the same capacity
 module _ (plan : Plan) where
@@ -122,11 +126,11 @@ module _ (plan : Plan) where
       subst (λ (s : Span). IsCapacity s (form_of plan) capacity) span is
 
   -- the rest of the run, as it is found by the plan of the image
-  pub goes_on_from : {heard : List Change} (ready : Plan) → ready ≡ mounted_plan plan → (capacity : ℕ) (start now : Content) (old mid new : State) (texts : List (List ℕ)) → Turns start now (outside_of plan old) (outside_of plan mid)
-      → (Turns start now (outside_of ready old) (outside_of ready mid) → CrashesHeard 0 heard capacity start None (outside_of ready old) texts (outside_of ready new)) → CrashesHeard 0 heard capacity start None (outside_of plan old) texts (outside_of plan new)
-  goes_on_from {heard} ready is capacity start now old mid new texts turns goes =
+  pub goes_on_from : {said : Said} {heard : List Change} (ready : Plan) → ready ≡ mounted_plan plan → (capacity : ℕ) (start now : Content) (old mid new : State) (texts : List (List ℕ)) → Turns start now (outside_of plan old) (outside_of plan mid)
+      → (Turns start now (outside_of ready old) (outside_of ready mid) → CrashesSpoken said heard capacity start None (outside_of ready old) texts (outside_of ready new)) → CrashesSpoken said heard capacity start None (outside_of plan old) texts (outside_of plan new)
+  goes_on_from {said} {heard} ready is capacity start now old mid new texts turns goes =
       let same : found ready ≡ found plan = ap found is ∙ finds_mounted in
-      subst (λ (f : Content → Content). CrashesHeard 0 heard capacity start None (outside_by f old) texts (outside_by f new)) same
+      subst (λ (f : Content → Content). CrashesSpoken said heard capacity start None (outside_by f old) texts (outside_by f new)) same
       (goes (subst (λ (f : Content → Content). Turns start now (outside_by f old) (outside_by f mid)) (sym same) turns))
 
 -- ---- a run from what an image stands for
@@ -229,6 +233,35 @@ module _ (capacity : ℕ) (start : Content) (old new : State) (settled : old.can
       nothing_told : old.told ++ told ≡ old.told → told ≡ []
       nothing_told same = append_cancel_left old.told told [] (same ∙ sym (append-nil old.told))
 
+  pub reads_spoken : (said : Said) → said unspoken → (source : Stream) → KeepsSpoken said [] capacity start old source new source
+  reads_spoken said none source = record {
+    whole = unspoken;
+    rest = unspoken;
+    texts = [];
+    count = 0;
+    keeps = record {
+      run_is = tt;
+      crash = λ image told left.
+          let there = left_then image told left in
+          record {
+            count = 0;
+            some = omega arith;
+            mounts = mounts_so image there.0;
+            front = (texts_of [], ap (λ (l : List ℕ). l ++ texts_of []) (sym there.1));
+            answered = tt;
+          };
+      told = ([], ([], texts_of-none), reads.sink.told ∙ sym (append-nil old.told));
+      knows = λ image is. record { count = 0; many = omega arith; some = omega arith; mounts = mounts_so image (one_image image (subst (λ (d : Candidates). IsImage d image) reads.candidates is)) };
+    };
+    taken = λ tells. has_none source;
+    asked = refl;
+    whole_is = none;
+    is = none;
+    changes = refl;
+    behind = ([], ([], texts_of-none), reads.sink.told ∙ sym (append-nil old.told));
+  }
+
+  -- of plain lines
   pub reads_keep : (source : Stream) → KeepsRun capacity start old source new source
   reads_keep source = record {
     run = [];

@@ -173,10 +173,6 @@ module _ (capacity : ℕ) (shrunk : Option ℕ) (start : Content) where
 
   -- the same of plain lines
   module _ (old mid new : Outside) (run more : List Entry) (between : Content) (first : Serves capacity shrunk start old run (plain_answers run) between mid) where
-    pub plain_serves_both : (now : Content) → Serves capacity (shrunk_in shrunk run) between mid more (plain_answers more) now new → Serves capacity shrunk start old (run ++ more) (plain_answers (run ++ more)) now new
-    plain_serves_both now second =
-        subst (λ (a : List Answer). Serves capacity shrunk start old (run ++ more) a now new) (plain_both run more) (serves_both old mid new run more (plain_answers run) (plain_answers more) between first now second)
-
     pub plain_crashes_both : (known : ℕ) → Crashes capacity (shrunk_in shrunk run) between mid more (plain_answers more) known new → Crashes capacity shrunk start old (run ++ more) (plain_answers (run ++ more)) (length run + known) new
     plain_crashes_both known second =
         subst (λ (a : List Answer). Crashes capacity shrunk start old (run ++ more) a (length run + known) new) (plain_both run more) (crashes_both old mid new run more (plain_answers run) (plain_answers more) between first known second)

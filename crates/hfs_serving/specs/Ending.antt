@@ -11,7 +11,7 @@ use Rattle.volume_runs.specs.Rest.{Rests}
 use Rattle.volume_runs.specs.Run.{Entry, IsRun, content_after, lines_of, replies_of, shrunk_in, tree_after}
 use Rattle.hfs_serving.specs.Opening.{Opens}
 use Rattle.hfs_serving.specs.Outside.{Outside}
-use Rattle.hfs_serving.specs.Runs.{Crashes, IsMarked, KeepsPlace, LeadsToRest, StandsAs, plain_answers}
+use Rattle.hfs_serving.specs.Runs.{IsMarked, KeepsPlace, LeadsToRest, StandsAs}
 use Rattle.hfs_serving.specs.declared.telling.Stop.{Stop}
 use Rattle.hfs_serving.specs.declared.telling.Stop.TheVariants as stop
 use Rattle.line_source.specs.Input.{SplitsIntoLines, ahead}
@@ -28,18 +28,16 @@ pub record EndsAtRest (capacity : ℕ) (shrunk : Option ℕ) (start : Content) (
   pub place : KeepsPlace start stood
   pub leaves : (recovered : Content) → new.leaves recovered → StandsAs stood recovered
 
--- Each of these lines was served and answered, housekeeping came to rest behind the last of them, and no crash leaves less from then on.
-pub record AnswersStep (capacity : ℕ) (start : Content) (shrunk : Option ℕ) (old : Outside) (lines : List (List ℕ)) (new : Outside) : Type 0 where
-  pub run : List Entry
-  pub crashes : Crashes capacity shrunk start old run (plain_answers run) (length run) new
-  pub asked : lines_of run ≡ lines
-  pub told : new.told ≡ old.told ++ replies_of run
-  pub rested : EndsAtRest capacity shrunk start run new
-
 -- why a run ended, if something ended it
 abbrev pub stop_in : {A : Type 0} → Result A Stop → Option Stop
 stop_in (Ok done) = None
 stop_in (Err why) = Some why
+
+-- the image was mounted, or something else than a refusal kept it from that
+abbrev pub IsntRefused : {A B : Type 0} → Result (Result A B) Stop → Type 0
+IsntRefused (Ok (Ok done)) = Unit {0}
+IsntRefused (Ok (Err why)) = ⊥
+IsntRefused (Err why) = Unit {0}
 
 -- Its source ended the run: it is at its end, it failed, or it has too many lines.
 abbrev pub IsFinal : Option Stop → Type 0

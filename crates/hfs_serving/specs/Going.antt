@@ -1,12 +1,15 @@
 -- A volume that goes on within a batch: what it stands for, and what its calls make of it.
-use Rattle.std.specs.Prelude.{◌≡◌, ◌≢◌, All, codes, ℕ, Bool, true, false, List, [], ◌∷◌, take, Option, None}
+use Rattle.std.specs.Prelude.{◌≡◌, ◌≢◌, codes, ℕ, Bool, true, false, List, [], ◌∷◌, Option, None}
 use Rattle.sector_disk.specs.Space.{Space}
 use Rattle.jnl_format.specs.Recovery.{Content}
 use Rattle.hfs_language.specs.Language.{command_of}
 use Rattle.hfs_language.specs.declared.command.Command.{Command}
+use Rattle.hfs_language.specs.declared.reply.Change.{Change}
+use Rattle.hfs_language.specs.declared.reply.Reply.{Reply}
 use Rattle.hfs_volume.specs.Content.{volume_of}
 use Rattle.volume_runs.specs.Rest.{IsAtRest, IsTidiedFor}
 use Rattle.volume_runs.specs.Run.{Entry, IsServed, shrunk_in, shrunk_after, spelled, lines_of}
+use Rattle.volume_runs.specs.Told.{changes_in}
 use Rattle.hfs_serving.specs.Grounds.{KeepsHeading}
 use Rattle.hfs_serving.specs.Outside.{Outside}
 use Rattle.hfs_serving.specs.Runs.{KeepsPlace, LeadsToRest}
@@ -15,6 +18,8 @@ use Rattle.hfs_serving.specs.Serving.{IsDurable, IsRead, IsAsDurable, Goes, Stop
 use Rattle.hfs_serving.specs.declared.volume.ToTell.{ToTell}
 use Rattle.hfs_serving.specs.declared.volume.Next.{Next}
 use Rattle.hfs_serving.specs.declared.volume.Next.TheVariants as next
+use Rattle.hfs_serving.specs.declared.volume.Performed.{Performed}
+use Rattle.hfs_serving.specs.declared.volume.Performed.TheVariants as performed
 use Rattle.hfs_serving.specs.declared.volume.Step.{Step}
 use Rattle.hfs_serving.specs.declared.volume.Step.TheVariants as step
 
@@ -51,18 +56,6 @@ pub record Tidied (capacity : ℕ) (asked : Option Command) (knows : Knowing) (c
   pub heads : KeepsHeading space
   pub known : knows committed next shrunk
 
--- a line of this number was answered, and this is to be told of it
-pub record Answered (capacity : ℕ) (knows : Knowing) (committed now : Content) (shrunk : Option ℕ) (space : Space) (number : ℕ) (line : List ℕ) (said : ToTell) : Type 0 where
-  pub entry : Entry
-  pub line_is : entry.line ≡ line
-  pub before : entry.before ≡ now
-  pub served : IsServed capacity entry
-  pub place : KeepsPlace now entry.after
-  pub reads : IsRead entry.after space
-  pub heads : KeepsHeading space
-  pub known : knows committed entry.after (shrunk_after shrunk entry)
-  pub told : said_of number (entry ∷ []) ≡ said
-
 -- what a step of housekeeping answers
 abbrev pub TidiesTo : Next → ℕ → Knowing → Content → Content → Option ℕ → Space → Type 0
 TidiesTo next.Rest capacity knows committed now shrunk space = Stays knows committed now shrunk space × IsAtRest capacity shrunk (volume_of now)
@@ -92,12 +85,36 @@ abbrev pub ahead_of : Bool → List ℕ → Option Command
 ahead_of true line = None
 ahead_of false line = asked_in line
 
--- what a step of a line answers: the line was answered, a step of housekeeping was made ahead of its command, or a commit is wanted first
-abbrev pub AnswersTo : Step → ℕ → Knowing → Content → Content → Option ℕ → Space → ℕ → List ℕ → ToTell → ToTell → Type 0
-AnswersTo step.Answered capacity knows committed now shrunk space number line before after = (said : ToTell) × (after ≡ joined before said) × Answered capacity knows committed now shrunk space number line said
-AnswersTo step.Again capacity knows committed now shrunk space number line before after = (after ≡ before) × Tidied capacity (asked_in line) knows committed now shrunk space
-AnswersTo step.CommitFirst capacity knows committed now shrunk space number line before after = (after ≡ before) × Stays knows committed now shrunk space
-AnswersTo step.Forgone capacity knows committed now shrunk space number line before after = ⊥
+-- A command of a line with this number was done, or a resource is missing for it: this is its reply, and what it changed.
+pub record Does (capacity : ℕ) (knows : Knowing) (committed now : Content) (shrunk : Option ℕ) (space : Space) (number : ℕ) (line : List ℕ) (said : Reply) (changes : List Change) : Type 0 where
+  pub entry : Entry
+  pub line_is : entry.line ≡ line
+  pub before : entry.before ≡ now
+  pub served : IsServed capacity entry
+  pub place : KeepsPlace now entry.after
+  pub reads : IsRead entry.after space
+  pub heads : KeepsHeading space
+  pub known : knows committed entry.after (shrunk_after shrunk entry)
+  pub reply : entry.reply ≡ said
+  pub told : changes_in number (entry ∷ []) ≡ changes
+
+-- what a step of a command comes to, which this line spells: it is done, a step of housekeeping was made ahead of it, or a commit is wanted first
+abbrev pub PerformsTo : Performed → ℕ → Knowing → Content → Content → Option ℕ → Space → ℕ → List ℕ → Type 0
+PerformsTo (performed.Done said changes) capacity knows committed now shrunk space number line = Does capacity knows committed now shrunk space number line said changes
+PerformsTo performed.Again capacity knows committed now shrunk space number line = Tidied capacity (asked_in line) knows committed now shrunk space
+PerformsTo performed.CommitFirst capacity knows committed now shrunk space number line = Stays knows committed now shrunk space
+
+-- what it is to have heard a reply to a command, and what it changed
+abbrev pub Hearing : Type 1
+Hearing = Reply → List Change → Type 0
+
+-- what a try of a command comes to, which this line spells: its reply was heard, or nothing was, since a step of housekeeping was made ahead of it or a
+-- commit is wanted first
+abbrev pub AnswersTo : Step → ℕ → Knowing → Content → Content → Option ℕ → Space → ℕ → List ℕ → Hearing → Type 0 → Type 0
+AnswersTo step.Answered capacity knows committed now shrunk space number line hears same = (said : Reply) × (changes : List Change) × hears said changes × Does capacity knows committed now shrunk space number line said changes
+AnswersTo step.Again capacity knows committed now shrunk space number line hears same = same × Tidied capacity (asked_in line) knows committed now shrunk space
+AnswersTo step.CommitFirst capacity knows committed now shrunk space number line hears same = same × Stays knows committed now shrunk space
+AnswersTo step.Forgone capacity knows committed now shrunk space number line hears same = ⊥
 
 -- ---- stretches within a batch
 
@@ -111,6 +128,17 @@ pub record GoesOn (capacity : ℕ) (knows : Knowing) (committed now : Content) (
   pub known : knows last next (shrunk_in shrunk more)
   pub asked : lines_of more ≡ lines
   pub told : said_of number more ≡ said
+
+-- Its one entry is a command that this line spells, or the line itself, and this is the reply and what it changed.
+pub record DoesOn (capacity : ℕ) (knows : Knowing) (committed now : Content) (shrunk : Option ℕ) (old : Outside) (number : ℕ) (line : List ℕ) (said : Reply) (changes : List Change) (space : Space) (new : Outside) : Type 0 where
+  pub entry : Entry
+  pub last : Content
+  pub goes : Goes capacity shrunk None committed now old (entry ∷ []) last entry.after space new
+  pub heads : KeepsHeading space
+  pub known : knows last entry.after (shrunk_in shrunk (entry ∷ []))
+  pub line_is : entry.line ≡ line
+  pub reply : entry.reply ≡ said
+  pub told : changes_in number (entry ∷ []) ≡ changes
 
 -- without an entry, ahead of this command, if there is one
 pub record GoesTidy (capacity : ℕ) (asked : Option Command) (knows : Knowing) (committed now : Content) (shrunk : Option ℕ) (old : Outside) (space : Space) (new : Outside) : Type 0 where
@@ -131,25 +159,17 @@ pub record StopsOn (capacity : ℕ) (committed now : Content) (shrunk : Option �
   pub asked : lines_of more ≡ lines
   pub stops : Stops capacity shrunk committed now old more new
 
--- All that the volume stands for is committed, and nothing of it is told: these are the lines, and this is to be told of them. Behind the last of
--- them housekeeping came to rest.
-pub record GoesWhole (capacity : ℕ) (knows : Knowing) (start : Content) (shrunk : Option ℕ) (old : Outside) (number : ℕ) (lines : List (List ℕ)) (said : ToTell) (space : Space) (new : Outside) : Type 0 where
-  pub run : List Entry
-  pub now : Content
-  pub goes : Goes capacity shrunk None start start old run now now space new
-  pub heads : KeepsHeading space
-  pub known : knows now now (shrunk_in shrunk run)
-  pub asked : lines_of run ≡ lines
-  pub told : said_of number run ≡ said
-  pub rests : LeadsToRest capacity shrunk None start run now
+-- A command was answered, which this line spells, or it was left with nothing done for it. Housekeeping went on before that.
+abbrev pub ServesCommand : Bool → ℕ → Knowing → Content → Content → Option ℕ → Outside → ℕ → List ℕ → Hearing → Type 0 → Space → Outside → Type 0
+ServesCommand true capacity knows committed now shrunk old number line hears same space new = (said : Reply) × (changes : List Change) × hears said changes × DoesOn capacity knows committed now shrunk old number line said changes space new
+ServesCommand false capacity knows committed now shrunk old number line hears same space new = same × GoesTidy capacity None knows committed now shrunk old space new
 
 -- the line, where it was answered
 abbrev pub line_if : Bool → List ℕ → List (List ℕ)
 line_if true line = line ∷ []
 line_if false line = []
 
--- A line was served, or was left, with nothing done for it: a commit is wanted before it, or housekeeping didn't come to rest. Housekeeping went on
--- before that. `before` and `after` are what is to be told.
+-- A line was served, or was left, with nothing done for it: a commit is wanted before it. Housekeeping went on before that. `before` and `after` are what is to be told.
 pub record ServesLine (answered : Bool) (capacity : ℕ) (knows : Knowing) (committed now : Content) (shrunk : Option ℕ) (old : Outside) (number : ℕ) (line : List ℕ) (before after : ToTell) (space : Space) (new : Outside) : Type 0 where
   pub said : ToTell
   pub told : after ≡ joined before said
@@ -158,24 +178,3 @@ pub record ServesLine (answered : Bool) (capacity : ℕ) (knows : Knowing) (comm
 -- the line that asks that all be made durable
 abbrev pub sync_line : List ℕ
 sync_line = codes "sync"
-
--- none of so many of these lines is a `sync`
-abbrev pub HasNoSync : ℕ → List (List ℕ) → Type 0
-HasNoSync count lines = All (λ line. line ≢ sync_line) (take count lines)
-
--- The first of these lines were served.
-pub record ServesLines (count : ℕ) (capacity : ℕ) (knows : Knowing) (committed now : Content) (shrunk : Option ℕ) (old : Outside) (number : ℕ) (lines : List (List ℕ)) (before after : ToTell) (space : Space) (new : Outside) : Type 0 where
-  pub said : ToTell
-  pub told : after ≡ joined before said
-  pub goes : GoesOn capacity knows committed now shrunk old number (take count lines) said space new
-
--- A fault ended it after some of these lines.
-pub record StopsLines (capacity : ℕ) (committed now : Content) (shrunk : Option ℕ) (old : Outside) (lines : List (List ℕ)) (new : Outside) : Type 0 where
-  pub count : ℕ
-  pub stops : StopsOn capacity committed now shrunk old (take count lines) new
-
--- The first of these lines were served, and all of it is committed.
-pub record ServesBatch (count : ℕ) (capacity : ℕ) (knows : Knowing) (start : Content) (shrunk : Option ℕ) (old : Outside) (number : ℕ) (lines : List (List ℕ)) (before after : ToTell) (space : Space) (new : Outside) : Type 0 where
-  pub said : ToTell
-  pub told : after ≡ joined before said
-  pub whole : GoesWhole capacity knows start shrunk old number (take count lines) said space new

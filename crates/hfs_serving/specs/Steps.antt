@@ -1,16 +1,15 @@
 -- A batch whose replies are told, and a run of batches.
-use Rattle.std.specs.Prelude.{◌≡◌, ◌↔◌, ◌++◌, ℕ, List, take, IsTrue, Option, None}
+use Rattle.std.specs.Prelude.{◌≡◌, ◌↔◌, ℕ, List, take, Option}
 use Rattle.hx_bytes.specs.declared.faults.Trouble.{Trouble}
 use Rattle.hx_bytes.specs.declared.faults.Trouble.TheVariants as trouble
 use Rattle.sector_disk.specs.Disk.{State}
 use Rattle.sector_disk.specs.Source.{Stream}
 use Rattle.sector_disk.specs.Space.{Space}
 use Rattle.jnl_format.specs.Recovery.{Content}
-use Rattle.hfs_language.specs.Lines.{lines}
-use Rattle.volume_runs.specs.Run.{Entry, lines_of, replies_of, shrunk_in}
+use Rattle.volume_runs.specs.Run.{Entry, lines_of}
 use Rattle.hfs_serving.specs.Going.{Knowing, Stands}
 use Rattle.hfs_serving.specs.Outside.{Outside}
-use Rattle.hfs_serving.specs.Runs.{Crashes, LeadsToRest, Serves, SetsUnmounted, StandsAs, plain_answers}
+use Rattle.hfs_serving.specs.Runs.{Crashes, plain_answers}
 use Rattle.hfs_serving.specs.Top.{KeepsPromises}
 use Rattle.line_source.specs.declared.input.InputFault.{InputFault}
 use Rattle.line_source.specs.declared.input.InputFault.TheVariants as input
@@ -45,16 +44,6 @@ pub record IsStill (old new : Space) : Type 0 where
 abbrev pub SomeWhole : (ℕ → Knowing) → Space → Outside → Type 0
 SomeWhole knows space outside = (capacity : ℕ) × (start : Content) × (shrunk : Option ℕ) × Stands (knows capacity) start start shrunk space outside
 
--- The first of these lines were served to their end: their replies were told, and the volume stands for what they left, which is committed. Behind
--- the last of them housekeeping came to rest.
-pub record ServesStep (count capacity : ℕ) (knows : Knowing) (start : Content) (shrunk : Option ℕ) (old : Outside) (lines : List (List ℕ)) (space : Space) (new : Outside) : Type 0 where
-  pub run : List Entry
-  pub now : Content
-  pub serves : Serves capacity shrunk start old run (plain_answers run) now new
-  pub stands : Stands knows now now (shrunk_in shrunk run) space new
-  pub asked : lines_of run ≡ take count lines
-  pub rests : LeadsToRest capacity shrunk None start run now
-
 -- A fault ended it after some of these lines.
 pub record CrashesStep (capacity : ℕ) (start : Content) (shrunk : Option ℕ) (old : Outside) (lines : List (List ℕ)) (new : Outside) : Type 0 where
   pub run : List Entry
@@ -68,15 +57,3 @@ pub record KeepsRun (capacity : ℕ) (start : Content) (old : State) (source : S
   pub run : List Entry
   pub known : ℕ
   pub keeps : KeepsPromises capacity start old source run known new source_new
-
--- A run that came to its end: all lines of the source were served and answered, housekeeping came to rest behind the last of them, and a crash
--- leaves what they left, with the mark of the end.
-pub record EndsRun (capacity : ℕ) (start : Content) (old : Outside) (source : Stream) (new : Outside) : Type 0 where
-  pub run : List Entry
-  pub asked : IsTrue source.tells → lines_of run ≡ lines source.left
-  pub now : Content
-  pub rests : LeadsToRest capacity None None start run now
-  pub told : new.told ≡ old.told ++ replies_of run
-  pub ended : Content
-  pub sets : SetsUnmounted now ended
-  pub leaves : (recovered : Content) → new.leaves recovered → StandsAs ended recovered

@@ -1,37 +1,20 @@
 -- What watchers heard of a run.
-use Rattle.std.specs.Prelude.{◌≡◌, ◌++◌, ℕ, List, Option, take}
+use Rattle.std.specs.Prelude.{◌≡◌, ◌++◌, ℕ, List, take}
 use Rattle.sector_disk.specs.Disk.{State}
 use Rattle.sector_disk.specs.Source.{Stream}
-use Rattle.sector_disk.specs.Space.{Space}
 use Rattle.jnl_format.specs.Recovery.{Content}
 use Rattle.hfs_language.specs.declared.reply.Change.{Change}
 use Rattle.volume_runs.specs.Run.{Entry, replies_of}
 use Rattle.volume_runs.specs.Told.{changes_in}
-use Rattle.hfs_serving.specs.Ending.{AnswersRig, AnswersRun, AnswersStep, AnswersToTheLast, FinishesRun}
-use Rattle.hfs_serving.specs.Going.{Knowing}
-use Rattle.hfs_serving.specs.Outside.{Outside}
+use Rattle.hfs_serving.specs.Ending.{AnswersRig, AnswersRun, AnswersToTheLast, FinishesRun}
 use Rattle.hfs_serving.specs.Runs.{IsPrefix}
-use Rattle.hfs_serving.specs.Steps.{CrashesStep, KeepsRun, ServesStep}
+use Rattle.hfs_serving.specs.Steps.{KeepsRun}
 
 -- Of a run whose first line has this number these are the changes of the first `known` entries, in order, each once. What was told since `before`
 -- are replies of these entries, the last maybe in part: no reply is told before its changes.
 pub record HeardOf (number : ℕ) (heard : List Change) (run : List Entry) (known : ℕ) (before told : List ℕ) : Type 0 where
   pub changes : changes_in number (take known run) ≡ heard
   pub behind : (w : List ℕ) × IsPrefix w (replies_of (take known run)) × (told ≡ before ++ w)
-
--- lines were served to their end, of which the first has this number, and these are all of their changes
-abbrev pub ServesHeard : ℕ → List Change → ℕ → ℕ → Knowing → Content → Option ℕ → Outside → List (List ℕ) → Space → Outside → Type 0
-ServesHeard number heard count capacity knows start shrunk old lines space new = (step : ServesStep count capacity knows start shrunk old lines space new) × (changes_in number step.run ≡ heard)
-
--- a fault ended it, these are all of the changes of the entries that each crash leaves, and no reply of another entry was told
-abbrev pub CrashesHeard : ℕ → List Change → ℕ → Content → Option ℕ → Outside → List (List ℕ) → Outside → Type 0
-CrashesHeard number heard capacity start shrunk old lines new = (step : CrashesStep capacity start shrunk old lines new) × HeardOf number heard step.run step.known old.told new.told
-
--- each of these lines was served and answered, from a run's first line on, and these are all of their changes
-abbrev pub AnswersHeard : List Change → ℕ → Content → Option ℕ → Outside → List (List ℕ) → Outside → Type 0
-AnswersHeard heard capacity start shrunk old lines new = (step : AnswersStep capacity start shrunk old lines new) × (changes_in 0 step.run ≡ heard)
-
--- ---- over a rig
 
 -- A run keeps its promises, and of the same run watchers heard these changes, those of its first `known` entries, and no reply was told before
 -- its changes. These entries are on each image that a crash leaves at the end.

@@ -1,5 +1,5 @@
 //! A volume that comes into service, and the begin of its run.
-ghost use Rattle.std.specs.Prelude.{◌≡◌, ◌≤◌, ℕ, None, IsTrue, IfOk, OnOk};
+ghost use Rattle.std.specs.Prelude.{◌≡◌, ◌≤◌, ℕ, None, IsTrue, IfOk, OnOk, ◌+◌};
 ghost use Rattle.jnl_format.specs.Recovery.{Content};
 ghost use Rattle.hfs_serving.specs.Faults.{Faults};
 ghost use Rattle.hfs_serving.specs.Attaching.{MayAttach, SomeAttach};
@@ -28,6 +28,7 @@ pub fn attach_volume<V: Volume, G: Ground>(
     ensures still { OnOk result (G.serves base.new capacity × (G.taken base.new ≡ 0)) }
     ensures tells { OnOk result ((G.space base.new).tells ≡ (G.space base.old).tells) }
     ensures anchor { G.anchor base.new ≡ G.anchor base.old }
+    ensures barriers { (G.space base.new).barriers ≤ (G.space base.old).barriers + 4 }
     ensures faults { Faults (G.failed base.old) (G.space base.old) (G.failed base.new) (G.space base.new) result }
 {
     let mut volume = V::attach(alloc, base, capacity)?;

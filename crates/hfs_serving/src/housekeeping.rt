@@ -1,6 +1,7 @@
 //! Housekeeping within a batch.
-ghost use Rattle.std.specs.Prelude.{◌≡◌, ◌≤◌, ◌+◌, [], ℕ, Option, None, IsErrOf, IsTrue, IfOk, OnOk, OnErr};
+ghost use Rattle.std.specs.Prelude.{◌≡◌, ◌≤◌, ◌+◌, [], ℕ, Option, None, IsErrOf, IsTrue, IfOk, OnOk, OnErr, ◌-◌};
 ghost use Rattle.jnl_format.specs.Recovery.{Content};
+ghost use Rattle.hfs_serving.specs.Commits.{HaveCauses, SomeWantsAt};
 ghost use Rattle.hfs_serving.specs.Faults.{Faults, StopFaults};
 ghost use Rattle.hfs_serving.specs.Going.{GoesRested, GoesTidy, SomeStands, Stands, StopsOn};
 
@@ -40,6 +41,8 @@ fn work<V: Volume, G: Ground>(volume: &mut V, base: &mut G, tries: &mut u8) -> R
     ensures still { (capacity : ℕ) → G.serves base.old capacity → G.taken base.old ≤ capacity → OnOk result (G.serves base.new capacity × (G.taken base.new ≤ capacity)) }
     ensures tells { OnOk result ((G.space base.new).tells ≡ (G.space base.old).tells) }
     ensures anchor { G.anchor base.new ≡ G.anchor base.old }
+    // A commit is made where the step wanted it, or where memory was missing for it, which takes a try.
+    ensures caused { IsTrue (G.space base.old).tells → OnOk result (HaveCauses (SomeWantsAt V.wants G.space) (tries.old - tries.new) (G.space base.old).barriers (G.space base.new).barriers) }
     ensures faults { Faults (G.failed base.old) (G.space base.old) (G.failed base.new) (G.space base.new) result }
     ensures fewer { tries.new ≤ tries.old }
 {
@@ -78,6 +81,8 @@ pub fn tidy<V: Volume, G: Ground>(volume: &mut V, base: &mut G) -> Result<bool, 
     ensures still { (capacity : ℕ) → G.serves base.old capacity → G.taken base.old ≤ capacity → OnOk result (G.serves base.new capacity × (G.taken base.new ≤ capacity)) }
     ensures tells { OnOk result ((G.space base.new).tells ≡ (G.space base.old).tells) }
     ensures anchor { G.anchor base.new ≡ G.anchor base.old }
+    // A commit is made where a step wanted it, or where memory was missing for it, at most eight times.
+    ensures caused { IsTrue (G.space base.old).tells → OnOk result (HaveCauses (SomeWantsAt V.wants G.space) 8 (G.space base.old).barriers (G.space base.new).barriers) }
     ensures faults { Faults (G.failed base.old) (G.space base.old) (G.failed base.new) (G.space base.new) result }
 {
     let mut tries = MOST_RETRIES;
@@ -100,6 +105,8 @@ pub fn come_to_rest<V: Volume, G: Ground>(volume: &mut V, base: &mut G) -> Resul
     ensures still { (capacity : ℕ) → G.serves base.old capacity → G.taken base.old ≤ capacity → OnOk result (G.serves base.new capacity × (G.taken base.new ≤ capacity)) }
     ensures tells { OnOk result ((G.space base.new).tells ≡ (G.space base.old).tells) }
     ensures anchor { G.anchor base.new ≡ G.anchor base.old }
+    // A commit is made where a step wanted it, or where memory was missing for it, at most eight times.
+    ensures caused { IsTrue (G.space base.old).tells → OnOk result (HaveCauses (SomeWantsAt V.wants G.space) 8 (G.space base.old).barriers (G.space base.new).barriers) }
     ensures faults { StopFaults (G.failed base.old) (G.space base.old) (G.failed base.new) (G.space base.new) ⊥ result }
     ensures no_many { IsErrOf result Stop.TooMany → ⊥ }
 {

@@ -1,5 +1,5 @@
 //! An image made ready for its store: its journal is replayed, and its header says that a system mounts it that keeps the journal.
-ghost use Rattle.std.specs.Prelude.{◌≡◌, ◌==◌, ◌⊎◌, ◌<◌, IsTrue, OnOk, IfOk, Ok};
+ghost use Rattle.std.specs.Prelude.{◌≡◌, ◌==◌, ◌⊎◌, ◌<◌, IsTrue, OnOk, IfOk, Ok, ◌+◌, ◌≤◌};
 ghost use Rattle.sector_disk.specs.Cause.{HasCause};
 ghost use Rattle.sector_disk.specs.Disk.{CrashesLeave, HasNothingPending, SameDisk, SameSink, content, only};
 ghost use Rattle.jnl_format.specs.Recovery.{Content, journaling_version, recovery, replayed};
@@ -41,6 +41,7 @@ pub fn ready_image<D: SectorDisk>(disk: &mut D, plan: &Plan) -> Result<Plan, Fai
     ensures mounted { IsTrue (D.state disk.old).tells → (start : Content) → recovery (content (D.state disk.old)) ≡ Ok start → start ≡ replayed (journal_of plan.now) (content (D.state disk.old)) → IfOk result (λ ready. IsMountedFrom plan.now.place.last_mounted start ready (D.state disk.new)) }
     ensures plan { IfOk result (λ ready. ready ≡ mounted_plan plan.now) }
     ensures fits { IfOk result (FitsPlan (D.state disk.new).sectors) }
+    ensures barriers { (D.state disk.new).barriers ≤ (D.state disk.old).barriers + 4 }
     ensures same { SameDisk (D.state disk.old) (D.state disk.new) }
     ensures sink { SameSink (D.state disk.old) (D.state disk.new) }
     ensures cause { HasCause (D.state disk.old).faults (D.state disk.new).faults result }
@@ -58,6 +59,7 @@ fn set_version<D: SectorDisk>(disk: &mut D, plan: &Plan) -> Result<(), Failed>
     requires settled { IsTrue (D.state disk.old).tells → HasNothingPending (D.state disk.old) }
     ensures written { IsTrue (D.state disk.old).tells → OnOk result ((D.state disk.new).candidates ≡ only (versioned plan.now.place.last_mounted (content (D.state disk.old)))) }
     ensures crash { IsTrue (D.state disk.old).tells → CrashesLeave (D.state disk.old) (D.state disk.new) (λ image. (image ≡ content (D.state disk.old)) ⊎ (image ≡ versioned plan.now.place.last_mounted (content (D.state disk.old)))) }
+    ensures barriers { (D.state disk.new).barriers ≤ (D.state disk.old).barriers + 1 }
     ensures same { SameDisk (D.state disk.old) (D.state disk.new) }
     ensures sink { SameSink (D.state disk.old) (D.state disk.new) }
     ensures cause { HasCause (D.state disk.old).faults (D.state disk.new).faults result }

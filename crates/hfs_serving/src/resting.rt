@@ -1,5 +1,5 @@
 //! The end of a run over a journal's store and its rig: nothing is left of its journal.
-ghost use Rattle.std.specs.Prelude.{◌≡◌, ◌∷◌, [], ℕ, Option, IsTrue, OnOk, OnErr, length};
+ghost use Rattle.std.specs.Prelude.{◌≡◌, ◌∷◌, [], ℕ, Option, IsTrue, OnOk, OnErr, length, ◌+◌, ◌≤◌};
 ghost use Rattle.sector_disk.specs.Cause.{Rose};
 ghost use Rattle.sector_disk.specs.Disk.{SameDisk};
 ghost use Rattle.jnl_store.specs.Seen.{seen};
@@ -37,6 +37,7 @@ pub(crate) fn finish<V: Volume, R: Rig>(
     ensures same { SameDisk (R.state base.old.disk.now) (R.state base.new.disk.now) }
     ensures anchor { anchor_of (plan_of base.new.store.now) ≡ anchor_of (plan_of base.old.store.now) }
     ensures names { base.new.store.ghost_name ∷ base.new.disk.ghost_name ∷ [] ≡ base.old.store.ghost_name ∷ base.old.disk.ghost_name ∷ [] }
+    ensures barriers { (R.state base.new.disk.now).barriers ≤ (R.state base.old.disk.now).barriers + 6 }
     ensures faults { Faults (faults_of base.old.store.now) (seen R.state base.old) (faults_of base.new.store.now) (seen R.state base.new) result }
 {
     end_run(volume, base)?;
@@ -56,6 +57,7 @@ pub fn rest<R: Rig>(base: &mut Space<'_, '_, R>) -> Result<(), Failed>
     ensures same { SameDisk (R.state base.old.disk.now) (R.state base.new.disk.now) }
     ensures anchor { anchor_of (plan_of base.new.store.now) ≡ anchor_of (plan_of base.old.store.now) }
     ensures names { base.new.store.ghost_name ∷ base.new.disk.ghost_name ∷ [] ≡ base.old.store.ghost_name ∷ base.old.disk.ghost_name ∷ [] }
+    ensures barriers { (R.state base.new.disk.now).barriers ≤ (R.state base.old.disk.now).barriers + 2 }
     ensures counts { CountsFaults (faults_of base.old.store.now) (seen R.state base.old) (faults_of base.new.store.now) (seen R.state base.new) }
     ensures cause { OnErr result (faults_of base.old.store.now ≡ 0 → Rose (seen R.state base.old).faults (seen R.state base.new).faults) }
 {

@@ -1,5 +1,5 @@
 //! Where memory is missing behind a keep, a volume comes back to what it stood for there.
-ghost use Rattle.std.specs.Prelude.{◌≡◌, ◌≤◌, [], ℕ, Option, IsTrue, OnErr, OnOk};
+ghost use Rattle.std.specs.Prelude.{◌≡◌, ◌≤◌, [], ℕ, Option, IsTrue, OnErr, OnOk, ◌+◌};
 ghost use Rattle.jnl_format.specs.Recovery.{Content};
 ghost use Rattle.hfs_serving.specs.Faults.{Faults};
 ghost use Rattle.hfs_serving.specs.Going.{StopsOn};
@@ -27,6 +27,8 @@ pub(crate) fn come_back<V: Volume, G: Ground>(
     ensures still { (capacity : ℕ) → G.serves base.old capacity → OnOk result (G.serves base.new capacity × (G.taken base.new ≤ capacity)) }
     ensures tells { OnOk result ((G.space base.new).tells ≡ (G.space base.old).tells) }
     ensures anchor { G.anchor base.new ≡ G.anchor base.old }
+    // The disk passes the barriers of one commit, four at most.
+    ensures barriers { (G.space base.new).barriers ≤ (G.space base.old).barriers + 4 }
     ensures faults { Faults (G.failed base.old) (G.space base.old) (G.failed base.new) (G.space base.new) result }
 {
     base.undo();

@@ -1,5 +1,5 @@
 //! The begin of a run.
-ghost use Rattle.std.specs.Prelude.{◌≡◌, ◌≤◌, [], ℕ, Option, IsTrue, OnOk};
+ghost use Rattle.std.specs.Prelude.{◌≡◌, ◌≤◌, [], ℕ, Option, IsTrue, OnOk, ◌+◌};
 ghost use Rattle.jnl_format.specs.Recovery.{Content};
 ghost use Rattle.hfs_serving.specs.Faults.{Faults};
 ghost use Rattle.hfs_serving.specs.Beginning.{BeginsRun, MayBegin};
@@ -26,6 +26,7 @@ pub fn begin_run<V: Volume, G: Ground>(volume: &mut V, base: &mut G) -> Result<(
     ensures still { (capacity : ℕ) → G.serves base.old capacity → G.taken base.old ≡ 0 → OnOk result (G.serves base.new capacity × (G.taken base.new ≡ 0)) }
     ensures tells { OnOk result ((G.space base.new).tells ≡ (G.space base.old).tells) }
     ensures anchor { G.anchor base.new ≡ G.anchor base.old }
+    ensures barriers { (G.space base.new).barriers ≤ (G.space base.old).barriers + 4 }
     ensures faults { Faults (G.failed base.old) (G.space base.old) (G.failed base.new) (G.space base.new) result }
 {
     volume.mark_mounted(base)?;

@@ -1,4 +1,5 @@
 -- What lies aside is free: the lists, the trees and the plain tree of the other content are those of the sound one.
+use Rattle.hfs_volume.proofs.Valued.{values_same}
 use Rattle.std.proofs.Common.{◌≡◌, ◌<◌, ◌≤◌, ℕ, ◌-◌, ◌*◌, ◌/◌, ◌%◌, true, false, List, [], length, map, take, refl, sym, ◌∙◌, ap, subst, arith, inl, inr}
 use Rattle.std.proofs.lemmas.Bool.{true≢false}
 use Rattle.std.specs.Prelude.{Contains, IsTrue, Option, Some, None, slice_get, if◌then◌else◌}
@@ -20,12 +21,12 @@ use Rattle.cat_records.specs.declared.record.FileRecord.{FileRecord}
 use Rattle.cat_records.specs.declared.record.CatRecord.TheVariants.{File}
 use Rattle.hfs_volume.specs.Records.{Placed, Overflow, overflow_of, entries_of, id_of, id_in}
 use Rattle.hfs_volume.specs.Forks.{Owned, per_block_of, parts_for, data_kind, extents_of, blocks_owned, special_forks, reserved_blocks, extents_id, catalog_id, allocation_id, attributes_id}
-use Rattle.hfs_volume.specs.Content.{VolumeState, volume_of, records_of, overflow_in_volume, block_sector, block_bytes, tree_of_fork, extents_file, catalog_file, attributes_file, overflow_of_content, facts_of, bit_in, bit_of_sector, has_attributes}
+use Rattle.hfs_volume.specs.Content.{VolumeState, volume_of, records_of, overflow_in_volume, block_sector, block_bytes, tree_of_fork, extents_file, catalog_file, attributes_file, overflow_of_content, facts_of, bit_in, bit_of_sector, has_attributes, attributes_of}
 use Rattle.hfs_volume.specs.Entries.{IsUserId}
 use Rattle.hfs_volume.specs.Nodes.{HasTrees}
 use Rattle.hfs_volume.specs.Sound.{IsSound, IsSoundVolume}
 use Rattle.hfs_volume.specs.Aside.{IsAside, NamesJournal, AsideIsFree}
-use Rattle.hfs_volume.specs.TreeOf.{tree_in, tree_of, file_bytes, is_plain_file}
+use Rattle.hfs_volume.specs.TreeOf.{tree_in, tree_of, file_bytes, is_plain_file, bytes_in, valued}
 use Rattle.hfs_volume.proofs.Members.{each_of}
 use Rattle.hfs_volume.proofs.BlockWants.{in_range}
 use Rattle.hfs_volume.proofs.Sectors.{from_first, in_front}
@@ -33,7 +34,7 @@ use Rattle.hfs_volume.proofs.Apart.{reserved_is_used}
 use Rattle.hfs_volume.proofs.Hiding.{same_entry}
 use Rattle.hfs_volume.proofs.PlainBytes.{same_plain_bytes, journal_not_plain, info_not_plain}
 use Rattle.hfs_volume.proofs.Rereading.{same_bytes, same_tree, same_block_sector}
-use Rattle.hfs_volume.proofs.Untouched.{IsOwnFile, data_fork_of, file_fork_stands, special_stands, blocks, journal_file, info_file, IsForeign, reserved_apart, sector_stays, fork_stays}
+use Rattle.hfs_volume.proofs.Untouched.{IsOwnFile, data_fork_of, file_fork_stands, special_stands, blocks, journal_file, info_file, IsForeign, reserved_apart, sector_stays, fork_stays, value_stays}
 
 module _ (content other : Content) (sound : IsSound content) (agrees : AgreesOutside (IsAside content) content other) where
   abbrev was : VolumeState
@@ -202,9 +203,13 @@ module _ (content other : Content) (sound : IsSound content) (agrees : AgreesOut
         ∙ ap (take file.data_fork.logical_size) (same_bytes content other (head_was.total_blocks * per_was) (sectors_by head_was (overflow_in_volume was) file.fields.id file.data_fork)
         (λ at has. fork_stays content other sound agrees (data_fork_of file) (file_fork_stands was p file stands is) (plain_foreign p file stands is plain) at has))
 
+    values_stay : valued (bytes_in other) (attributes_of was) ≡ valued (bytes_in content) (attributes_of was)
+    unfolding volume_of
+    values_stay = values_same content other (attributes_of was) (ap (λ (h : VolumeHeader). h.block_size) header_stays) (ap (λ (h : VolumeHeader). h.total_blocks) header_stays) (blocks content other sound agrees).some (value_stays content other sound agrees)
+
     pub tree_stays : tree_of other ≡ tree_of content
     unfolding tree_of
-    tree_stays = ap (λ v. tree_in v (file_bytes other)) volume_stays ∙ same_plain_bytes was (file_bytes other) (file_bytes content) plain_bytes
+    tree_stays = ap (λ v. tree_in v (bytes_in other)) volume_stays ∙ same_plain_bytes was (bytes_in other) (bytes_in content) plain_bytes values_stay
 
 -- the law
 pub aside_is_free : AsideIsFree

@@ -2,7 +2,6 @@
 use Rattle.std.proofs.Common.{◌≡◌, ℕ, ◌+◌, true, List, length, inl, inr, refl, sym, ◌∙◌, ap, arith}
 use Rattle.std.proofs.lemmas.Bool.{true≢false}
 use Rattle.volume_header.specs.declared.header.VolumeHeader.{VolumeHeader}
-use Rattle.cat_records.specs.declared.record.FileRecord.{FileRecord}
 use Rattle.hfs_volume.specs.Records.{Placed, entries_of, id_of, is_folder, special_of, valence_in}
 use Rattle.hfs_volume.specs.Entries.{AreCounted, count_in}
 use Rattle.hfs_volume.specs.Links.{private_id, is_shared, is_shared_file, HaveLinkCounts}
@@ -11,10 +10,10 @@ use Rattle.hfs_volume.specs.Blocks.{HasBits, is_among, count_used, used_in}
 use Rattle.hfs_volume.specs.Forks.{all_forks}
 use Rattle.hfs_volume.specs.Reclaim.{blocks_at}
 use Rattle.hfs_volume.specs.Sound.{IsSoundVolume}
-use Rattle.hfs_volume.specs.TreeOf.{tree_in}
-use Rattle.hfs_volume.specs.Changes.{PutsBlocks}
+use Rattle.hfs_volume.specs.TreeOf.{tree_in, BytesOf}
+use Rattle.hfs_volume.specs.Changes.{PutsBlocks, with_free}
 use Rattle.hfs_volume.specs.Laws.{IsShaped, IsUserFile, HasRightBits, CountsBlocks}
-use Rattle.hfs_volume.specs.Writing.{PutsAndCounts, with_free}
+use Rattle.hfs_volume.specs.Writing.{PutsAndCounts}
 use Rattle.hfs_volume.proofs.Members.{all_of, each_of}
 use Rattle.hfs_volume.proofs.Heading.{numbered_shaped, used_numbered}
 use Rattle.hfs_volume.proofs.Finishing.{sound_is_both}
@@ -43,7 +42,7 @@ pub recounted_at : (free next : ℕ) (old : VolumeState) (id kind : ℕ) → blo
 unfolding all_forks
 recounted_at free next old id kind = refl
 
-pub recounted_tree : (free next : ℕ) (old : VolumeState) (bytes_of : FileRecord → List ℕ) → tree_in (recounted free next old) bytes_of ≡ tree_in old bytes_of
+pub recounted_tree : (free next : ℕ) (old : VolumeState) (bytes_of : BytesOf) → tree_in (recounted free next old) bytes_of ≡ tree_in old bytes_of
 unfolding tree_in
 recounted_tree free next old bytes_of = refl
 

@@ -1,21 +1,21 @@
 -- What a step of reclaiming that drops an attribute or an entry does: that one goes, and no fork has other blocks.
-use Rattle.std.proofs.Common.{◌≡◌, ◌≢◌, ◌⊎◌, ◌<◌, ◌≤◌, ℕ, Bool, true, false, List, [], ◌∷◌, ◌++◌, map, inl, inr, refl, sym, ◌∙◌, ap, subst, arith}
+use Rattle.fork_map.specs.Blocks.{blocks_of}
+use Rattle.hfs_volume.specs.Values.{value_extents}
+use Rattle.std.proofs.Common.{◌≡◌, ◌≢◌, ◌<◌, ℕ, Bool, true, false, List, [], ◌∷◌, ◌++◌, map, inl, inr, refl, sym, ◌∙◌, ap, subst, arith}
 use Rattle.std.specs.Prelude.{Contains, ◌==◌, ◌&&◌, not, find, Option, None, Some, if◌then◌else◌}
 use Rattle.std.specs.Option.{option_or}
 use Rattle.std.proofs.lemmas.Bool.{eqb-true, true≢false, and_parts}
 use Rattle.std.proofs.lemmas.Bool.Decides.{eqb_tells}
 use Rattle.std.proofs.lemmas.List.Elements.{Contains-append_cases}
 use Rattle.std.proofs.lemmas.List.Folds.{find-append}
-use Rattle.btree_node.specs.Levels.{Pair}
 use Rattle.volume_header.specs.declared.header.VolumeHeader.{VolumeHeader}
 use Rattle.hx_bytes.specs.declared.extents.ForkRecord.{ForkRecord}
 use Rattle.hfs_model.specs.Sorted.{kept}
-use Rattle.hfs_volume.specs.Records.{Placed, Overflow, Attribute, attribute_of, entries_of, id_of, is_thread}
+use Rattle.hfs_volume.specs.Records.{Placed, Overflow, attribute_of, entries_of, id_of, is_thread}
 use Rattle.hfs_volume.specs.Forks.{Owned, forks_in, all_forks, special_forks, file_forks, blocks_owned, data_kind}
 use Rattle.hfs_volume.specs.Content.{VolumeState, records_of, overflow_in_volume, attributes_of}
-use Rattle.hfs_volume.specs.Sound.{IsSoundVolume}
 use Rattle.hfs_volume.specs.Reclaim.{Does, DropAttribute, DropOrphan, is_attribute, is_fork, blocks_at, blocks_found}
-use Rattle.hfs_volume.specs.Changes.{DropsEntry, DropsAttribute, InCatalog, InAttributes, AreSorted, is_attribute_of}
+use Rattle.hfs_volume.specs.Changes.{DropsEntry, DropsAttribute, InCatalog, InValues, AreSorted}
 use Rattle.hfs_volume.specs.Commands.{with_fields}
 use Rattle.hfs_volume.specs.Laws.{IsShaped, MayDrop}
 use Rattle.hfs_volume.specs.Reclaiming.{DropsOrphanEntry}
@@ -25,10 +25,11 @@ use Rattle.hfs_volume.proofs.Flat.{Pieces, flat_pieces, found_some}
 use Rattle.hfs_volume.proofs.Reaching.{flat_cases}
 use Rattle.hfs_volume.proofs.Sides.{OneMore, entries_more}
 use Rattle.hfs_volume.proofs.Owning.{fork_cases, none_owned}
-use Rattle.hfs_volume.proofs.Removing.{removed_side, removed_fresh, removed_shaped}
+use Rattle.hfs_volume.proofs.Removing.{removed_side, removed_fresh}
 use Rattle.hfs_volume.proofs.Keeping.{value_cases}
 use Rattle.hfs_volume.proofs.Refielding.{kind_of, there_was}
 use Rattle.hfs_volume.proofs.BlockRecords.{fork_id}
+use Rattle.hfs_volume.proofs.BlockSound.{recounted_at}
 use Rattle.hfs_volume.proofs.WritForks.{value_blocks}
 
 -- ---- forks that are found
@@ -128,11 +129,12 @@ module _ (entry : Placed) (old new : VolumeState) (drops : InCatalog (DropsEntry
   dropped_blocks id kind = ap (λ v. blocks_at v id kind) drops.rest ∙ same_found id kind
 
 pub orphan_drop_does : (id : ℕ) (old begun new : VolumeState) (does : DropsOrphanEntry id old new) → InCatalog (DropsEntry does.entry) begun does.dropped → AreSorted begun.catalog_pairs → MayDrop does.entry begun → IsShaped begun → IsShaped does.dropped
-    → ((other kind : ℕ) → blocks_at begun other kind ≡ blocks_at old other kind) → Does (DropOrphan id) old new
-orphan_drop_does id old begun new does drops sorted may shaped shaped_dropped begun_blocks = (
+    → ((other kind : ℕ) → blocks_at begun other kind ≡ blocks_at old other kind) → attributes_of begun ≡ attributes_of old → Does (DropOrphan id) old new
+orphan_drop_does id old begun new does drops sorted may shaped shaped_dropped begun_blocks begun_attributes = (
   find_nothing (λ (p : Placed). id_of p == id) (entries_of (records_of new)) gone,
   λ other kind no_tree. value_blocks does.loses.entry (with_fields (λ _. does.loses.after) does.loses.entry.value) does.dropped new does.loses.changes kind_is shaped_dropped other kind
       ∙ dropped_blocks does.entry begun does.dropped drops sorted may shaped other kind ∙ begun_blocks other kind,
+  λ other name. ap (λ l. blocks_of (value_extents l other name)) (ap attributes_of does.loses.changes.rest ∙ ap attributes_of drops.rest ∙ begun_attributes),
 )
   where
     kind_is : is_thread does.loses.entry.value ≡ false
@@ -158,8 +160,8 @@ map_kept f test (x ∷ xs) = by_test (map_kept f test xs) (test (f x))
     by_test rest true = ap (λ l. f x ∷ l) rest
     by_test rest false = rest
 
-pub attribute_drop_does : (id : ℕ) (name : List ℕ) (old new : VolumeState) → InAttributes (DropsAttribute id name) old new → Does (DropAttribute id name) old new
-attribute_drop_does id name old new changes = (
-  ap (map attribute_of) changes.changes ∙ map_kept attribute_of (λ attribute. not (is_attribute id name attribute)) old.attribute_pairs,
-  λ other kind no_tree. ap (λ v. blocks_at v other kind) changes.rest,
+pub attribute_drop_does : (id : ℕ) (name freed : List ℕ) (old new : VolumeState) → InValues (DropsAttribute id name) [] freed old new → Does (DropAttribute id name) old new
+attribute_drop_does id name freed old new does = (
+  ap (map attribute_of) does.changes ∙ map_kept attribute_of (λ attribute. not (is_attribute id name attribute)) old.attribute_pairs,
+  λ other kind no_tree. ap (λ v. blocks_at v other kind) does.rest ∙ recounted_at does.free does.next old other kind,
 )

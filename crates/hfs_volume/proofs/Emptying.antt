@@ -1,29 +1,34 @@
 -- `rmdir` on the lists of a sound volume.
-use Rattle.std.proofs.Common.{◌≡◌, ◌⊎◌, ℕ, ◌+◌, ◌*◌, ◌<◌, ◌≤◌, Bool, true, false, List, [], ◌∷◌, ◌++◌, length, map, inl, inr, refl, sym, ◌∙◌, ap, subst, arith}
+use Rattle.hfs_volume.proofs.Valued.{kept_within, kept_mapped, valued_left}
+use Rattle.std.proofs.Common.{◌≡◌, ◌⊎◌, ℕ, ◌+◌, ◌<◌, ◌≤◌, Bool, true, false, List, [], ◌∷◌, ◌++◌, length, map, inl, inr, refl, sym, ◌∙◌, ap, subst, arith}
 use Rattle.std.specs.Prelude.{Contains, ◌==◌, ◌&&◌, ◌||◌, not, count_by, slice_index_or, Option, None, Some, Ok, is_some, if◌then◌else◌}
 use Rattle.std.specs.List.{flat_map}
 use Rattle.std.proofs.lemmas.Bool.{eqb-true, not-true, not-false, true≢false}
 use Rattle.volume_header.specs.declared.header.VolumeHeader.{VolumeHeader}
 use Rattle.btree_node.specs.Levels.{Pair}
-use Rattle.cat_records.specs.declared.record.FileRecord.{FileRecord}
 use Rattle.cat_records.specs.declared.record.CatRecord.{CatRecord}
 use Rattle.cat_records.specs.declared.record.CatRecord.TheVariants.{Folder, File, Thread}
 use Rattle.hfs_language.specs.declared.reply.Reply.TheVariants as reply
 use Rattle.hfs_language.specs.declared.refusal.Refusal.TheVariants as refusal
 use Rattle.hfs_model.specs.Sorted.{kept}
-use Rattle.hfs_model.specs.Step.{on, to_rmdir, is_root, unless, then_, reached, root_entry, removed_folder, is_private_name}
+use Rattle.hfs_model.specs.Step.{on, to_rmdir, is_root, unless, then_, reached, root_entry, removed_folder, touched, is_private_name}
 use Rattle.hfs_model.specs.Plain.{entries_in, is_node, with_changed, without_node, without_entry}
 use Rattle.hfs_volume.specs.Records.{Placed, Attribute, attribute_of, entries_of, entry_of, id_of, id_in, is_empty, is_folder, is_file, is_thread, valence_in, special_of}
 use Rattle.hfs_volume.specs.Entries.{AreCounted, IsUserId, IsRoot, LiesIn, is_it, below, count_in}
 use Rattle.hfs_volume.specs.Links.{private_id, is_shared, HaveLinkCounts, links_to, is_link_to}
 use Rattle.hfs_volume.specs.Forks.{forks_in}
-use Rattle.hfs_volume.specs.Attributes.{IsAttribute}
 use Rattle.hfs_volume.specs.Content.{VolumeState, records_of, attributes_of}
 use Rattle.hfs_volume.specs.Blocks.{used_in, is_among, count_used, HasBits}
 use Rattle.hfs_volume.specs.Sound.{IsSoundVolume}
-use Rattle.hfs_volume.specs.TreeOf.{is_seen, tree_in, is_hidden, plain_entry, plain_node, plain_attributes, plain_attribute, node_in, node_found, threaded_node, is_plain_folder, is_plain_file, is_linked}
-use Rattle.hfs_volume.specs.Changes.{InAttributes}
-use Rattle.hfs_volume.specs.Commands.{AreBytesOf, RemovesFolder, DropsAttributes, with_fields, without_attributes, with_folder_removed, RmdirDoes}
+use Rattle.hfs_volume.specs.TreeOf.{is_seen, tree_in, is_hidden, plain_entry, plain_node, plain_attributes, plain_attribute, node_in, node_found, threaded_node, is_plain_folder, is_plain_file, is_linked, BytesOf, valued}
+use Rattle.hfs_volume.specs.Changes.{AreSorted, DropsEntry, InCatalog, InValues}
+use Rattle.hfs_volume.specs.Commands.{AreBytesOf, ChangesFields, IsTouched, RemovesFolder, DropsAttributes, blocks_of_all, with_fields, with_folder_removed, RmdirDoes}
+use Rattle.hfs_volume.specs.Values.{value_blocks}
+use Rattle.hfs_volume.specs.Data.{DropsFolderBlocks, KeepsValuesBut}
+use Rattle.hfs_volume.proofs.AttributesTree.{attributes_tree}
+use Rattle.hfs_volume.proofs.BlockSound.{recounted, recounted_tree}
+use Rattle.hfs_volume.proofs.PutValues.{bared_sound}
+use Rattle.hfs_volume.proofs.ValueTrades.{blocks_gone, blocks_stay, none_kept}
 use Rattle.hfs_volume.specs.Laws.{IsShaped, one_if}
 use Rattle.hfs_model.specs.declared.plain.PlainEntry.{PlainEntry}
 use Rattle.hfs_model.specs.declared.plain.PlainNode.{PlainNode}
@@ -41,64 +46,26 @@ use Rattle.hfs_volume.proofs.Making.{tree_entries}
 use Rattle.hfs_volume.proofs.Finishing.{sound_is_both, shared_is_file}
 use Rattle.hfs_volume.proofs.Keeping.{value_changed, value_counts, value_links, value_used, value_private, value_cases, value_there, value_was}
 use Rattle.hfs_volume.proofs.Marking.{value_tree}
-use Rattle.hfs_volume.proofs.Dropping.{counted_less, still, private_less, joins_less, dropped_used, Leaves, folder_dropped, entries_dropped, nodes_dropped}
+use Rattle.hfs_volume.proofs.Dropping.{counted_less, still, private_less, dropped_used, Leaves, folder_dropped, entries_dropped, nodes_dropped}
 
 -- ---- attributes of one CNID removed
 
-pub attributes_dropped : (id : ℕ) (old new : VolumeState) → InAttributes (DropsAttributes id) old new → IsShaped old → IsShaped new
-attributes_dropped id old new changes shaped = subst IsShaped (sym changes.rest) (record {
-  threads = shaped.threads;
-  rooted = shaped.rooted;
-  ids = shaped.ids;
-  links = shaped.links;
-  attributes = record {
-    each = all_of (IsAttribute (records_of old)) new.attribute_pairs (λ pair stands.
-        each_of (IsAttribute (records_of old)) old.attribute_pairs shaped.attributes.each pair (kept_cases (λ (p : Pair). not ((attribute_of p).id == id)) old.attribute_pairs pair (subst (λ l. Contains l pair) changes.changes stands)).0);
-    journal = shaped.attributes.journal;
-    info_block = shaped.attributes.info_block;
-  };
-  header = shaped.header;
-  alternate = shaped.alternate;
-  files = record {
-    extents = shaped.files.extents;
-    catalog = shaped.files.catalog;
-    attributes = λ has. let was = shaped.files.attributes has in record { blocks = was.blocks; nodes = was.nodes ∙ (λ i. sym changes.nodes.total i * sym changes.nodes.size i) };
-    bits = shaped.files.bits;
-    no_more = shaped.files.no_more;
-  };
-  forks = record {
-    sizes = shaped.forks.sizes;
-    more_inside = shaped.forks.more_inside;
-    goes_on = shaped.forks.goes_on;
-    bad_goes_on = shaped.forks.bad_goes_on;
-    owned = shaped.forks.owned;
-    once = shaped.forks.once;
-  };
-})
+-- which attributes are left without those of one CNID
+abbrev pub not_of : ℕ → ℕ → List ℕ → Bool
+not_of id other name = not (other == id)
 
 -- the attributes of another CNID are as they were
-kept_twice : (id other : ℕ) → (other == id) ≡ false → (pairs : List Pair)
-    → kept (λ (a : Attribute). a.id == other) (map attribute_of (kept (λ pair. not ((attribute_of pair).id == id)) pairs)) ≡ kept (λ (a : Attribute). a.id == other) (map attribute_of pairs)
-kept_twice id other differ [] = refl
-kept_twice id other differ (pair ∷ pairs) = by_test ((attribute_of pair).id == id) refl (kept_twice id other differ pairs)
-  where
-    by_test : (b : Bool) → ((attribute_of pair).id == id) ≡ b
-        → kept (λ (a : Attribute). a.id == other) (map attribute_of (kept (λ p. not ((attribute_of p).id == id)) pairs)) ≡ kept (λ (a : Attribute). a.id == other) (map attribute_of pairs)
-        → kept (λ (a : Attribute). a.id == other) (map attribute_of ((if not b then pair ∷ [] else []) ++ kept (λ p. not ((attribute_of p).id == id)) pairs))
-        ≡ (if (attribute_of pair).id == other then attribute_of pair ∷ [] else []) ++ kept (λ (a : Attribute). a.id == other) (map attribute_of pairs)
-    by_test true is rest =
-        rest ∙ sym (ap (λ b. (if b then attribute_of pair ∷ [] else []) ++ kept (λ (a : Attribute). a.id == other) (map attribute_of pairs))
-        (differs (attribute_of pair).id other (λ same. not_same other id differ (sym same ∙ eqb-true (attribute_of pair).id id is))))
-    by_test false is rest = ap (λ l. (if (attribute_of pair).id == other then attribute_of pair ∷ [] else []) ++ l) rest
+kept_twice : (id other : ℕ) → (other == id) ≡ false → (attributes : List Attribute) → kept (λ (a : Attribute). a.id == other) (kept (λ a. not (a.id == id)) attributes) ≡ kept (λ (a : Attribute). a.id == other) attributes
+kept_twice id other differ attributes = kept_within (λ (a : Attribute). a.id == other) (λ a. not (a.id == id)) (λ a is. ap not (differs a.id id (λ same. not_same other id differ (sym (eqb-true a.id other is) ∙ same)))) attributes
 
 -- nodes of records none of whose attributes have changed
-pub same_attributes : (one other : List Attribute) (records : List Placed) (bytes_of : FileRecord → List ℕ) → ((p : Placed) → Contains (entries_of records) p → plain_attributes one (id_of p) ≡ plain_attributes other (id_of p))
+pub same_attributes : (one other : List Attribute) (records : List Placed) (bytes_of : BytesOf) → ((p : Placed) → Contains (entries_of records) p → plain_attributes one (id_of p) ≡ plain_attributes other (id_of p))
     → flat_map (threaded_node one records bytes_of) records ≡ flat_map (threaded_node other records bytes_of) records
 same_attributes one other records bytes_of same = flat_agree (threaded_node one records bytes_of) (threaded_node other records bytes_of) records (λ p stands. at p)
   where
     of_value : (p : Placed) (value : CatRecord) → plain_attributes one (id_in value) ≡ plain_attributes other (id_in value) → node_in one records bytes_of p value ≡ node_in other records bytes_of p value
     of_value p (Folder f) is = λ i. if is_plain_folder records p then (record (plain_node other f.fields true [] false) { attributes = is i }) ∷ [] else []
-    of_value p (File f) is = λ i. if is_plain_file records p then (record (plain_node other f.fields false (bytes_of f) (is_linked records p)) { attributes = is i }) ∷ [] else []
+    of_value p (File f) is = λ i. if is_plain_file records p then (record (plain_node other f.fields false (bytes_of.file f) (is_linked records p)) { attributes = is i }) ∷ [] else []
     of_value p (Thread f) is = refl
 
     of_found : (id : ℕ) (o : Option Placed) → entry_of records id ≡ o → node_found one records bytes_of o ≡ node_found other records bytes_of o
@@ -114,7 +81,7 @@ folder_kind (File f) is = refl
 folder_kind (Thread f) is = absurd (true≢false (sym is))
 
 -- the node of a folder that users see
-folder_node : (attributes : List Attribute) (records : List Placed) (bytes_of : FileRecord → List ℕ) (e : Placed) (value : CatRecord) → is_folder value ≡ true → is_seen records e ≡ true
+folder_node : (attributes : List Attribute) (records : List Placed) (bytes_of : BytesOf) (e : Placed) (value : CatRecord) → is_folder value ≡ true → is_seen records e ≡ true
     → (node : PlainNode) × (node_in attributes records bytes_of e value ≡ node ∷ []) × (node.id ≡ id_in value)
 folder_node attributes records bytes_of e (Folder f) is seen = (
   plain_node attributes f.fields true [] false,
@@ -131,7 +98,7 @@ folder_forks (Thread f) is = absurd (true≢false (sym is))
 
 -- ---- what `rmdir` names
 
-module _ (old : VolumeState) (bytes_of : FileRecord → List ℕ) (sound : IsSoundVolume old) where
+module _ (old : VolumeState) (bytes_of : BytesOf) (sound : IsSoundVolume old) where
   abbrev tree : PlainTree
   tree = tree_in old bytes_of
 
@@ -234,7 +201,18 @@ folder_file (Folder f) is = refl
 folder_file (File f) is = absurd (true≢false (sym is))
 folder_file (Thread f) is = refl
 
-module _ (at : PlainEntry) (old new : VolumeState) (bytes_of : FileRecord → List ℕ) (are : AreBytesOf bytes_of) (sound : IsSoundVolume old) (is_empty_one : IsEmptyFolder old bytes_of sound at) (does : RemovesFolder at.id old new) where
+-- The folder of this CNID, which has no attributes, isn't there any more, and the folder above has one entry less.
+record RemovesBare (id : ℕ) (old new : VolumeState) : Type 0 where
+  pub entry : Placed
+  pub stands : Contains (entries_of (records_of old)) entry
+  pub is_entry : id_of entry ≡ id
+  pub none : (pair : Pair) → Contains old.attribute_pairs pair → (attribute_of pair).id ≡ id → ⊥
+  pub dropped : VolumeState
+  pub drops : InCatalog (DropsEntry entry) (record old { head = with_folder_removed old.head }) dropped
+  pub sorted : AreSorted old.catalog_pairs
+  pub counts : ChangesFields entry.parent (IsTouched old.head.modify_date 0 1) dropped new
+
+module _ (at : PlainEntry) (old new : VolumeState) (bytes_of : BytesOf) (are : AreBytesOf bytes_of) (sound : IsSoundVolume old) (is_empty_one : IsEmptyFolder old bytes_of sound at) (does : RemovesBare at.id old new) where
   abbrev was : List Placed
   was = records_of old
 
@@ -249,9 +227,6 @@ module _ (at : PlainEntry) (old new : VolumeState) (bytes_of : FileRecord → Li
 
   abbrev begun : VolumeState
   begun = record old { head = with_folder_removed old.head }
-
-  abbrev bare : VolumeState
-  bare = without_attributes old new
 
   abbrev value : CatRecord
   value = with_fields (λ _. does.counts.after) does.counts.entry.value
@@ -271,16 +246,11 @@ module _ (at : PlainEntry) (old new : VolumeState) (bytes_of : FileRecord → Li
   shaped_begun : IsShaped begun
   shaped_begun = numbered_shaped old (with_folder_removed old.head) (omega arith) (record { accepted = sound.blocks.header.accepted; next_id = sound.blocks.header.next_id }) ((sound_is_both old).0 sound).0
 
-  shaped_bare : IsShaped bare
-  shaped_bare = attributes_dropped at.id begun bare does.bares shaped_begun
-
-  no_attributes : (pair : Pair) → Contains new.attribute_pairs pair → (attribute_of pair).id ≡ id_of entry → ⊥
-  no_attributes pair stands same =
-      let parts = kept_cases (λ (p : Pair). not ((attribute_of p).id == at.id)) old.attribute_pairs pair (subst (λ l. Contains l pair) does.bares.changes stands) in
-      true≢false (sym parts.1 ∙ ap not (ap (λ n. n == at.id) (same ∙ does.is_entry) ∙ same_number at.id))
+  no_attributes : (pair : Pair) → Contains old.attribute_pairs pair → (attribute_of pair).id ≡ id_of entry → ⊥
+  no_attributes pair stands same = does.none pair stands (same ∙ does.is_entry)
 
   shaped_dropped : IsShaped does.dropped
-  shaped_dropped = folder_dropped entry bare does.dropped does.drops leav (folder_forks entry.value is_a) does.sorted no_attributes shaped_bare
+  shaped_dropped = folder_dropped entry begun does.dropped does.drops leav (folder_forks entry.value is_a) does.sorted no_attributes shaped_begun
 
   above_kind : is_thread does.counts.entry.value ≡ false
   above_kind = not_thread does.counts.entry.value does.counts.before does.counts.has
@@ -293,30 +263,20 @@ module _ (at : PlainEntry) (old new : VolumeState) (bytes_of : FileRecord → Li
 
   -- ---- the tree
 
-  fresh_gone : (p : Placed) → Contains (entries_of gone) p → (id_of p == at.id) ≡ false
-  fresh_gone p stands =
-      ap (λ n. id_of p == n) (sym does.is_entry)
-      ∙ (joins_less entry does.dropped.catalog_pairs old.catalog_pairs does.drops.changes old.head.next_catalog_id leav does.sorted sound.entries.threads sound.entries.rooted sound.entries.ids).fresh p stands
-
-  attributes_gone : flat_map (threaded_node (attributes_of new) gone bytes_of) gone ≡ flat_map (threaded_node (attributes_of old) gone bytes_of) gone
-  attributes_gone = same_attributes (attributes_of new) (attributes_of old) gone bytes_of (λ p stands.
-      ap (λ l. map plain_attribute (kept (λ (a : Attribute). a.id == id_of p) (map attribute_of l))) does.bares.changes
-      ∙ ap (map plain_attribute) (kept_twice at.id (id_of p) (fresh_gone p stands) old.attribute_pairs))
-
   seen_entry_is : is_seen was entry ≡ true
   seen_entry_is = shows_seen was entry (entry_shows old bytes_of sound at is_empty_one entry does.stands does.is_entry)
 
-  nodes_gone : flat_map (threaded_node (attributes_of old) gone bytes_of) gone ≡ kept (λ n. not (is_node (id_of entry) n)) (flat_map (threaded_node (attributes_of old) was bytes_of) was)
+  nodes_gone : flat_map (threaded_node (valued bytes_of (attributes_of old)) gone bytes_of) gone ≡ kept (λ n. not (is_node (id_of entry) n)) (flat_map (threaded_node (valued bytes_of (attributes_of old)) was bytes_of) was)
   nodes_gone =
-      let node = folder_node (attributes_of old) was bytes_of entry entry.value is_a seen_entry_is in
+      let node = folder_node (valued bytes_of (attributes_of old)) was bytes_of entry entry.value is_a seen_entry_is in
       nodes_dropped entry does.dropped.catalog_pairs old.catalog_pairs does.drops.changes old.head.next_catalog_id leav does.sorted sound.entries.threads sound.entries.rooted sound.entries.ids
-      (attributes_of old) bytes_of node.0 node.1 node.2
+      (valued bytes_of (attributes_of old)) bytes_of node.0 node.1 node.2
 
   tree_gone : tree_in does.dropped bytes_of ≡ without_node (id_of entry) (without_entry entry.parent entry.name (tree_in old bytes_of))
   unfolding tree_in
   tree_gone = λ i. record {
     entries = entries_dropped entry does.dropped.catalog_pairs old.catalog_pairs does.drops.changes old.head.next_catalog_id leav does.sorted sound.entries.threads sound.entries.rooted sound.entries.ids i;
-    nodes = ((λ j. flat_map (threaded_node (ap attributes_of does.drops.rest j) gone bytes_of) gone) ∙ attributes_gone ∙ nodes_gone) i;
+    nodes = ((λ j. flat_map (threaded_node (valued bytes_of (ap attributes_of does.drops.rest j)) gone bytes_of) gone) ∙ nodes_gone) i;
     next_id = (ap (λ (v : VolumeState). v.head) does.drops.rest i).next_catalog_id;
     has_private = is_some (sym (private_less entry does.dropped.catalog_pairs old.catalog_pairs does.drops.changes old.head.next_catalog_id leav does.sorted sound.entries.threads sound.entries.rooted sound.entries.ids) i);
     moment = (ap (λ (v : VolumeState). v.head) does.drops.rest i).modify_date;
@@ -325,10 +285,10 @@ module _ (at : PlainEntry) (old new : VolumeState) (bytes_of : FileRecord → Li
   above_at : id_of does.counts.entry ≡ entry.parent
   above_at = id_of_fields does.counts.entry.value does.counts.before does.counts.has ∙ does.counts.is_entry
 
-  pub tree_removed : tree_in new bytes_of ≡ removed_folder at (tree_in old bytes_of)
+  tree_removed : tree_in new bytes_of ≡ removed_folder at (tree_in old bytes_of)
   unfolding tree_in
   tree_removed =
-      value_tree does.counts.entry value does.dropped new does.counts.changes above_kind shaped_dropped bytes_of (dated old.head.modify_date) (makes_of (attributes_of does.dropped) bytes_of are.by_fork (dated old.head.modify_date) does.counts.before does.counts.after (touched_views old.head.modify_date 0 1 does.counts.before does.counts.after does.counts.fields) does.counts.fields.id does.counts.entry.value does.counts.has)
+      value_tree does.counts.entry value does.dropped new does.counts.changes above_kind shaped_dropped bytes_of (dated old.head.modify_date) (makes_of (valued bytes_of (attributes_of does.dropped)) bytes_of are.by_fork (dated old.head.modify_date) does.counts.before does.counts.after (touched_views old.head.modify_date 0 1 does.counts.before does.counts.after does.counts.fields) does.counts.fields.id does.counts.entry.value does.counts.has)
       ∙ ap (with_changed (id_of does.counts.entry) (dated old.head.modify_date)) tree_gone
       ∙ (λ i. with_changed ((above_at ∙ ap (λ (e : PlainEntry). e.parent) plain) i) (dated old.head.modify_date)
       (without_node (does.is_entry i) (without_entry ((ap (λ (e : PlainEntry). e.parent) plain) i) ((ap (λ (e : PlainEntry). e.name) plain) i) (tree_in old bytes_of))))
@@ -422,7 +382,8 @@ module _ (at : PlainEntry) (old new : VolumeState) (bytes_of : FileRecord → Li
   used_new : used_in new ≡ used_in old
   used_new =
       value_used does.counts.entry value does.dropped new does.counts.changes above_kind shaped_dropped
-      ∙ dropped_used entry bare does.dropped does.drops leav (folder_forks entry.value is_a) does.sorted no_attributes shaped_bare ∙ used_numbered old (with_folder_removed old.head)
+      ∙ dropped_used entry begun does.dropped does.drops leav (folder_forks entry.value is_a) does.sorted no_attributes shaped_begun
+      ∙ used_numbered old (with_folder_removed old.head)
 
   bits_new : new.bits ≡ old.bits
   bits_new = ap (λ (v : VolumeState). v.bits) does.counts.changes.rest ∙ ap (λ (v : VolumeState). v.bits) does.drops.rest
@@ -434,13 +395,110 @@ module _ (at : PlainEntry) (old new : VolumeState) (bytes_of : FileRecord → Li
     free = (λ i. (head_is i).free_blocks + count_used (head_is i).total_blocks (used_new i)) ∙ sound.blocks.bits.free ∙ sym (ap (λ (h : VolumeHeader). h.total_blocks) head_is);
   }
 
-  pub sound_removed : IsSoundVolume new
+  sound_removed : IsSoundVolume new
   sound_removed = (sound_is_both new).1 (shaped_new, record { entries = counted_new; links = link_counts_new; bits = bits_right })
+
+-- ---- behind its attributes
+
+-- which attributes go
+abbrev is_its : ℕ → ℕ → List ℕ → Bool
+is_its id other name = other == id
+
+-- a node that goes may have been changed before
+node_gone : (id : ℕ) (change : PlainNode → PlainNode) → ((n : PlainNode) → (change n).id ≡ n.id) → (nodes : List PlainNode)
+    → kept (λ n. not (is_node id n)) (map (λ (n : PlainNode). if is_node id n then change n else n) nodes) ≡ kept (λ n. not (is_node id n)) nodes
+node_gone id change same [] = refl
+node_gone id change same (n ∷ nodes) = by_test (is_node id n) refl (node_gone id change same nodes)
+  where
+    by_test : (b : Bool) → is_node id n ≡ b → kept (λ x. not (is_node id x)) (map (λ (x : PlainNode). if is_node id x then change x else x) nodes) ≡ kept (λ x. not (is_node id x)) nodes
+        → (if not (is_node id (if b then change n else n)) then (if b then change n else n) ∷ [] else []) ++ kept (λ x. not (is_node id x)) (map (λ (x : PlainNode). if is_node id x then change x else x) nodes)
+        ≡ (if not b then n ∷ [] else []) ++ kept (λ x. not (is_node id x)) nodes
+    by_test true is rest =
+        ap (λ c. (if not c then change n ∷ [] else []) ++ kept (λ x. not (is_node id x)) (map (λ (x : PlainNode). if is_node id x then change x else x) nodes)) (ap (λ k. k == id) (same n) ∙ is) ∙ rest
+    by_test false is rest =
+        ap (λ c. (if not c then n ∷ [] else []) ++ kept (λ x. not (is_node id x)) (map (λ (x : PlainNode). if is_node id x then change x else x) nodes)) is ∙ ap (λ l. n ∷ l) rest
+
+module _ (at : PlainEntry) (old new : VolumeState) (bytes_of : BytesOf) (are : AreBytesOf bytes_of) (sound : IsSoundVolume old) (is_empty_one : IsEmptyFolder old bytes_of sound at) (does : RemovesFolder at.id old new) where
+  abbrev bared : VolumeState
+  bared = does.bared
+
+  left : attributes_of bared ≡ kept (λ a. not (a.id == at.id)) (attributes_of old)
+  left = ap (map attribute_of) does.bares.changes ∙ kept_mapped attribute_of (λ a. not (a.id == at.id)) old.attribute_pairs
+
+  sound_bared : IsSoundVolume bared
+  sound_bared = bared_sound (is_its at.id) (blocks_of_all (attributes_of old) at.id) old bared refl (as_gone does.bares) sound
+    where
+      as_gone : InValues (DropsAttributes at.id) [] (blocks_of_all (attributes_of old) at.id) old bared
+          → InValues (λ before after. after ≡ kept (λ pair. not ((attribute_of pair).id == at.id)) before) [] (blocks_of_all (attributes_of old) at.id) old bared
+      as_gone has = record { changes = has.changes; are_fresh = has.are_fresh; flips = has.flips; nodes = has.nodes; free = has.free; next = has.next; counts = has.counts; rest = has.rest }
+
+  abbrev bare_node : PlainNode → PlainNode
+  bare_node node = record node { attributes = [] }
+
+  valued_bare : valued bytes_of (attributes_of bared) ≡ kept (λ a. not (a.id == at.id)) (valued bytes_of (attributes_of old))
+  valued_bare = ap (valued bytes_of) left ∙ valued_left bytes_of (not_of at.id) (attributes_of old)
+
+  tree_bared : tree_in bared bytes_of ≡ with_changed at.id bare_node (tree_in old bytes_of)
+  tree_bared =
+      attributes_tree at.id (recounted does.bares.free does.bares.next old) bared bytes_of does.bares.rest (λ l. [])
+      (ap (λ l. plain_attributes l at.id) valued_bare ∙ ap (map plain_attribute) (none_kept (λ (a : Attribute). a.id == at.id) (λ a. not (a.id == at.id)) (λ a is. ap not is) (valued bytes_of (attributes_of old))))
+      (λ other differ. ap (λ l. plain_attributes l other) valued_bare ∙ ap (map plain_attribute) (kept_twice at.id other differ (valued bytes_of (attributes_of old))))
+      ∙ ap (with_changed at.id bare_node) (recounted_tree does.bares.free does.bares.next old bytes_of)
+
+  records_same : records_of bared ≡ records_of old
+  records_same = ap records_of does.bares.rest
+
+  none_there : (pair : Pair) → Contains bared.attribute_pairs pair → (attribute_of pair).id ≡ at.id → ⊥
+  none_there pair stands same =
+      let parts = kept_cases (λ (p : Pair). not ((attribute_of p).id == at.id)) old.attribute_pairs pair (subst (λ l. Contains l pair) does.bares.changes stands) in
+      true≢false (sym parts.1 ∙ ap not (ap (λ n. n == at.id) same ∙ same_number at.id))
+
+  moment_same : bared.head.modify_date ≡ old.head.modify_date
+  moment_same = ap (λ (v : VolumeState). v.head.modify_date) does.bares.rest
+
+  removes : RemovesBare at.id bared new
+  removes = record {
+    entry = does.entry;
+    stands = subst (λ l. Contains (entries_of l) does.entry) (sym records_same) does.stands;
+    is_entry = does.is_entry;
+    none = none_there;
+    dropped = does.dropped;
+    drops = does.drops;
+    sorted = subst AreSorted (sym (ap (λ (v : VolumeState). v.catalog_pairs) does.bares.rest)) does.sorted;
+    counts = subst (λ m. ChangesFields does.entry.parent (IsTouched m 0 1) does.dropped new) (sym moment_same) does.counts;
+  }
+
+  empty_still : IsEmptyFolder bared bytes_of sound_bared at
+  empty_still = record {
+    seen = subst (λ l. IsSeen l at) (sym records_same) is_empty_one.seen;
+    folder = is_empty_one.folder;
+    empty = ap (λ (t : PlainTree). length (entries_in t at.id) == 0) tree_bared ∙ is_empty_one.empty;
+  }
+
+  pub sound_behind : IsSoundVolume new
+  sound_behind = sound_removed at bared new bytes_of are sound_bared empty_still removes
+
+  pub tree_behind : tree_in new bytes_of ≡ removed_folder at (tree_in old bytes_of)
+  tree_behind =
+      tree_removed at bared new bytes_of are sound_bared empty_still removes
+      ∙ ap (removed_folder at) tree_bared
+      ∙ (λ i. touched at.parent (record (without_entry at.parent at.name (tree_in old bytes_of)) { nodes = node_gone at.id bare_node (λ n. refl) (tree_in old bytes_of).nodes i }))
+
+  -- the attributes are those of the volume that has none of the folder's any more
+  attributes_same : attributes_of new ≡ attributes_of bared
+  attributes_same = ap attributes_of does.counts.changes.rest ∙ ap attributes_of does.drops.rest
+
+  pub blocks_behind : ((name : List ℕ) → value_blocks (attributes_of new) at.id name ≡ []) × KeepsValuesBut (λ id name. id == at.id) old new
+  blocks_behind = (
+    λ name. ap (λ l. value_blocks l at.id name) attributes_same ∙ blocks_gone (is_its at.id) (attributes_of old) (attributes_of bared) left at.id name (same_number at.id),
+    λ id name differ. ap (λ l. value_blocks l id name) attributes_same ∙ blocks_stay (is_its at.id) (attributes_of old) (attributes_of bared) left id name differ,
+  )
 
 -- `rmdir`
 pub rmdir_law : RmdirDoes
 rmdir_law path at old new bytes_of are sound allowed does =
     let is = to_rmdir_is old bytes_of sound path at allowed in (
-      sound_removed at old new bytes_of are sound is does,
-      tree_removed at old new bytes_of are sound is does ∙ sym (ap (λ r. (on (tree_in old bytes_of) r (λ x. (reply.Ok, removed_folder x (tree_in old bytes_of)))).1) allowed),
+      sound_behind at old new bytes_of are sound is does,
+      tree_behind at old new bytes_of are sound is does ∙ sym (ap (λ r. (on (tree_in old bytes_of) r (λ x. (reply.Ok, removed_folder x (tree_in old bytes_of)))).1) allowed),
+      subst (λ r. DropsFolderBlocks r old new) (sym allowed) (blocks_behind at old new bytes_of are sound is does),
     )

@@ -5,6 +5,7 @@ pub mod Apart
 pub mod Ascending
 mod Asides
 mod Attributing
+mod AttributesTree
 pub mod BlockWants
 mod Booking
 pub mod Bytes
@@ -27,6 +28,7 @@ pub mod Hiding
 mod HidingFile
 mod InOrder
 pub mod Keeping
+mod Inline
 pub mod Keyed
 mod LinkValues
 pub mod LinkWants
@@ -84,6 +86,11 @@ pub mod TreeWants
 mod Trees
 pub mod Untouched
 pub mod Vacating
+pub mod PutValues
+pub mod FoundValue
+mod SettingFork
+pub mod ValueTrades
+pub mod Valued
 pub mod Wants
 pub mod Whole
 mod Reclaiming

@@ -2,7 +2,6 @@
 use Rattle.std.proofs.Common.{nat_le, ◌≡◌, ℕ, ◌≤◌, Bool, true, false, List, inl, inr, refl, sym, ◌∙◌, ap, subst}
 use Rattle.std.proofs.lemmas.Bool.{true≢false}
 use Rattle.std.specs.Prelude.{Contains, ◌==◌, ◌&&◌, ◌||◌, is_some, Ok}
-use Rattle.cat_records.specs.declared.record.FileRecord.{FileRecord}
 use Rattle.hfs_language.specs.declared.refusal.Refusal.TheVariants as refusal
 use Rattle.hfs_model.specs.Step.{Place, to_mv, to_pair, place, place_in, front, last_name, is_root, is_below, is_private_path, is_private_name, unless, then_, reached, most_links, to_ln, to_rm}
 use Rattle.hfs_model.specs.Plain.{entry_at, names_of}
@@ -10,7 +9,7 @@ use Rattle.hfs_volume.specs.Records.{Placed, entries_of, id_of}
 use Rattle.hfs_volume.specs.Entries.{IsUserId}
 use Rattle.hfs_volume.specs.Content.{VolumeState, records_of}
 use Rattle.hfs_volume.specs.Sound.{IsSoundVolume}
-use Rattle.hfs_volume.specs.TreeOf.{tree_in, is_seen, plain_entry}
+use Rattle.hfs_volume.specs.TreeOf.{tree_in, is_seen, plain_entry, BytesOf}
 use Rattle.hfs_model.specs.declared.plain.PlainEntry.{PlainEntry}
 use Rattle.hfs_model.specs.declared.plain.PlainTree.{PlainTree}
 use Rattle.hfs_volume.proofs.Members.{each_of}
@@ -22,7 +21,7 @@ use Rattle.hfs_volume.proofs.Fitting.{not_private}
 use Rattle.hfs_volume.proofs.Vacating.{moving_is}
 use Rattle.hfs_volume.specs.Changes.{AreSorted}
 
-module _ (old : VolumeState) (bytes_of : FileRecord → List ℕ) (sound : IsSoundVolume old) where
+module _ (old : VolumeState) (bytes_of : BytesOf) (sound : IsSoundVolume old) where
   abbrev tree : PlainTree
   tree = tree_in old bytes_of
 

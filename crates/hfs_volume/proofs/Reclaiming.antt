@@ -1,11 +1,11 @@
 -- The last steps of an orphan's removal on the lists of a sound volume.
+use Rattle.hfs_volume.specs.Values.{value_blocks}
 use Rattle.std.proofs.Common.{◌≡◌, ◌⊎◌, ℕ, ◌+◌, ◌-◌, ◌≤◌, Bool, true, false, List, [], inl, inr, refl, sym, ◌∙◌, ap, subst, arith}
 use Rattle.std.specs.Prelude.{Contains, ◌==◌, ◌&&◌, not, Option, None, Some, codes, drop}
 use Rattle.std.specs.Str.Parse.{digits_value}
 use Rattle.std.proofs.lemmas.Bool.{eqb-true, not-true, true≢false}
 use Rattle.std.proofs.lemmas.Slice.Eq.{bytes_eq-Decides}
 use Rattle.volume_header.specs.declared.header.VolumeHeader.{VolumeHeader}
-use Rattle.cat_records.specs.declared.record.FileRecord.{FileRecord}
 use Rattle.cat_records.specs.declared.record.CatRecord.{CatRecord}
 use Rattle.cat_records.specs.declared.record.CatRecord.TheVariants.{Folder, File, Thread}
 use Rattle.hfs_model.specs.Step.{is_private_name}
@@ -19,7 +19,7 @@ use Rattle.hfs_volume.specs.Links.{private_id, is_in, is_in_private, is_shared_f
 use Rattle.hfs_volume.specs.Content.{VolumeState, records_of, overflow_in_volume, attributes_of}
 use Rattle.hfs_volume.specs.Sound.{IsSoundVolume}
 use Rattle.hfs_volume.specs.Reclaim.{Does, DropOrphan, blocks_at}
-use Rattle.hfs_volume.specs.TreeOf.{tree_in, is_seen, node_in}
+use Rattle.hfs_volume.specs.TreeOf.{tree_in, is_seen, node_in, BytesOf, valued}
 use Rattle.hfs_volume.specs.Laws.{IsShaped, MayAdd, MayDrop, IsFolderId, AreEmptyForks, is_own, one_if}
 use Rattle.hfs_volume.specs.Changes.{AddsEntry, InCatalog}
 use Rattle.hfs_volume.specs.Commands.{with_counts}
@@ -44,7 +44,7 @@ use Rattle.hfs_volume.proofs.NodesOf.{nodes_from, changed_none}
 use Rattle.hfs_volume.proofs.Accounts.{Account, Debts, no_debts, opened, closed, heads, drops}
 use Rattle.hfs_volume.proofs.Refielding.{recount_account, id_is, there_was, folder_is}
 use Rattle.hfs_volume.proofs.Telling.{counted_tree, next_is, private_counts_tree}
-use Rattle.hfs_volume.proofs.Attributing.{bared_tree, each_without, attributes_account}
+use Rattle.hfs_volume.proofs.Attributing.{attribute_bared, bared_tree}
 use Rattle.hfs_volume.proofs.DropSteps.{orphan_drop_does, attribute_drop_does}
 
 in_folder : (o : Option ℕ) (p : Placed) → is_in o p ≡ true → (id : ℕ) × (o ≡ Some id) × (p.parent ≡ id)
@@ -90,7 +90,7 @@ module _ (volume : VolumeState) (shaped : IsShaped volume) (entry : Placed) (orp
       by_test false isnt = refl
       by_test true shared = absurd (orphan_no_node (digits_value 10 (drop 4 entry.name)) reference (sym named ∙ (shared_is (private_id records) reference entry shared).name))
 
-  pub no_node : (attributes : List Attribute) (bytes_of : FileRecord → List ℕ) → node_in attributes records bytes_of entry entry.value ≡ []
+  pub no_node : (attributes : List Attribute) (bytes_of : BytesOf) → node_in attributes records bytes_of entry entry.value ≡ []
   no_node attributes bytes_of = unseen_no_node volume shaped attributes bytes_of entry a_file unseen (not_shared_unlinked records entry not_shared)
 
   pub not_own : is_own entry ≡ false
@@ -122,7 +122,7 @@ module _ (volume : VolumeState) (shaped : IsShaped volume) (entry : Placed) (orp
 
 -- ---- the entry goes
 
-module _ (id : ℕ) (old new : VolumeState) (bytes_of : FileRecord → List ℕ) (by_fork : BytesBy bytes_of) (sound : IsSoundVolume old) (does : DropsOrphanEntry id old new) where
+module _ (id : ℕ) (old new : VolumeState) (bytes_of : BytesOf) (by_fork : BytesBy bytes_of) (sound : IsSoundVolume old) (does : DropsOrphanEntry id old new) where
   abbrev entry : Placed
   entry = does.entry
 
@@ -233,7 +233,7 @@ module _ (id : ℕ) (old new : VolumeState) (bytes_of : FileRecord → List ℕ)
   tree_dropped =
       private_counts_tree entry.parent does.dropped new does.loses bytes_of by_fork does.loses.fields.id shaped_dropped
       (removed_private entry begun does.dropped does.drops does.sorted may shaped ∙ private_is old shaped_old entry does.is_orphan)
-      ∙ sym (tree_unseen entry does.dropped begun flipped may_back shaped_dropped does.sorted bytes_of may.not_own (no_link old shaped_old entry does.is_orphan) (unseen old shaped_old entry does.is_orphan) (no_node old shaped_old entry does.is_orphan (attributes_of does.dropped) bytes_of))
+      ∙ sym (tree_unseen entry does.dropped begun flipped may_back shaped_dropped does.sorted bytes_of may.not_own (no_link old shaped_old entry does.is_orphan) (unseen old shaped_old entry does.is_orphan) (no_node old shaped_old entry does.is_orphan (valued bytes_of (attributes_of does.dropped)) bytes_of))
       ∙ tree_begun
 
   same_blocks : (other kind : ℕ) → blocks_at begun other kind ≡ blocks_at old other kind
@@ -241,7 +241,7 @@ module _ (id : ℕ) (old new : VolumeState) (bytes_of : FileRecord → List ℕ)
   same_blocks other kind = refl
 
   pub dropped_does : Does (DropOrphan id) old new
-  dropped_does = orphan_drop_does id old begun new does does.drops does.sorted may shaped shaped_dropped same_blocks
+  dropped_does = orphan_drop_does id old begun new does does.drops does.sorted may shaped shaped_dropped same_blocks refl
 
 pub orphan_dropped_law : OrphanDropped
 orphan_dropped_law id old new bytes_of are sound does = (
@@ -252,22 +252,21 @@ orphan_dropped_law id old new bytes_of are sound does = (
 
 -- ---- an attribute goes
 
-nodes_are : (volume : VolumeState) (bytes_of : FileRecord → List ℕ) → (tree_in volume bytes_of).nodes ≡ nodes_over (attributes_of volume) bytes_of (records_of volume) (records_of volume)
+nodes_are : (volume : VolumeState) (bytes_of : BytesOf) → (tree_in volume bytes_of).nodes ≡ nodes_over (valued bytes_of (attributes_of volume)) bytes_of (records_of volume) (records_of volume)
 unfolding tree_in
 nodes_are volume bytes_of = refl
 
 pub orphan_bared_law : OrphanBared
-orphan_bared_law entry name old new bytes_of sorted sound orphan changes =
-    let shaped = ((sound_is_both old).0 sound).0 in
-    let account = attributes_account old new changes (each_without (id_of entry) name old new changes shaped) old no_debts (opened old sound sorted) in (
-      closed old new no_debts sound account (record { valences = λ n. refl; specials = λ reference file there shared. refl; files = refl; folders = refl }),
-      bared_tree (id_of entry) name old new bytes_of changes ∙ changed_none (id_of entry) (without_attribute name) (tree_in old bytes_of) (λ n there same. absurd (no_such n (subst (λ l. Contains l n) (nodes_are old bytes_of) there) same)),
-      attribute_drop_does (id_of entry) name old new changes,
-    )
+orphan_bared_law entry name old new bytes_of sorted sound orphan does = (
+  attribute_bared (id_of entry) name old new does sound,
+  bared_tree (id_of entry) name (value_blocks (attributes_of old) (id_of entry) name) old new bytes_of does
+      ∙ changed_none (id_of entry) (without_attribute name) (tree_in old bytes_of) (λ n there same. absurd (no_such n (subst (λ l. Contains l n) (nodes_are old bytes_of) there) same)),
+  attribute_drop_does (id_of entry) name (value_blocks (attributes_of old) (id_of entry) name) old new does,
+)
   where
-    no_such : (n : PlainNode) → Contains (nodes_over (attributes_of old) bytes_of (records_of old) (records_of old)) n → n.id ≡ id_of entry → ⊥
+    no_such : (n : PlainNode) → Contains (nodes_over (valued bytes_of (attributes_of old)) bytes_of (records_of old) (records_of old)) n → n.id ≡ id_of entry → ⊥
     no_such n there same =
         let shaped = ((sound_is_both old).0 sound).0 in
-        let it = nodes_from (attributes_of old) bytes_of (records_of old) n there in
+        let it = nodes_from (valued bytes_of (attributes_of old)) bytes_of (records_of old) n there in
         let one : it.entry ≡ entry = same_entry old.head.next_catalog_id (entries_of (records_of old)) shaped.ids it.entry entry it.stands (stands old shaped entry orphan) (sym it.id ∙ same) in
-        omega (arith, (subst (λ l. Contains l n) (no_node old shaped entry orphan (attributes_of old) bytes_of) (subst (λ (e : Placed). Contains (node_in (attributes_of old) (records_of old) bytes_of e e.value) n) one it.has)).1)
+        omega (arith, (subst (λ l. Contains l n) (no_node old shaped entry orphan (valued bytes_of (attributes_of old)) bytes_of) (subst (λ (e : Placed). Contains (node_in (valued bytes_of (attributes_of old)) (records_of old) bytes_of e e.value) n) one it.has)).1)

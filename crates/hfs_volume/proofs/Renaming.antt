@@ -2,7 +2,6 @@
 use Rattle.std.proofs.Common.{◌≡◌, ℕ, ◌+◌, ◌≤◌, Bool, true, false, List, inl, inr, refl, sym, ◌∙◌, ap, subst, arith}
 use Rattle.std.proofs.lemmas.Bool.{true≢false}
 use Rattle.std.specs.Prelude.{Contains, ◌==◌, None, Ok, if◌then◌else◌}
-use Rattle.cat_records.specs.declared.record.FileRecord.{FileRecord}
 use Rattle.hfs_language.specs.declared.reply.Reply.TheVariants as reply
 use Rattle.hfs_model.specs.Step.{Place, on, last_name, is_below, to_mv, is_same_file, removed, moved, vacated, moved_over}
 use Rattle.hfs_model.specs.Plain.{with_changed, with_entry, without_entry}
@@ -11,7 +10,7 @@ use Rattle.hfs_volume.specs.Entries.{LiesIn, count_in}
 use Rattle.hfs_volume.specs.Links.{is_shared_file}
 use Rattle.hfs_volume.specs.Content.{VolumeState, records_of}
 use Rattle.hfs_volume.specs.Sound.{IsSoundVolume}
-use Rattle.hfs_volume.specs.TreeOf.{tree_in, id_or_0, shared_file}
+use Rattle.hfs_volume.specs.TreeOf.{tree_in, id_or_0, shared_file, BytesOf}
 use Rattle.hfs_volume.specs.Laws.{IsShaped, MayMove, IsFolderId, one_if}
 use Rattle.hfs_volume.specs.Naming.{MovesName, MvDoes}
 use Rattle.hfs_model.specs.declared.plain.PlainEntry.{PlainEntry}
@@ -34,7 +33,7 @@ use Rattle.hfs_volume.proofs.Fitting.{not_private}
 use Rattle.hfs_volume.proofs.Vacating.{vacates, moves_later}
 use Rattle.hfs_volume.proofs.RemovingNames.{rm_law}
 
-module _ (from to : List (List ℕ)) (at : PlainEntry) (goal : Place) (old new : VolumeState) (bytes_of : FileRecord → List ℕ) (by_fork : BytesBy bytes_of) (sound : IsSoundVolume old) (is : IsPair old bytes_of sound from to at goal) (not_below : is_below to from ≡ false)
+module _ (from to : List (List ℕ)) (at : PlainEntry) (goal : Place) (old new : VolumeState) (bytes_of : BytesOf) (by_fork : BytesBy bytes_of) (sound : IsSoundVolume old) (is : IsPair old bytes_of sound from to at goal) (not_below : is_below to from ≡ false)
     (named : is_empty (last_name to) ≡ false) (does : MovesName at goal old new) where
   abbrev was : List Placed
   was = records_of old

@@ -1,4 +1,5 @@
 -- What lies aside is free: a sound content with other bytes in free blocks and in the journal reads as the same volume.
+use Rattle.hfs_volume.specs.Values.{blocks_of_values}
 use Rattle.std.proofs.Common.{◌≡◌, ◌≢◌, ◌⊎◌, ◌<◌, ◌≤◌, ℕ, ◌+◌, ◌*◌, ◌/◌, ◌==◌, Bool, true, false, List, [], ◌∷◌, length, refl, sym, ◌∙◌, ap, subst, arith, inl, inr, ⊎_elim}
 use Rattle.std.specs.Prelude.{Contains, Option, Some, None, ◌&&◌, not, nat_le, if◌then◌else◌}
 use Rattle.std.specs.Int.{is_power_of_two}
@@ -21,7 +22,7 @@ use Rattle.hfs_model.specs.Sorted.{kept}
 use Rattle.hfs_model.specs.Step.{journal_name, journal_info_name}
 use Rattle.hfs_volume.specs.Records.{Placed, Overflow, entries_of, is_empty, is_placed_at}
 use Rattle.hfs_volume.specs.Forks.{Owned, per_block_of, data_kind, resource_kind, extents_id, extents_of, in_use, is_of, overflow_in, blocks_owned, forks_in, file_forks, all_forks, special_forks, reserved_blocks}
-use Rattle.hfs_volume.specs.Content.{VolumeState, volume_of, records_of, overflow_in_volume, JournalPlace}
+use Rattle.hfs_volume.specs.Content.{VolumeState, volume_of, records_of, overflow_in_volume, JournalPlace, attributes_of}
 use Rattle.hfs_volume.specs.Attributes.{IsOneExtent, journal_extent, info_extent}
 use Rattle.hfs_volume.specs.Blocks.{forks_of, used_in, is_among, HasForks, HasSizes, LieInside}
 use Rattle.hfs_volume.specs.Sound.{IsSound}
@@ -31,7 +32,7 @@ use Rattle.hfs_volume.proofs.Flat.{found_some}
 use Rattle.hfs_volume.proofs.Reaching.{flat_stands, flat_cases}
 use Rattle.hfs_volume.proofs.BlockWants.{in_range}
 use Rattle.hfs_volume.proofs.Sectors.{range_cases, whole_sectors, from_first, to_last, block_is, in_block}
-use Rattle.hfs_volume.proofs.Apart.{fork_is_used, not_reserved, not_in_both, among}
+use Rattle.hfs_volume.proofs.Apart.{fork_is_used, not_reserved, not_in_both, among, value_is_used, value_not_in_fork}
 
 -- ---- block sizes
 
@@ -225,3 +226,11 @@ module _ (content other : Content) (sound : IsSound content) (agrees : AgreesOut
   fork_stays owned stands foreign at has =
       let block = in_block per (blocks_owned (overflow_in_volume volume) owned) at blocks.some has in
       sector_stays at (λ inside. (fork_is_used volume owned (at / per) stands block, fork_apart owned (at / per) stands foreign block))
+
+  -- and so does a sector of a value
+  pub value_stays : (at : ℕ) → Contains (blocks_of_values (attributes_of volume)) (at / per) → sector other at ≡ sector content at
+  value_stays at has = sector_stays at (λ inside. (value_is_used volume (at / per) has, of_journal))
+    where
+      of_journal : IsJournalBlock volume volume.journal (at / per) → ⊥
+      of_journal (inl journal) = value_not_in_fork volume forks (data_fork_of journal_file.file) (at / per) has journal_stands (in_journal (at / per) journal)
+      of_journal (inr info) = value_not_in_fork volume forks (data_fork_of info_file.file) (at / per) has info_stands (in_info (at / per) info)

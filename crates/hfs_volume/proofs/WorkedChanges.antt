@@ -1,4 +1,5 @@
 -- The records of changes of `mkdir`, `rmdir` and `chmod`, met by a catalog that another program wrote, before and after a `mkdir`.
+use Rattle.hfs_volume.specs.Values.{blocks_of_values}
 use Rattle.std.proofs.Common.{true, [], ◌∷◌, refl, arith}
 use Rattle.std.specs.Prelude.{None, pos}
 use Rattle.std.specs.Fmt.{digits}
@@ -9,7 +10,7 @@ use Rattle.cat_records.specs.Records.{entry_of, catalog_of}
 use Rattle.volume_header.specs.Header.{header_of}
 use Rattle.volume_header.specs.declared.header.VolumeHeader.{VolumeHeader}
 use Rattle.hfs_model.specs.Step.{Place}
-use Rattle.hfs_volume.specs.Records.{placed_of}
+use Rattle.hfs_volume.specs.Records.{placed_of, attribute_of}
 use Rattle.hfs_volume.specs.Content.{VolumeState}
 use Rattle.hfs_volume.specs.Commands.{MakesEntry, RemovesFolder, ChangesMode}
 use Rattle.hfs_volume.proofs.WorkedTrees.{state}
@@ -110,12 +111,22 @@ abbrev dropped_0 : VolumeState
 dropped_0 = record removed_0 { catalog_pairs = pair_6 ∷ pair_1 ∷ pair_2 ∷ pair_3 ∷ pair_4 ∷ pair_5 ∷ [] }
 
 a_folder_is_removed : RemovesFolder 18 new_0 removed_0
-unfolding digits number_at number_bytes extents_at entry_of placed_of
+unfolding digits number_at number_bytes extents_at entry_of placed_of attribute_of blocks_of_values
 a_folder_is_removed = record {
   entry = placed_of pair_7;
   stands = (3, omega arith, refl);
   is_entry = refl;
-  bares = record { changes = refl; nodes = record { total = refl; size = refl }; rest = refl };
+  bared = new_0;
+  bares = record {
+    changes = refl;
+    are_fresh = record { inside = λ k d none. absurd (omega (arith, none)); free = λ k d none. absurd (omega (arith, none)); once = λ block. omega arith };
+    flips = record { size = refl; taken = λ k d none. absurd (omega (arith, none)); given = λ k d none. absurd (omega (arith, none)); others = λ block one other. refl };
+    nodes = record { total = refl; size = refl };
+    free = new_0.head.free_blocks;
+    next = new_0.head.next_allocation;
+    counts = refl;
+    rest = refl;
+  };
   dropped = dropped_0;
   drops = record {
     changes = record {

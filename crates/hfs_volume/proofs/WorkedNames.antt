@@ -1,4 +1,5 @@
 -- The records of changes of `mv`, `rm`, `ln`, `setattr` and `delattr`, and of the removal of an orphan's entry, each met by small catalogs before and after it.
+use Rattle.hfs_volume.specs.Values.{blocks_of_values}
 use Rattle.std.proofs.Common.{true, false, [], ◌∷◌, refl, sym, inr, arith}
 use Rattle.std.proofs.lemmas.Bool.{true≢false}
 use Rattle.std.specs.Prelude.{None, pos}
@@ -327,13 +328,13 @@ a_later_link_is_made = record { sorted = ((refl, (refl, (refl, (refl, (refl, (re
 
 -- an attribute of a folder gets another value
 an_attribute_is_set : SetsAttribute 18 (107 ∷ []) (117 ∷ 119 ∷ []) volume_37 volume_40
-unfolding digits number_at number_bytes extents_at entry_of placed_of attribute_of
-an_attribute_is_set = record { sorted = ((refl, (refl, (refl, (refl, (refl, (refl, (refl, tt))))))), ((refl, (refl, (refl, (refl, (refl, (refl, tt)))))), ((refl, (refl, (refl, (refl, (refl, tt))))), ((refl, (refl, (refl, (refl, tt)))), ((refl, (refl, (refl, tt))), ((refl, (refl, tt)), ((refl, tt), (tt, tt)))))))); bared = volume_38; bares = record { changes = refl; nodes = record { total = refl; size = refl }; rest = refl }; added = volume_39; adds = record { changes = record { pair = pair_49; stands = refl; spelled = refl; added = record { place = 0; within = omega arith; is = refl } }; nodes = record { total = refl; size = refl }; rest = refl }; sorted_again = ((refl, tt), (tt, tt)); marks = record { entry = placed_of pair_4; before = entry_of (pair_4).1; after = entry_of (pair_50).1; has = refl; is_entry = refl; fields = record { marked = record { id = refl; count = refl; mode = refl; created = refl; changed = refl; attribute = refl }; special = refl }; changes = record { changes = record { pair = pair_4; is_entry = refl; other = pair_50; is_other = record { stands = refl; spelled = refl }; swapped = record { place = 4; at = refl; is = refl }; forks = refl; alike = record { place = (refl, refl); kind = (refl, refl); id = refl; link = refl; reference = λ link. refl } }; nodes = record { total = refl; size = refl }; rest = refl } } }
+unfolding digits number_at number_bytes extents_at entry_of placed_of attribute_of blocks_of_values
+an_attribute_is_set = record { sorted = ((refl, (refl, (refl, (refl, (refl, (refl, (refl, tt))))))), ((refl, (refl, (refl, (refl, (refl, (refl, tt)))))), ((refl, (refl, (refl, (refl, (refl, tt))))), ((refl, (refl, (refl, (refl, tt)))), ((refl, (refl, (refl, tt))), ((refl, (refl, tt)), ((refl, tt), (tt, tt)))))))); bared = volume_38; bares = record { changes = refl; are_fresh = record { inside = λ k d none. absurd (omega (arith, none)); free = λ k d none. absurd (omega (arith, none)); once = λ block. omega arith }; flips = record { size = refl; taken = λ k d none. absurd (omega (arith, none)); given = λ k d none. absurd (omega (arith, none)); others = λ block one other. refl }; nodes = record { total = refl; size = refl }; free = volume_37.head.free_blocks; next = volume_37.head.next_allocation; counts = refl; rest = refl }; added = volume_39; adds = record { changes = record { pair = pair_49; stands = refl; spelled = refl; added = record { place = 0; within = omega arith; is = refl } }; nodes = record { total = refl; size = refl }; rest = refl }; sorted_again = ((refl, tt), (tt, tt)); marks = record { entry = placed_of pair_4; before = entry_of (pair_4).1; after = entry_of (pair_50).1; has = refl; is_entry = refl; fields = record { marked = record { id = refl; count = refl; mode = refl; created = refl; changed = refl; attribute = refl }; special = refl }; changes = record { changes = record { pair = pair_4; is_entry = refl; other = pair_50; is_other = record { stands = refl; spelled = refl }; swapped = record { place = 4; at = refl; is = refl }; forks = refl; alike = record { place = (refl, refl); kind = (refl, refl); id = refl; link = refl; reference = λ link. refl } }; nodes = record { total = refl; size = refl }; rest = refl } } }
 
 -- an attribute of a folder is deleted
 an_attribute_is_deleted : DeletesAttribute 18 (107 ∷ []) volume_37 volume_41
-unfolding digits number_at number_bytes extents_at entry_of placed_of attribute_of
-an_attribute_is_deleted = record { sorted = ((refl, (refl, (refl, (refl, (refl, (refl, (refl, tt))))))), ((refl, (refl, (refl, (refl, (refl, (refl, tt)))))), ((refl, (refl, (refl, (refl, (refl, tt))))), ((refl, (refl, (refl, (refl, tt)))), ((refl, (refl, (refl, tt))), ((refl, (refl, tt)), ((refl, tt), (tt, tt)))))))); bared = volume_38; bares = record { changes = refl; nodes = record { total = refl; size = refl }; rest = refl }; marks = record { entry = placed_of pair_4; before = entry_of (pair_4).1; after = entry_of (pair_50).1; has = refl; is_entry = refl; fields = record { marked = record { id = refl; count = refl; mode = refl; created = refl; changed = refl; attribute = refl }; special = refl }; changes = record { changes = record { pair = pair_4; is_entry = refl; other = pair_50; is_other = record { stands = refl; spelled = refl }; swapped = record { place = 4; at = refl; is = refl }; forks = refl; alike = record { place = (refl, refl); kind = (refl, refl); id = refl; link = refl; reference = λ link. refl } }; nodes = record { total = refl; size = refl }; rest = refl } } }
+unfolding digits number_at number_bytes extents_at entry_of placed_of attribute_of blocks_of_values
+an_attribute_is_deleted = record { sorted = ((refl, (refl, (refl, (refl, (refl, (refl, (refl, tt))))))), ((refl, (refl, (refl, (refl, (refl, (refl, tt)))))), ((refl, (refl, (refl, (refl, (refl, tt))))), ((refl, (refl, (refl, (refl, tt)))), ((refl, (refl, (refl, tt))), ((refl, (refl, tt)), ((refl, tt), (tt, tt)))))))); bared = volume_38; bares = record { changes = refl; are_fresh = record { inside = λ k d none. absurd (omega (arith, none)); free = λ k d none. absurd (omega (arith, none)); once = λ block. omega arith }; flips = record { size = refl; taken = λ k d none. absurd (omega (arith, none)); given = λ k d none. absurd (omega (arith, none)); others = λ block one other. refl }; nodes = record { total = refl; size = refl }; free = volume_37.head.free_blocks; next = volume_37.head.next_allocation; counts = refl; rest = refl }; marks = record { entry = placed_of pair_4; before = entry_of (pair_4).1; after = entry_of (pair_50).1; has = refl; is_entry = refl; fields = record { marked = record { id = refl; count = refl; mode = refl; created = refl; changed = refl; attribute = refl }; special = refl }; changes = record { changes = record { pair = pair_4; is_entry = refl; other = pair_50; is_other = record { stands = refl; spelled = refl }; swapped = record { place = 4; at = refl; is = refl }; forks = refl; alike = record { place = (refl, refl); kind = (refl, refl); id = refl; link = refl; reference = λ link. refl } }; nodes = record { total = refl; size = refl }; rest = refl } } }
 
 -- ---- the entry of a file that lost its only name
 

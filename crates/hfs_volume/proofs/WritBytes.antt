@@ -1,4 +1,6 @@
 -- The bytes of files whose blocks no change touches: contents that differ in free blocks and in special files alone tell the same.
+use Rattle.hfs_volume.proofs.Valued.{values_same}
+use Rattle.hfs_volume.specs.Values.{blocks_of_values}
 use Rattle.std.proofs.Common.{◌≡◌, ◌<◌, ℕ, ◌*◌, ◌/◌, ◌==◌, false, List, [], ◌∷◌, length, inl, inr, sym, ◌∙◌, ap, subst, arith, refl}
 use Rattle.std.proofs.lemmas.Bool.{true≢false}
 use Rattle.std.specs.Prelude.{Contains, ◌&&◌, map, take}
@@ -13,16 +15,17 @@ use Rattle.cat_records.specs.declared.record.CatRecord.TheVariants.{File}
 use Rattle.hfs_volume.specs.Records.{Placed, overflow_of, entries_of, id_of, id_in}
 use Rattle.hfs_volume.specs.Forks.{Owned, special_forks, blocks_owned, extents_of, per_block_of, data_kind}
 use Rattle.hfs_volume.specs.Entries.{IsUserId}
-use Rattle.hfs_volume.specs.Content.{VolumeState, volume_of, records_of, overflow_in_volume, block_bytes}
+use Rattle.hfs_volume.specs.Content.{VolumeState, volume_of, records_of, overflow_in_volume, block_bytes, attributes_of}
 use Rattle.hfs_volume.specs.Blocks.{used_in, HasForks}
 use Rattle.hfs_volume.specs.Reclaim.{is_fork}
 use Rattle.hfs_volume.specs.Sound.{IsSound}
-use Rattle.hfs_volume.specs.TreeOf.{file_bytes}
-use Rattle.hfs_volume.specs.Writing.{IsPutSector, OthersKeepBytes}
+use Rattle.hfs_volume.specs.TreeOf.{file_bytes, bytes_in}
+use Rattle.hfs_volume.specs.Writing.{IsPutSector, OthersKeepBytes, KeepsFiles}
+use Rattle.hfs_volume.specs.Changes.{with_free}
 use Rattle.hfs_volume.proofs.Members.{first_or_later, in_one, each_of}
 use Rattle.hfs_volume.proofs.Fitting.{differs}
 use Rattle.hfs_volume.proofs.Sectors.{in_block}
-use Rattle.hfs_volume.proofs.Apart.{among, fork_is_used, not_reserved, not_in_both}
+use Rattle.hfs_volume.proofs.Apart.{among, fork_is_used, not_reserved, not_in_both, value_is_used, value_not_reserved, value_not_in_fork}
 use Rattle.hfs_volume.proofs.Untouched.{HasWholeBlocks, whole_blocks, data_fork_of, file_fork_stands, special_stands}
 use Rattle.hfs_volume.proofs.Rereading.{same_bytes}
 use Rattle.hfs_volume.proofs.BlockForks.{extents_same}
@@ -111,13 +114,37 @@ module _ (content other : Content) (sound : IsSound content) (agrees : AgreesOut
       (same_bytes content other ((header_of_volume content).total_blocks * per) (sectors_of per (blocks_owned (overflow_in_volume volume) (data_fork_of file))) stays)
       ∙ sym (bytes_are content file)
 
+-- a sector of a value is none that may be written
+value_kept : (content other : Content) → IsSound content → AgreesOutside (IsPutSector content) content other → (at : ℕ) → Contains (blocks_of_values (attributes_of (volume_of content))) (at / per_block_of (header_of_volume content)) → sector other at ≡ sector content at
+value_kept content other sound agrees at has = elim (agrees.each at) [
+  | inl same ↦ same
+  | inr put ↦ absurd (not_put_value put)
+]
+  where
+    not_put_value : IsPutSector content at → ⊥
+    not_put_value (inl free) =
+        let used = among (used_in (volume_of content)) (at / per_block_of (header_of_volume content)) (value_is_used (volume_of content) (at / per_block_of (header_of_volume content)) has) in
+        let bit = sound.volume.blocks.bits.bits (at / per_block_of (header_of_volume content)) (subst (λ (h : VolumeHeader). at / per_block_of (header_of_volume content) < h.total_blocks) (sym (head_is content)) free.0) in
+        true≢false (sym used ∙ sym bit ∙ free.1)
+    not_put_value (inr (inl reserved)) = value_not_reserved (volume_of content) sound.volume.blocks.forks (at / per_block_of (header_of_volume content)) has reserved
+    not_put_value (inr (inr special)) = value_not_in_fork (volume_of content) sound.volume.blocks.forks special.0 (at / per_block_of (header_of_volume content)) has (special_stands (volume_of content) special.0 special.1) special.2
+
 pub others_keep_law : OthersKeepBytes
-others_keep_law id kind from count fresh content other put sound puts head overflow agrees p file stands is differ =
-    let owned = data_fork_of file in
-    let apart : is_fork id kind owned ≡ false = ap (λ b. b && (data_kind == kind)) (differs file.fields.id id (λ same. differ (ap id_in is ∙ same))) in
-    let both_heads : (volume_of other).head ≡ put.head = head in
-    let put_head = ap (λ (v : VolumeState). v.head) puts.puts.rest in
-    same_file_bytes content other sound agrees p file stands is
-    (ap (λ (h : VolumeHeader). h.block_size) (sym (head_is other) ∙ both_heads ∙ put_head) ∙ ap (λ (h : VolumeHeader). h.block_size) (head_is content))
-    (ap (λ (h : VolumeHeader). h.total_blocks) (sym (head_is other) ∙ both_heads ∙ put_head) ∙ ap (λ (h : VolumeHeader). h.total_blocks) (head_is content))
-    (ap (λ pairs. extents_of (map overflow_of pairs) file.fields.id data_kind file.data_fork) overflow ∙ extents_same id kind (overflow_in_volume (volume_of content)) (overflow_in_volume put) puts.puts.others owned apart)
+others_keep_law id kind from count fresh content other put sound puts head overflow agrees =
+    (λ p file stands is differ. of_file p file stands is differ, values_same content other (attributes_of (volume_of content)) size_same total_same (wholes content sound).some (value_kept content other sound agrees))
+  where
+    put_head : put.head ≡ with_free puts.free puts.next (volume_of content).head
+    put_head = ap (λ (v : VolumeState). v.head) puts.puts.rest
+
+    size_same : (header_of_volume other).block_size ≡ (header_of_volume content).block_size
+    size_same = ap (λ (h : VolumeHeader). h.block_size) (sym (head_is other) ∙ head ∙ put_head) ∙ ap (λ (h : VolumeHeader). h.block_size) (head_is content)
+
+    total_same : (header_of_volume other).total_blocks ≡ (header_of_volume content).total_blocks
+    total_same = ap (λ (h : VolumeHeader). h.total_blocks) (sym (head_is other) ∙ head ∙ put_head) ∙ ap (λ (h : VolumeHeader). h.total_blocks) (head_is content)
+
+    of_file : KeepsFiles id (volume_of content) (bytes_in content) (bytes_in other)
+    of_file p file stands is differ =
+        let owned = data_fork_of file in
+        let apart : is_fork id kind owned ≡ false = ap (λ b. b && (data_kind == kind)) (differs file.fields.id id (λ same. differ (ap id_in is ∙ same))) in
+        same_file_bytes content other sound agrees p file stands is size_same total_same
+        (ap (λ pairs. extents_of (map overflow_of pairs) file.fields.id data_kind file.data_fork) overflow ∙ extents_same id kind (overflow_in_volume (volume_of content)) (overflow_in_volume put) puts.puts.others owned apart)

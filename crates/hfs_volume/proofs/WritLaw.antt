@@ -17,7 +17,7 @@ use Rattle.hfs_volume.specs.Forks.{data_kind}
 use Rattle.hfs_volume.specs.Links.{private_id, is_in}
 use Rattle.hfs_volume.specs.Content.{VolumeState, records_of, attributes_of}
 use Rattle.hfs_volume.specs.Sound.{IsSoundVolume}
-use Rattle.hfs_volume.specs.TreeOf.{tree_in, node_in, plain_node, is_plain_folder, is_plain_file, is_linked, is_seen}
+use Rattle.hfs_volume.specs.TreeOf.{tree_in, node_in, plain_node, is_plain_folder, is_plain_file, is_linked, is_seen, BytesOf, valued}
 use Rattle.hfs_volume.specs.Changes.{PutsBlocks}
 use Rattle.hfs_volume.specs.Commands.{AreBytesOf, with_fields}
 use Rattle.hfs_volume.specs.Laws.{IsShaped, IsUserFile}
@@ -41,52 +41,52 @@ use Rattle.hfs_volume.proofs.BlockSound.{recounted, recounted_shaped, recounted_
 -- ---- a file that users see
 
 -- The entry of a file's node.
-pub record IsFileNode (volume : VolumeState) (bytes_of : FileRecord → List ℕ) (node : PlainNode) : Type 0 where
+pub record IsFileNode (volume : VolumeState) (bytes_of : BytesOf) (node : PlainNode) : Type 0 where
   pub entry : Placed
   pub file : FileRecord
   pub stands : Contains (entries_of (records_of volume)) entry
   pub value : entry.value ≡ File file
   pub id : node.id ≡ id_of entry
-  pub bytes : node.bytes ≡ bytes_of file
+  pub bytes : node.bytes ≡ bytes_of.file file
   pub plain : is_plain_file (records_of volume) entry ≡ true
 
-pub file_node : (volume : VolumeState) (bytes_of : FileRecord → List ℕ) (node : PlainNode) → Contains (tree_in volume bytes_of).nodes node → node.folder ≡ false → IsFileNode volume bytes_of node
+pub file_node : (volume : VolumeState) (bytes_of : BytesOf) (node : PlainNode) → Contains (tree_in volume bytes_of).nodes node → node.folder ≡ false → IsFileNode volume bytes_of node
 file_node volume bytes_of node stands no_folder =
-    let it = nodes_from (attributes_of volume) bytes_of (records_of volume) node (subst (λ l. Contains l node) (nodes_are volume bytes_of) stands) in
+    let it = nodes_from (valued bytes_of (attributes_of volume)) bytes_of (records_of volume) node (subst (λ l. Contains l node) (nodes_are volume bytes_of) stands) in
     of_value it.entry it.stands it.id it.entry.value refl it.has
   where
-    of_value : (e : Placed) → Contains (entries_of (records_of volume)) e → node.id ≡ id_of e → (v : CatRecord) → e.value ≡ v → Contains (node_in (attributes_of volume) (records_of volume) bytes_of e v) node → IsFileNode volume bytes_of node
+    of_value : (e : Placed) → Contains (entries_of (records_of volume)) e → node.id ≡ id_of e → (v : CatRecord) → e.value ≡ v → Contains (node_in (valued bytes_of (attributes_of volume)) (records_of volume) bytes_of e v) node → IsFileNode volume bytes_of node
     of_value e there id (Folder f) is has = by_test (is_plain_folder (records_of volume) e) has
       where
-        by_test : (b : Bool) → Contains (if b then plain_node (attributes_of volume) f.fields true [] false ∷ [] else []) node → IsFileNode volume bytes_of node
-        by_test true one = absurd (true≢false (sym (ap (λ (n : PlainNode). n.folder) (in_one (plain_node (attributes_of volume) f.fields true [] false) node one)) ∙ no_folder))
+        by_test : (b : Bool) → Contains (if b then plain_node (valued bytes_of (attributes_of volume)) f.fields true [] false ∷ [] else []) node → IsFileNode volume bytes_of node
+        by_test true one = absurd (true≢false (sym (ap (λ (n : PlainNode). n.folder) (in_one (plain_node (valued bytes_of (attributes_of volume)) f.fields true [] false) node one)) ∙ no_folder))
         by_test false none = absurd (omega (arith, none.1))
     of_value e there id (File f) is has = by_test (is_plain_file (records_of volume) e) refl has
       where
-        by_test : (b : Bool) → is_plain_file (records_of volume) e ≡ b → Contains (if b then plain_node (attributes_of volume) f.fields false (bytes_of f) (is_linked (records_of volume) e) ∷ [] else []) node → IsFileNode volume bytes_of node
+        by_test : (b : Bool) → is_plain_file (records_of volume) e ≡ b → Contains (if b then plain_node (valued bytes_of (attributes_of volume)) f.fields false (bytes_of.file f) (is_linked (records_of volume) e) ∷ [] else []) node → IsFileNode volume bytes_of node
         by_test true plain one = record {
           entry = e;
           file = f;
           stands = there;
           value = is;
           id = id;
-          bytes = ap (λ (n : PlainNode). n.bytes) (in_one (plain_node (attributes_of volume) f.fields false (bytes_of f) (is_linked (records_of volume) e)) node one);
+          bytes = ap (λ (n : PlainNode). n.bytes) (in_one (plain_node (valued bytes_of (attributes_of volume)) f.fields false (bytes_of.file f) (is_linked (records_of volume) e)) node one);
           plain = plain;
         }
         by_test false plain none = absurd (omega (arith, none.1))
     of_value e there id (Thread f) is none = absurd (omega (arith, none.1))
 
 -- the node of a file's CNID has its bytes
-pub bytes_at_node : (volume : VolumeState) (bytes_of : FileRecord → List ℕ) → IsShaped volume → (e : Placed) (file : FileRecord) → Contains (entries_of (records_of volume)) e → e.value ≡ File file
-    → (node : PlainNode) → Contains (tree_in volume bytes_of).nodes node → node.id ≡ id_of e → node.bytes ≡ bytes_of file
+pub bytes_at_node : (volume : VolumeState) (bytes_of : BytesOf) → IsShaped volume → (e : Placed) (file : FileRecord) → Contains (entries_of (records_of volume)) e → e.value ≡ File file
+    → (node : PlainNode) → Contains (tree_in volume bytes_of).nodes node → node.id ≡ id_of e → node.bytes ≡ bytes_of.file file
 bytes_at_node volume bytes_of shaped e file stands is node there same =
-    let it = nodes_from (attributes_of volume) bytes_of (records_of volume) node (subst (λ l. Contains l node) (nodes_are volume bytes_of) there) in
+    let it = nodes_from (valued bytes_of (attributes_of volume)) bytes_of (records_of volume) node (subst (λ l. Contains l node) (nodes_are volume bytes_of) there) in
     let one : it.entry ≡ e = same_entry volume.head.next_catalog_id (entries_of (records_of volume)) shaped.ids it.entry e it.stands stands (sym it.id ∙ same) in
     by_test (is_plain_file (records_of volume) e)
-    (subst (λ v. Contains (node_in (attributes_of volume) (records_of volume) bytes_of e v) node) is (subst (λ (p : Placed). Contains (node_in (attributes_of volume) (records_of volume) bytes_of p p.value) node) one it.has))
+    (subst (λ v. Contains (node_in (valued bytes_of (attributes_of volume)) (records_of volume) bytes_of e v) node) is (subst (λ (p : Placed). Contains (node_in (valued bytes_of (attributes_of volume)) (records_of volume) bytes_of p p.value) node) one it.has))
   where
-    by_test : (b : Bool) → Contains (if b then plain_node (attributes_of volume) file.fields false (bytes_of file) (is_linked (records_of volume) e) ∷ [] else []) node → node.bytes ≡ bytes_of file
-    by_test true has = ap (λ (n : PlainNode). n.bytes) (in_one (plain_node (attributes_of volume) file.fields false (bytes_of file) (is_linked (records_of volume) e)) node has)
+    by_test : (b : Bool) → Contains (if b then plain_node (valued bytes_of (attributes_of volume)) file.fields false (bytes_of.file file) (is_linked (records_of volume) e) ∷ [] else []) node → node.bytes ≡ bytes_of.file file
+    by_test true has = ap (λ (n : PlainNode). n.bytes) (in_one (plain_node (valued bytes_of (attributes_of volume)) file.fields false (bytes_of.file file) (is_linked (records_of volume) e)) node has)
     by_test false none = absurd (omega (arith, none.1))
 
 -- what stands in the private folder doesn't stand in the root
@@ -98,7 +98,7 @@ private_apart volume shaped p is two = by_case (private_id (records_of volume)) 
     by_case (Some id) found here = private_not_root volume shaped id found (sym (eqb-true p.parent id here) ∙ two)
 
 -- it isn't one of the journal's
-pub file_is_users : (volume : VolumeState) (bytes_of : FileRecord → List ℕ) → IsShaped volume → (node : PlainNode) → IsFileNode volume bytes_of node → IsUserFile node.id volume
+pub file_is_users : (volume : VolumeState) (bytes_of : BytesOf) → IsShaped volume → (node : PlainNode) → IsFileNode volume bytes_of node → IsUserFile node.id volume
 file_is_users volume bytes_of shaped node it e stands same own =
     let one : e ≡ it.entry = same_entry volume.head.next_catalog_id (entries_of (records_of volume)) shaped.ids e it.entry stands it.stands (same ∙ it.id) in
     by_tests (is_seen (records_of volume) it.entry) (is_linked (records_of volume) it.entry) refl refl (subst (λ (p : Placed). (p.parent ≡ 2) × (is_private_name p.name ≡ true)) one own)
@@ -110,7 +110,7 @@ file_is_users volume bytes_of shaped node it e stands same own =
     by_tests false false seen linked place = true≢false (sym it.plain ∙ (λ i. (seen i && not (is_link it.entry)) || linked i))
 
 -- what a path reaches that is a file
-pub reaches_file : (volume : VolumeState) (bytes_of : FileRecord → List ℕ) (path : List (List ℕ)) (file : PlainNode) → to_file (tree_in volume bytes_of) path ≡ Ok file → IsFileNode volume bytes_of file
+pub reaches_file : (volume : VolumeState) (bytes_of : BytesOf) (path : List (List ℕ)) (file : PlainNode) → to_file (tree_in volume bytes_of) path ≡ Ok file → IsFileNode volume bytes_of file
 reaches_file volume bytes_of path file allowed =
     let tree = tree_in volume bytes_of in
     let node = then_ok (to_node tree path) (λ n. unless n.folder refusal.IsFolder n) file allowed in
@@ -132,7 +132,7 @@ redated_bytes id moment bytes tree same =
     (λ i. record tree { nodes = twice id (with_new_bytes bytes) (dated moment) (λ n. refl) tree.nodes i })
     ∙ (λ i. with_changed id (λ node. record node { bytes = bytes; changed = sym same i; attribute = sym same i }) tree)
 
-module _ (make : List ℕ → List ℕ) (file : PlainNode) (from count : ℕ) (fresh : List ℕ) (old new : VolumeState) (bytes_of bytes_after : FileRecord → List ℕ) (are : AreBytesOf bytes_after) (sound : IsSoundVolume old)
+module _ (make : List ℕ → List ℕ) (file : PlainNode) (from count : ℕ) (fresh : List ℕ) (old new : VolumeState) (bytes_of bytes_after : BytesOf) (are : AreBytesOf bytes_after) (sound : IsSoundVolume old)
     (it : IsFileNode old bytes_of file) (does : RewritesFile file.id from count fresh old new) (makes : MakesBytes make does bytes_of bytes_after) where
   shaped : IsShaped old
   shaped = ((sound_is_both old).0 sound).0
@@ -167,8 +167,8 @@ module _ (make : List ℕ → List ℕ) (file : PlainNode) (from count : ℕ) (f
       (entry_id file.id data_kind begun does.put puts.file puts.is_kind begun_shaped ∙ it.id) in
       ap (file_or it.file) (sym puts.file.is_file.0 ∙ ap (λ (p : Placed). p.value) same ∙ it.value)
 
-  bytes_made : bytes_after (file_after does.puts) ≡ make file.bytes
-  bytes_made = makes.made ∙ ap make (ap bytes_of same_file ∙ sym it.bytes)
+  bytes_made : bytes_after.file (file_after does.puts) ≡ make file.bytes
+  bytes_made = makes.made ∙ ap make (ap bytes_of.file same_file ∙ sym it.bytes)
 
   -- and its tree has the file with its new bytes and dates
   pub rewritten_tree : tree_in new bytes_after ≡ with_bytes file.id (make file.bytes) (tree_in old bytes_of)
@@ -178,9 +178,9 @@ module _ (make : List ℕ → List ℕ) (file : PlainNode) (from count : ℕ) (f
       fields_tree file.id does.put new does.dates bytes_after are.by_fork (dated moment) (touched_views moment 0 0 does.dates.before does.dates.after touched) touched.id (put_shaped file.id data_kind from count fresh old does.put does.puts sound user)
       ∙ ap (with_changed file.id (dated moment))
       (put_tree file.id data_kind from count fresh begun does.put puts begun_shaped bytes_after
-      ∙ ap (with_changed file.id (with_new_bytes (bytes_after (file_after does.puts)))) (recounted_tree does.puts.free does.puts.next old bytes_after)
-      ∙ set_bytes_same old bytes_after bytes_of file.id (bytes_after (file_after does.puts)) makes.others)
-      ∙ redated_bytes file.id moment (bytes_after (file_after does.puts)) (tree_in old bytes_of) (moment_is old bytes_of)
+      ∙ ap (with_changed file.id (with_new_bytes (bytes_after.file (file_after does.puts)))) (recounted_tree does.puts.free does.puts.next old bytes_after)
+      ∙ set_bytes_same old bytes_after bytes_of file.id (bytes_after.file (file_after does.puts)) makes.others.0 makes.others.1)
+      ∙ redated_bytes file.id moment (bytes_after.file (file_after does.puts)) (tree_in old bytes_of) (moment_is old bytes_of)
       ∙ ap (λ bytes. with_bytes file.id bytes (tree_in old bytes_of)) bytes_made
 
 -- ---- the commands

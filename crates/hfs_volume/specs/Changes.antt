@@ -1,5 +1,10 @@
 -- The changes that commands are made of, over the lists of a volume.
-use Rattle.std.specs.Prelude.{Bool, ◌&&◌, map, ◌==◌, if◌then◌else◌, not, ◌≡◌, ◌≢◌, ◌⊎◌, ◌≤◌, ℕ, ℤ, ◌+◌, ◌*◌, pos, true, false, List, [], ◌++◌, length, take, drop, insert, remove, slice_get, slice_set, All, Contains, Some, IsTrue}
+use Rattle.fork_map.specs.Blocks.{blocks_of}
+use Rattle.std.specs.List.{flat_map}
+use Rattle.hx_bytes.specs.declared.extents.Extent.{Extent}
+use Rattle.alloc_bitmap.specs.Apart.{times}
+use Rattle.hfs_volume.specs.Values.{blocks_of_values, is_more, GoOnIn, used_extents}
+use Rattle.std.specs.Prelude.{Bool, ◌&&◌, map, ◌==◌, if◌then◌else◌, not, ◌≡◌, ◌≢◌, ◌⊎◌, ◌≤◌, ℕ, ℤ, ◌+◌, ◌*◌, pos, true, false, List, [], ◌++◌, length, take, drop, insert, remove, slice_get, slice_set, All, Contains, Some, IsTrue, ◌∷◌}
 use Rattle.std.specs.Str.{bytes_eq}
 use Rattle.std.specs.Ordering.{is_lt, nat_cmp, ordering_then}
 use Rattle.std.specs.Cmp.Lexicographic.{slice_cmp}
@@ -12,10 +17,10 @@ use Rattle.cat_records.specs.Attributes.{is_attr}
 use Rattle.cat_records.specs.declared.record.FileRecord.{FileRecord}
 use Rattle.cat_records.specs.declared.record.CatRecord.{CatRecord}
 use Rattle.cat_records.specs.declared.record.CatRecord.TheVariants.{File, Thread}
-use Rattle.cat_records.specs.declared.attribute.AttrRecord.TheVariants.{Inline}
+use Rattle.cat_records.specs.declared.attribute.AttrRecord.TheVariants.{Inline, Fork}
 use Rattle.hfs_model.specs.Sorted.{kept, IsInOrder}
 use Rattle.hfs_volume.specs.Records.{Placed, Attribute, placed_of, placed_in, placed_before, attribute_of, is_folder, is_file, is_link, is_link_type, id_of, special_of}
-use Rattle.hfs_volume.specs.Forks.{is_of, data_kind, resource_kind, extents_id, catalog_id, attributes_id, forks_in}
+use Rattle.hfs_volume.specs.Forks.{is_of, data_kind, resource_kind, extents_id, catalog_id, attributes_id, forks_in, is_full, in_use}
 use Rattle.hfs_volume.specs.Content.{overflow_in_volume, facts_at, VolumeState, TreeFacts, is_set, has_attributes}
 use Rattle.hfs_volume.specs.Blocks.{HasSizes, GoesOn}
 use Rattle.hfs_volume.specs.Reclaim.{IsTreeFork, blocks_at}
@@ -152,6 +157,7 @@ attribute_before one other = is_lt (ordering_then (nat_cmp one.id other.id) (ord
 abbrev pub AreSortedAttributes : List Pair → Type 0
 AreSortedAttributes pairs = IsInOrder attribute_before (map attribute_of pairs)
 
+-- the attributes alone have changed, and the numbers of their tree, but not those of its nodes
 pub record InAttributes (Changes : List Pair → List Pair → Type 0) (old new : VolumeState) : Type 0 where
   pub changes : Changes old.attribute_pairs new.attribute_pairs
   pub nodes : HasSameNodes old.attributes_tree new.attributes_tree
@@ -255,6 +261,10 @@ with_numbers head other = record head {
   finder_info = other.finder_info;
 }
 
+-- a header with another number of free blocks, and another block at which the search for free ones begins
+abbrev pub with_free : ℕ → ℕ → VolumeHeader → VolumeHeader
+with_free free next head = record head { free_blocks = free; next_allocation = next }
+
 -- only such fields have changed, and the next id doesn't fall
 pub record ChangesHeader (old new : VolumeHeader) : Type 0 where
   pub numbers : new ≡ with_numbers old new
@@ -262,3 +272,42 @@ pub record ChangesHeader (old new : VolumeHeader) : Type 0 where
 
 abbrev pub InHeader : VolumeState → VolumeState → Type 0
 InHeader old new = ChangesHeader old.head new.head × (new ≡ record old { head = new.head })
+
+-- ---- values in forks
+
+-- The attributes alone have changed, and the numbers of their tree, but not those of its nodes: values took these blocks, which were free,
+-- and gave back those. The bits say so.
+pub record TradesBlocks (fresh freed : List ℕ) (old new : VolumeState) : Type 0 where
+  pub are_fresh : AreFresh old fresh
+  pub blocks : (block : ℕ) → times block (blocks_of_values (map attribute_of new.attribute_pairs)) + times block freed ≡ times block (blocks_of_values (map attribute_of old.attribute_pairs)) + times block fresh
+  pub were : (block : ℕ) → times block freed ≤ times block (blocks_of_values (map attribute_of old.attribute_pairs))
+  pub flips : FlipsBits fresh freed old new
+  pub nodes : HasSameNodes old.attributes_tree new.attributes_tree
+  pub rest : new ≡ record old { attribute_pairs = new.attribute_pairs; attributes_tree = new.attributes_tree; bits = new.bits }
+
+-- The attribute of this name has a value of so many bytes in these extents, in place of what it had; all other records are as they were.
+pub record SetsFork (id : ℕ) (name : List ℕ) (size : ℕ) (extents : List Extent) (old new : List Pair) : Type 0 where
+  pub others : kept (λ pair. not (is_attribute_of id name (attribute_of pair))) new ≡ kept (λ pair. not (is_attribute_of id name (attribute_of pair))) old
+  pub first : Pair
+  pub further : List Pair
+  pub records : kept (λ pair. is_attribute_of id name (attribute_of pair)) new ≡ first ∷ further
+  pub fork : ForkRecord
+  pub is_first : attribute_of first ≡ record { id = id; name = name; start = 0; value = Fork fork }
+  pub are_further : All (λ pair. is_more (attribute_of pair).value ≡ true) further
+  pub go_on : GoOnIn (length (blocks_of fork.extents.extents)) (is_full fork.extents.extents) (map attribute_of further)
+  pub extents_are : in_use fork.extents.extents ++ flat_map used_extents (map attribute_of further) ≡ extents
+  pub size_is : fork.logical_size ≡ size
+  pub total : fork.total_blocks ≡ length (blocks_of extents)
+  pub spelled : All (λ pair. IsTrue (is_attr pair.1)) (first ∷ further)
+
+-- The attributes have changed so, and the numbers of their tree, but not those of its nodes: values took these blocks, which were free, and
+-- gave back those. The bits say so, and the header counts the free blocks anew.
+pub record InValues (Changes : List Pair → List Pair → Type 0) (fresh freed : List ℕ) (old new : VolumeState) : Type 0 where
+  pub changes : Changes old.attribute_pairs new.attribute_pairs
+  pub are_fresh : AreFresh old fresh
+  pub flips : FlipsBits fresh freed old new
+  pub nodes : HasSameNodes old.attributes_tree new.attributes_tree
+  pub free : ℕ
+  pub next : ℕ
+  pub counts : free + length fresh ≡ old.head.free_blocks + length freed
+  pub rest : new ≡ record old { head = with_free free next old.head; attribute_pairs = new.attribute_pairs; attributes_tree = new.attributes_tree; bits = new.bits }

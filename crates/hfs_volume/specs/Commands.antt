@@ -13,11 +13,13 @@ use Rattle.hfs_model.specs.declared.plain.PlainNode.{PlainNode}
 use Rattle.hfs_model.specs.declared.plain.PlainEntry.{PlainEntry}
 use Rattle.hfs_model.specs.Step.{Place, step, to_make, to_node, to_rmdir, is_private_path, last_name}
 use Rattle.hfs_volume.specs.Sound.{IsSoundVolume}
-use Rattle.hfs_volume.specs.TreeOf.{tree_in}
-use Rattle.hfs_volume.specs.Records.{entries_of, attribute_of, Placed, is_link_type, id_of, is_empty}
+use Rattle.hfs_volume.specs.TreeOf.{tree_in, BytesOf}
+use Rattle.hfs_volume.specs.Records.{entries_of, attribute_of, Attribute, Placed, is_link_type, id_of, is_empty}
 use Rattle.hfs_volume.specs.Forks.{in_use}
-use Rattle.hfs_volume.specs.Content.{VolumeState, records_of}
-use Rattle.hfs_volume.specs.Changes.{AreSorted, DropsEntry, InAttributes, AddsEntry, ChangesValue, InCatalog}
+use Rattle.hfs_volume.specs.Values.{blocks_of_values}
+use Rattle.hfs_volume.specs.Content.{VolumeState, records_of, attributes_of}
+use Rattle.hfs_volume.specs.Changes.{AreSorted, DropsEntry, AddsEntry, ChangesValue, InCatalog, InValues}
+use Rattle.hfs_volume.specs.Data.{PutsInValues}
 
 -- an entry's fields as it is made
 pub record AreNewFields (drawn rights moment : ℕ) (fields : EntryFields) : Type 0 where
@@ -151,18 +153,20 @@ DropsAttributes id old new = new ≡ kept (λ pair. not ((attribute_of pair).id 
 abbrev pub with_folder_removed : VolumeHeader → VolumeHeader
 with_folder_removed head = record head { folder_count = head.folder_count - 1 }
 
--- the volume with the new header and the new attributes, and all else as it was
-abbrev pub without_attributes : VolumeState → VolumeState → VolumeState
-without_attributes old new = record old { head = with_folder_removed old.head; attribute_pairs = new.attribute_pairs; attributes_tree = new.attributes_tree }
+-- the blocks of all values of a folder or file
+abbrev pub blocks_of_all : List Attribute → ℕ → List ℕ
+blocks_of_all attributes id = blocks_of_values (kept (λ record_. record_.id == id) attributes)
 
--- `rmdir`: the folder of this CNID has no attributes any more and isn't there, and the folder above has one entry less
+-- `rmdir`: the folder of this CNID has no attributes any more, whose blocks are given back, and isn't there; the header counts a folder less,
+-- and the folder above has one entry less
 pub record RemovesFolder (id : ℕ) (old new : VolumeState) : Type 0 where
   pub entry : Placed
   pub stands : Contains (entries_of (records_of old)) entry
   pub is_entry : id_of entry ≡ id
-  pub bares : InAttributes (DropsAttributes id) (record old { head = with_folder_removed old.head }) (without_attributes old new)
+  pub bared : VolumeState
+  pub bares : InValues (DropsAttributes id) [] (blocks_of_all (attributes_of old) id) old bared
   pub dropped : VolumeState
-  pub drops : InCatalog (DropsEntry entry) (without_attributes old new) dropped
+  pub drops : InCatalog (DropsEntry entry) (record bared { head = with_folder_removed bared.head }) dropped
   pub sorted : AreSorted old.catalog_pairs
   pub counts : ChangesFields entry.parent (IsTouched old.head.modify_date 0 1) dropped new
 
@@ -173,30 +177,32 @@ with_counts next files folders head = record head { next_catalog_id = next; file
 -- ---- what each command does
 
 -- the bytes of a file are told by its CNID and its data fork, and a file of size 0 has none
-pub record AreBytesOf (bytes_of : FileRecord → List ℕ) : Type 0 where
-  pub by_fork : (file : FileRecord) (fields : EntryFields) → fields.id ≡ file.fields.id → bytes_of (record file { fields = fields }) ≡ bytes_of file
-  pub none : (file : FileRecord) → file.data_fork.logical_size ≡ 0 → bytes_of file ≡ []
+pub record AreBytesOf (bytes_of : BytesOf) : Type 0 where
+  pub by_fork : (file : FileRecord) (fields : EntryFields) → fields.id ≡ file.fields.id → bytes_of.file (record file { fields = fields }) ≡ bytes_of.file file
+  pub none : (file : FileRecord) → file.data_fork.logical_size ≡ 0 → bytes_of.file file ≡ []
 
 -- Where the step of `mkdir` refuses nothing, the lists that its change leads to are those of a sound volume, and tell the step's tree.
 abbrev pub MkdirDoes : Type 0
 MkdirDoes =
-    (path : List (List ℕ)) (at : Place) (old new : VolumeState) (bytes_of : FileRecord → List ℕ) → AreBytesOf bytes_of → IsSoundVolume old → is_private_path path ≡ false → is_empty (last_name path) ≡ false
+    (path : List (List ℕ)) (at : Place) (old new : VolumeState) (bytes_of : BytesOf) → AreBytesOf bytes_of → IsSoundVolume old → is_private_path path ≡ false → is_empty (last_name path) ≡ false
     → to_make (tree_in old bytes_of) path ≡ Ok at → MakesEntry true at old new → IsSoundVolume new × (tree_in new bytes_of ≡ (step (tree_in old bytes_of) (command.Mkdir path)).1)
 
 -- Where the step of `create` refuses nothing, the lists that its change leads to are those of a sound volume, and tell the step's tree.
 abbrev pub CreateDoes : Type 0
 CreateDoes =
-    (path : List (List ℕ)) (at : Place) (old new : VolumeState) (bytes_of : FileRecord → List ℕ) → AreBytesOf bytes_of → IsSoundVolume old → is_private_path path ≡ false → is_empty (last_name path) ≡ false
+    (path : List (List ℕ)) (at : Place) (old new : VolumeState) (bytes_of : BytesOf) → AreBytesOf bytes_of → IsSoundVolume old → is_private_path path ≡ false → is_empty (last_name path) ≡ false
     → to_make (tree_in old bytes_of) path ≡ Ok at → MakesEntry false at old new → IsSoundVolume new × (tree_in new bytes_of ≡ (step (tree_in old bytes_of) (command.Create path)).1)
 
 -- Where the step of `chmod` refuses nothing, the lists that its change leads to are those of a sound volume, and tell the step's tree.
 abbrev pub ChmodDoes : Type 0
 ChmodDoes =
-    (path : List (List ℕ)) (mode : ℕ) (node : PlainNode) (old new : VolumeState) (bytes_of : FileRecord → List ℕ) → AreBytesOf bytes_of → IsSoundVolume old
+    (path : List (List ℕ)) (mode : ℕ) (node : PlainNode) (old new : VolumeState) (bytes_of : BytesOf) → AreBytesOf bytes_of → IsSoundVolume old
     → to_node (tree_in old bytes_of) path ≡ Ok node → ChangesMode node.id mode old new → IsSoundVolume new × (tree_in new bytes_of ≡ (step (tree_in old bytes_of) (command.Chmod path mode)).1)
 
--- Where the step of `rmdir` refuses nothing, the lists that its change leads to are those of a sound volume, and tell the step's tree.
+-- Where the step of `rmdir` refuses nothing, the lists that its change leads to are those of a sound volume, and tell the step's tree; the
+-- folder's values have no blocks, and all others have theirs.
 abbrev pub RmdirDoes : Type 0
 RmdirDoes =
-    (path : List (List ℕ)) (at : PlainEntry) (old new : VolumeState) (bytes_of : FileRecord → List ℕ) → AreBytesOf bytes_of → IsSoundVolume old
-    → to_rmdir (tree_in old bytes_of) path ≡ Ok at → RemovesFolder at.id old new → IsSoundVolume new × (tree_in new bytes_of ≡ (step (tree_in old bytes_of) (command.Rmdir path)).1)
+    (path : List (List ℕ)) (at : PlainEntry) (old new : VolumeState) (bytes_of : BytesOf) → AreBytesOf bytes_of → IsSoundVolume old
+    → to_rmdir (tree_in old bytes_of) path ≡ Ok at → RemovesFolder at.id old new
+    → IsSoundVolume new × (tree_in new bytes_of ≡ (step (tree_in old bytes_of) (command.Rmdir path)).1) × PutsInValues (tree_in old bytes_of) (command.Rmdir path) old new

@@ -1,4 +1,5 @@
 -- How a sound volume is kept sound: what each change keeps, and what it does to the numbers that are counted.
+use Rattle.hfs_volume.specs.Values.{IsValue}
 use Rattle.std.specs.Prelude.{◌≡◌, ◌≢◌, ◌⊎◌, ◌↔◌, ◌<◌, ◌≤◌, ℕ, ◌+◌, ◌==◌, ◌&&◌, Bool, true, false, List, [], length, count_by, All, Contains, None, if◌then◌else◌}
 use Rattle.std.specs.List.{flat_map}
 use Rattle.cat_records.specs.declared.record.CatRecord.{CatRecord}
@@ -7,15 +8,15 @@ use Rattle.volume_header.specs.declared.header.VolumeHeader.{VolumeHeader}
 use Rattle.hfs_model.specs.Step.{private_name, is_private_name}
 use Rattle.hfs_volume.specs.Records.{Placed, Overflow, entries_of, record_at, is_folder, is_file, is_thread, is_link, id_of, special_of, attribute_of, is_empty}
 use Rattle.hfs_volume.specs.Forks.{Owned, forks_in, blocks_owned, in_use, bad_blocks_id}
-use Rattle.hfs_volume.specs.Content.{VolumeState, is_set, records_of, overflow_in_volume}
+use Rattle.hfs_volume.specs.Content.{VolumeState, is_set, records_of, overflow_in_volume, attributes_of}
 use Rattle.hfs_volume.specs.Entries.{AreThreaded, AreRooted, HaveIds, AreCounted, LiesIn, IsUserId, count_in}
 use Rattle.hfs_volume.specs.Links.{is_shared_file, AreGoodLinks, HaveLinkCounts, IsGoodLink, IsHidden, links_to}
-use Rattle.hfs_volume.specs.Attributes.{AreAttributes, HasOwner}
-use Rattle.hfs_volume.specs.Blocks.{HasSizes, GoesOn, IsGoodHeader, AgreesWith, HasFiles, HasForks, HasBits, used_in, is_among, count_used}
+use Rattle.hfs_volume.specs.Attributes.{AreAttributes, HasOwner, IsAttribute}
+use Rattle.hfs_volume.specs.Blocks.{HasSizes, GoesOn, IsGoodHeader, AgreesWith, HasFiles, HasForks, HasBits, used_in, is_among, count_used, HasValueSizes}
 use Rattle.hfs_volume.specs.Reclaim.{IsTreeFork}
 use Rattle.hfs_volume.specs.Sound.{IsSoundVolume}
 use Rattle.hfs_volume.specs.TreeOf.{is_hidden}
-use Rattle.hfs_volume.specs.Changes.{AreSorted, AddsEntry, DropsEntry, MovesEntry, ChangesValue, InCatalog, AddsAttribute, DropsAttribute, InAttributes, PutsBlocks, GrowsFile, InHeader}
+use Rattle.hfs_volume.specs.Changes.{AreSorted, AddsEntry, DropsEntry, MovesEntry, ChangesValue, InCatalog, AddsAttribute, DropsAttribute, InAttributes, PutsBlocks, GrowsFile, InHeader, TradesBlocks}
 
 -- ---- what holds between the changes of a command
 
@@ -173,10 +174,6 @@ abbrev pub AttributeAdded : Type 0
 AttributeAdded =
     (id : ℕ) (name value : List ℕ) (old new : VolumeState) → InAttributes (AddsAttribute id name value) old new → HasOwner (records_of old) id → 0 < length name → IsShaped old → IsShaped new × CountsSame old new
 
--- An attribute that is removed, if it is there, keeps the rules, and nothing that is counted changes.
-abbrev pub AttributeRemoved : Type 0
-AttributeRemoved = (id : ℕ) (name : List ℕ) (old new : VolumeState) → InAttributes (DropsAttribute id name) old new → IsShaped old → IsShaped new × CountsSame old new
-
 -- a file that isn't one of the journal's
 abbrev pub IsUserFile : ℕ → VolumeState → Type 0
 IsUserFile id volume = (entry : Placed) → Contains (entries_in volume) entry → id_of entry ≡ id → (entry.parent ≡ 2) × (is_private_name entry.name ≡ true) → ⊥
@@ -219,3 +216,21 @@ HeaderChanged = (old new : VolumeState) → InHeader old new → IsGoodHeader ne
 -- whether a folder is hidden is computed rightly
 abbrev pub HiddenIsComputed : Type 0
 HiddenIsComputed = (records : List Placed) (next folder : ℕ) → HaveIds next (entries_of records) → AreRooted (entries_of records) → IsHidden records folder ↔ (is_hidden records folder ≡ true)
+
+-- ---- values in forks
+
+-- What values take and give back keeps the rules, where each record is one of an attribute and each value is one: each bit is right again, and
+-- so many more blocks are used as are fresh, and so many fewer as are given back.
+abbrev pub ValuesPut : Type 0
+ValuesPut =
+    (fresh freed : List ℕ) (old new : VolumeState) → TradesBlocks fresh freed old new
+    → ((pair : Pair) → Contains new.attribute_pairs pair → IsAttribute (records_of old) pair)
+    → All (IsValue (attributes_of new)) (attributes_of new)
+    → All (HasValueSizes old.head.total_blocks old.head.block_size (attributes_of new)) (attributes_of new)
+    → HasRightBits old → IsShaped old → IsShaped new × HasRightBits new × CountsBlocks (length fresh) (length freed) old new
+
+-- An attribute that is removed gives the blocks of its value back: the same.
+abbrev pub ValueFreed : Type 0
+ValueFreed =
+    (id : ℕ) (name : List ℕ) (freed : List ℕ) (old new : VolumeState) → DropsAttribute id name old.attribute_pairs new.attribute_pairs → TradesBlocks [] freed old new → HasRightBits old → IsShaped old
+    → IsShaped new × HasRightBits new × CountsBlocks 0 (length freed) old new

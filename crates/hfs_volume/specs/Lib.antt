@@ -12,6 +12,7 @@ pub mod Data
 pub mod Entries
 pub mod Findings
 pub mod Forks
+pub mod Inline
 pub mod Laws
 pub mod Links
 pub mod Mount
@@ -22,5 +23,6 @@ pub mod Reclaiming
 pub mod Records
 pub mod Sound
 pub mod TreeOf
+pub mod Values
 pub mod Weight
 pub mod Writing

@@ -1,6 +1,5 @@
 -- What `mv`, `rm` and `ln` do to the lists of a volume: the changes that its code hands in, and what they lead to.
 use Rattle.std.specs.Prelude.{◌≡◌, ◌⊎◌, ◌<◌, ℕ, ◌+◌, ◌-◌, ◌^◌, nat_lt, true, false, List, Contains, Ok, Some, None, is_some, codes, if◌then◌else◌}
-use Rattle.cat_records.specs.declared.record.FileRecord.{FileRecord}
 use Rattle.cat_records.specs.declared.record.CatRecord.{CatRecord}
 use Rattle.cat_records.specs.declared.record.CatRecord.TheVariants.{Folder, File, Thread}
 use Rattle.hfs_language.specs.declared.command.Command.TheVariants as command
@@ -10,7 +9,7 @@ use Rattle.hfs_volume.specs.Records.{Placed, entries_of, is_empty, id_of, is_lin
 use Rattle.hfs_volume.specs.Links.{private_id, node_name}
 use Rattle.hfs_volume.specs.Content.{VolumeState, records_of}
 use Rattle.hfs_volume.specs.Sound.{IsSoundVolume}
-use Rattle.hfs_volume.specs.TreeOf.{tree_in}
+use Rattle.hfs_volume.specs.TreeOf.{tree_in, BytesOf}
 use Rattle.hfs_volume.specs.Changes.{AreSorted, AddsEntry, DropsEntry, MovesEntry, InCatalog}
 use Rattle.hfs_volume.specs.Commands.{AreBytesOf, ChangesFields, IsTouched, IsMarkedAlone, IsRecounted, IsRecountedAlone, IsMarkedLinked, with_counts, IsNewValue, IsEmptyFork}
 
@@ -202,13 +201,13 @@ pub record LinksMore (at : PlainEntry) (to : Place) (old new : VolumeState) : Ty
 -- step's tree.
 abbrev pub MvDoes : Type 0
 MvDoes =
-    (from to : List (List ℕ)) (at : PlainEntry) (goal : Place) (old new : VolumeState) (bytes_of : FileRecord → List ℕ) → AreBytesOf bytes_of → IsSoundVolume old → is_private_path to ≡ false → is_empty (last_name to) ≡ false
+    (from to : List (List ℕ)) (at : PlainEntry) (goal : Place) (old new : VolumeState) (bytes_of : BytesOf) → AreBytesOf bytes_of → IsSoundVolume old → is_private_path to ≡ false → is_empty (last_name to) ≡ false
     → to_mv (tree_in old bytes_of) from to ≡ Ok (at, goal) → Moves at goal old new → IsSoundVolume new × (tree_in new bytes_of ≡ (step (tree_in old bytes_of) (command.Mv from to)).1)
 
 -- The same for `rm`, in each of its three cases.
 abbrev pub RmDoes : Type 0
 RmDoes =
-    (path : List (List ℕ)) (at : PlainEntry) (old new : VolumeState) (bytes_of : FileRecord → List ℕ) → AreBytesOf bytes_of → IsSoundVolume old
+    (path : List (List ℕ)) (at : PlainEntry) (old new : VolumeState) (bytes_of : BytesOf) → AreBytesOf bytes_of → IsSoundVolume old
     → to_rm (tree_in old bytes_of) path ≡ Ok at → Removes at old new → IsSoundVolume new × (tree_in new bytes_of ≡ (step (tree_in old bytes_of) (command.Rm path)).1)
 
 -- the first link of the file that the entry names, or a later one
@@ -218,5 +217,5 @@ Links at goal old new = LinksFirst at goal old new ⊎ LinksMore at goal old new
 -- The same for `ln`, for the first link of a file and for a later one.
 abbrev pub LnDoes : Type 0
 LnDoes =
-    (from to : List (List ℕ)) (at : PlainEntry) (goal : Place) (old new : VolumeState) (bytes_of : FileRecord → List ℕ) → AreBytesOf bytes_of → IsSoundVolume old → is_private_path to ≡ false → is_empty (last_name to) ≡ false
+    (from to : List (List ℕ)) (at : PlainEntry) (goal : Place) (old new : VolumeState) (bytes_of : BytesOf) → AreBytesOf bytes_of → IsSoundVolume old → is_private_path to ≡ false → is_empty (last_name to) ≡ false
     → to_ln (tree_in old bytes_of) from to ≡ Ok (at, goal) → Links at goal old new → IsSoundVolume new × (tree_in new bytes_of ≡ (step (tree_in old bytes_of) (command.Ln from to)).1)

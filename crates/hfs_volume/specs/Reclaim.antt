@@ -1,4 +1,5 @@
 -- Housekeeping: steps that give blocks, attributes and entries back which no name leads to any more.
+use Rattle.hfs_volume.specs.Values.{value_blocks}
 use Rattle.std.specs.Prelude.{◌≡◌, ◌≢◌, ◌⊎◌, ◌<◌, ◌≤◌, ℕ, ◌+◌, ◌-◌, ◌*◌, ◌/◌, ◌%◌, ◌^◌, ◌==◌, ◌&&◌, nat_lt, Bool, false, not, List, [], ◌∷◌, length, take, find, slice_index, Option, Some, None, Ok, if◌then◌else◌}
 use Rattle.std.specs.Str.{bytes_eq}
 use Rattle.sector_disk.specs.Space.{AgreesOutside}
@@ -19,7 +20,7 @@ use Rattle.hfs_volume.specs.Sound.{IsSound}
 use Rattle.hfs_volume.specs.TreeOf.{tree_of}
 use Rattle.hfs_volume.specs.Aside.{IsAside, IsFreeSector}
 use Rattle.hfs_volume.specs.Cost.{cost_of}
-use Rattle.hfs_volume.specs.Weight.{free_blocks, room_with, needs_for, edits, cut_cost, file_fork, file_blocks, weight}
+use Rattle.hfs_volume.specs.Weight.{free_blocks, room_with, needs_for, edits, cut_cost, file_fork, file_blocks, weight, with_values, value_change}
 
 -- ---- forks of a volume, by their file and kind
 
@@ -110,7 +111,7 @@ next_reclaim volume shrunk = if has_surplus_left volume shrunk then shrunk_step 
 unfoldable pub reclaim_cost_with : ℕ → List Bool → VolumeState → Reclaim → Cost
 reclaim_cost_with capacity free volume (CutShrunk id) = cut_cost (room_with capacity free volume)
 reclaim_cost_with capacity free volume (CutOrphan id kind) = cut_cost (room_with capacity free volume)
-reclaim_cost_with capacity free volume (DropAttribute id name) = cost_of (needs_for free volume (edits 0 0 1 1) None) (room_with capacity free volume)
+reclaim_cost_with capacity free volume (DropAttribute id name) = cost_of (with_values free (Some (value_change volume id name 0)) (needs_for free volume (edits 0 0 1 1) None)) (room_with capacity free volume)
 reclaim_cost_with capacity free volume (DropOrphan id) = cost_of (needs_for free volume (edits 0 2 0 1) None) (room_with capacity free volume)
 
 -- what a step of reclaiming costs, of all free blocks
@@ -146,12 +147,17 @@ pub record CutsFork (keep : ℕ) (old new : List ℕ) : Type 0 where
   pub fewer : left < length old
   pub is : new ≡ take left old
 
+-- all values of attributes have the blocks that they had
+abbrev pub SameValues : VolumeState → VolumeState → Type 0
+SameValues old new = (id : ℕ) (name : List ℕ) → value_blocks (attributes_of new) id name ≡ value_blocks (attributes_of old) id name
+
 -- Of all forks this one alone is cut, to no less than this.
 pub record CutsAlone (id kind keep : ℕ) (old new : VolumeState) : Type 0 where
   pub cut : CutsFork keep (blocks_at old id kind) (blocks_at new id kind)
   pub others : (other kind_other : ℕ) → (other ≢ id) ⊎ (kind_other ≢ kind) → blocks_at new other kind_other ≡ blocks_at old other kind_other
+  pub values : SameValues old new
 
--- all forks but those of the trees have the blocks that they had
+-- all forks of files but those of the trees have the blocks that they had
 abbrev pub SameFiles : VolumeState → VolumeState → Type 0
 SameFiles old new = (id kind : ℕ) → ¬ IsTreeFork id → blocks_at new id kind ≡ blocks_at old id kind
 
@@ -164,7 +170,7 @@ abbrev pub Does : Reclaim → VolumeState → VolumeState → Type 0
 Does (CutShrunk id) old new = CutsAlone id data_kind (blocks_wanted old id data_kind) old new
 Does (CutOrphan id kind) old new = CutsAlone id kind 0 old new
 Does (DropAttribute id name) old new = (attributes_of new ≡ kept (λ attribute. not (is_attribute id name attribute)) (attributes_of old)) × SameFiles old new
-Does (DropOrphan id) old new = (entry_of (records_of new) id ≡ None) × SameFiles old new
+Does (DropOrphan id) old new = (entry_of (records_of new) id ≡ None) × SameFiles old new × SameValues old new
 
 -- the volume is sound as it was, and has the tree that it had
 pub record KeepsTree (old new : Content) : Type 0 where
@@ -219,6 +225,7 @@ pub record GrowsTreeFirst (capacity : ℕ) (shrunk : Option ℕ) (old new : Cont
   pub some : 0 < slice_index grow 0 + slice_index grow 1 + slice_index grow 2
   pub grows : GrowsTrees (first_growth grow) (volume_of old) (volume_of new)
   pub files : SameFiles (volume_of old) (volume_of new)
+  pub values : SameValues (volume_of old) (volume_of new)
   pub keeps : KeepsTree old new
 
 -- the header as a mount writes it: by a system that keeps the journal, not unmounted, and written once more

@@ -2,15 +2,15 @@
 use Rattle.std.specs.Prelude.{◌≡◌, ℕ, List, [], Contains, Option, Some}
 use Rattle.std.specs.List.{flat_map}
 use Rattle.btree_node.specs.Levels.{Pair}
-use Rattle.cat_records.specs.declared.record.FileRecord.{FileRecord}
 use Rattle.hfs_volume.specs.Records.{Placed, id_of, attribute_of}
 use Rattle.hfs_volume.specs.Forks.{forks_in, blocks_owned}
 use Rattle.hfs_volume.specs.Links.{orphans_of}
-use Rattle.hfs_volume.specs.Content.{VolumeState, records_of, overflow_in_volume}
+use Rattle.hfs_volume.specs.Values.{value_blocks}
+use Rattle.hfs_volume.specs.Content.{VolumeState, records_of, overflow_in_volume, attributes_of}
 use Rattle.hfs_volume.specs.Reclaim.{Does, DropAttribute, DropOrphan, next_reclaim}
 use Rattle.hfs_volume.specs.Sound.{IsSoundVolume}
-use Rattle.hfs_volume.specs.TreeOf.{tree_in}
-use Rattle.hfs_volume.specs.Changes.{AreSorted, DropsEntry, DropsAttribute, InCatalog, InAttributes}
+use Rattle.hfs_volume.specs.TreeOf.{tree_in, BytesOf}
+use Rattle.hfs_volume.specs.Changes.{AreSorted, DropsEntry, DropsAttribute, InCatalog, InValues}
 use Rattle.hfs_volume.specs.Commands.{AreBytesOf, ChangesFields, IsRecounted}
 use Rattle.hfs_volume.specs.Naming.{one_file_less}
 
@@ -29,14 +29,15 @@ pub record DropsOrphanEntry (id : ℕ) (old new : VolumeState) : Type 0 where
 -- The lists that this leads to are those of a sound volume, and tell the tree that was told; the entry is gone, and every fork has its blocks.
 abbrev pub OrphanDropped : Type 0
 OrphanDropped =
-    (id : ℕ) (old new : VolumeState) (bytes_of : FileRecord → List ℕ) → AreBytesOf bytes_of → IsSoundVolume old → DropsOrphanEntry id old new
+    (id : ℕ) (old new : VolumeState) (bytes_of : BytesOf) → AreBytesOf bytes_of → IsSoundVolume old → DropsOrphanEntry id old new
     → IsSoundVolume new × (tree_in new bytes_of ≡ tree_in old bytes_of) × Does (DropOrphan id) old new
 
--- An attribute of a file that lost its last name goes: the same, and it is that attribute alone.
+-- An attribute of a file that lost its last name goes, whose blocks are given back: the same, and it is that attribute alone.
 abbrev pub OrphanBared : Type 0
 OrphanBared =
-    (entry : Placed) (name : List ℕ) (old new : VolumeState) (bytes_of : FileRecord → List ℕ) → AreSorted old.catalog_pairs → IsSoundVolume old → Contains (orphans_of (records_of old)) entry
-    → InAttributes (DropsAttribute (id_of entry) name) old new → IsSoundVolume new × (tree_in new bytes_of ≡ tree_in old bytes_of) × Does (DropAttribute (id_of entry) name) old new
+    (entry : Placed) (name : List ℕ) (old new : VolumeState) (bytes_of : BytesOf) → AreSorted old.catalog_pairs → IsSoundVolume old → Contains (orphans_of (records_of old)) entry
+    → InValues (DropsAttribute (id_of entry) name) [] (value_blocks (attributes_of old) (id_of entry) name) old new
+    → IsSoundVolume new × (tree_in new bytes_of ≡ tree_in old bytes_of) × Does (DropAttribute (id_of entry) name) old new
 
 -- ---- the next step is one of these
 

@@ -1,5 +1,5 @@
 -- The records of a volume's three trees, decoded, and what each of them is.
-use Rattle.std.specs.Prelude.{ℕ, ◌==◌, ◌&&◌, Bool, true, false, not, List, [], ◌∷◌, ◌++◌, length, drop, map, find, decimal, Option}
+use Rattle.std.specs.Prelude.{ℕ, ◌==◌, ◌&&◌, Bool, true, false, not, List, [], ◌∷◌, ◌++◌, length, drop, map, find, decimal, Option, if◌then◌else◌}
 use Rattle.std.specs.Str.{bytes_eq}
 use Rattle.std.specs.Ordering.{is_lt, nat_cmp, ordering_then}
 use Rattle.std.specs.Cmp.Lexicographic.{slice_cmp}
@@ -15,7 +15,7 @@ use Rattle.cat_records.specs.declared.record.CatRecord.TheVariants.{Folder, File
 use Rattle.cat_records.specs.declared.attribute.AttrRecord.{AttrRecord}
 use Rattle.cat_records.specs.declared.attribute.AttrRecord.TheVariants as attribute
 use Rattle.cat_records.specs.Records.{catalog_of}
-use Rattle.cat_records.specs.Attributes.{attr_of}
+use Rattle.cat_records.specs.Attributes.{attr_of, is_attr}
 use Rattle.hfs_model.specs.Sorted.{kept}
 
 -- ---- the catalog
@@ -148,9 +148,13 @@ pub record Attribute : Type 0 where
   pub start : ℕ
   pub value : AttrRecord
 
+-- the record that bytes spell; those that spell none have no extents, and are no attribute
+abbrev pub spelled_value : List ℕ → AttrRecord
+spelled_value bytes = if is_attr bytes then attr_of bytes else attribute.Inline []
+
 -- a record of the attributes file, read from its pair
 unfoldable pub attribute_of : Pair → Attribute
-attribute_of pair = record { id = attr_file pair.0; name = attr_units pair.0; start = attr_start pair.0; value = attr_of pair.1 }
+attribute_of pair = record { id = attr_file pair.0; name = attr_units pair.0; start = attr_start pair.0; value = spelled_value pair.1 }
 
 -- whether an attribute's value stands in its record
 abbrev pub is_inline : AttrRecord → Bool

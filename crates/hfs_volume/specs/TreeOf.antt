@@ -10,6 +10,10 @@ use Rattle.hfs_model.specs.Sorted.{kept}
 use Rattle.hfs_model.specs.Step.{is_private_name}
 use Rattle.hfs_volume.specs.Records.{Placed, Attribute, entries_of, is_empty, is_folder, is_link, id_of, special_of, entry_of, inline_bytes}
 use Rattle.hfs_volume.specs.Forks.{extents_of, data_kind}
+use Rattle.hfs_volume.specs.Values.{value_extents}
+use Rattle.hx_bytes.specs.declared.extents.Extent.{Extent}
+use Rattle.cat_records.specs.declared.attribute.AttrRecord.{AttrRecord}
+use Rattle.cat_records.specs.declared.attribute.AttrRecord.TheVariants as attribute
 use Rattle.hfs_volume.specs.Links.{private_id, is_shared_file}
 use Rattle.hfs_volume.specs.Content.{VolumeState, volume_of, records_of, overflow_in_volume, attributes_of, fork_bytes}
 use Rattle.hfs_model.specs.declared.plain.PlainAttribute.{PlainAttribute}
@@ -70,6 +74,27 @@ named_id records placed = if is_link placed then id_or_0 (shared_file records (s
 abbrev pub plain_entry : List Placed → Placed → PlainEntry
 plain_entry records placed = record { parent = placed.parent; name = placed.name; folder = is_folder placed.value; id = named_id records placed }
 
+-- ---- the bytes
+
+-- What a content has in the blocks of files and of values.
+pub record BytesOf : Type 0 where
+  -- of a file, by its record
+  pub file : FileRecord → List ℕ
+  -- of a value of so many bytes in these extents
+  pub value : ℕ → List Extent → List ℕ
+
+-- an attribute with its value in its record, wherever it is kept; further records give none
+abbrev pub with_value : BytesOf → List Attribute → Attribute → AttrRecord → List Attribute
+with_value bytes_of attributes record_ (attribute.Inline value) = record_ ∷ []
+with_value bytes_of attributes record_ (attribute.Fork fork) = record record_ { value = attribute.Inline (bytes_of.value fork.logical_size (value_extents attributes record_.id record_.name)) } ∷ []
+with_value bytes_of attributes record_ (attribute.More extents) = []
+
+-- all attributes, each with its value in its record
+unfoldable pub valued : BytesOf → List Attribute → List Attribute
+valued bytes_of attributes = flat_map (λ record_. with_value bytes_of attributes record_ record_.value) attributes
+
+-- ---- entries
+
 -- the entry of a record, where users see one
 abbrev pub seen_entry : List Placed → Placed → List PlainEntry
 seen_entry records placed = if is_seen records placed then plain_entry records placed ∷ [] else []
@@ -111,30 +136,30 @@ abbrev pub is_plain_file : List Placed → Placed → Bool
 is_plain_file records placed = (is_seen records placed && not (is_link placed)) || is_linked records placed
 
 -- the folder or file of an entry, where it has a name; the bytes of files are these
-abbrev pub node_in : List Attribute → List Placed → (FileRecord → List ℕ) → Placed → CatRecord → List PlainNode
+abbrev pub node_in : List Attribute → List Placed → BytesOf → Placed → CatRecord → List PlainNode
 node_in attributes records bytes_of placed (Folder folder) = if is_plain_folder records placed then plain_node attributes folder.fields true [] false ∷ [] else []
-node_in attributes records bytes_of placed (File file) = if is_plain_file records placed then plain_node attributes file.fields false (bytes_of file) (is_linked records placed) ∷ [] else []
+node_in attributes records bytes_of placed (File file) = if is_plain_file records placed then plain_node attributes file.fields false (bytes_of.file file) (is_linked records placed) ∷ [] else []
 node_in attributes records bytes_of placed (Thread thread) = []
 
 -- the folder or file of a record, if there is one
-abbrev pub node_found : List Attribute → List Placed → (FileRecord → List ℕ) → Option Placed → List PlainNode
+abbrev pub node_found : List Attribute → List Placed → BytesOf → Option Placed → List PlainNode
 node_found attributes records bytes_of None = []
 node_found attributes records bytes_of (Some entry) = node_in attributes records bytes_of entry entry.value
 
 -- the folder or file of the CNID under which a record without a name, a thread, stands; threads stand in the order of CNIDs
-abbrev pub threaded_node : List Attribute → List Placed → (FileRecord → List ℕ) → Placed → List PlainNode
+abbrev pub threaded_node : List Attribute → List Placed → BytesOf → Placed → List PlainNode
 threaded_node attributes records bytes_of placed = if is_empty placed.name then node_found attributes records bytes_of (entry_of records placed.parent) else []
 
 -- ---- the tree
 
 -- The plain tree that the lists of a sound volume tell. Entries stand in the order of the catalog's keys, and folders and files in that of
 -- their threads'.
-unfoldable pub tree_in : VolumeState → (FileRecord → List ℕ) → PlainTree
+unfoldable pub tree_in : VolumeState → BytesOf → PlainTree
 tree_in volume bytes_of =
     let records = records_of volume in
     record {
       entries = flat_map (seen_entry records) records;
-      nodes = flat_map (threaded_node (attributes_of volume) records bytes_of) records;
+      nodes = flat_map (threaded_node (valued bytes_of (attributes_of volume)) records bytes_of) records;
       next_id = volume.head.next_catalog_id;
       has_private = is_some (private_id records);
       moment = volume.head.modify_date;
@@ -144,6 +169,10 @@ tree_in volume bytes_of =
 unfoldable pub file_bytes : Content → FileRecord → List ℕ
 file_bytes content file = take file.data_fork.logical_size (fork_bytes content (extents_of (overflow_in_volume (volume_of content)) file.fields.id data_kind file.data_fork))
 
+-- the bytes of a content: those of its files, and those of its values, which are the first of their blocks
+abbrev pub bytes_in : Content → BytesOf
+bytes_in content = record { file = file_bytes content; value = λ size extents. take size (fork_bytes content extents) }
+
 -- The plain tree of a sound content.
 unfoldable pub tree_of : Content → PlainTree
-tree_of content = tree_in (volume_of content) (file_bytes content)
+tree_of content = tree_in (volume_of content) (bytes_in content)

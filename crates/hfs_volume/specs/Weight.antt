@@ -1,5 +1,7 @@
 -- What a volume has, and what a command takes of it.
-use Rattle.std.specs.Prelude.{ℕ, ◌+◌, ◌-◌, ◌*◌, ◌/◌, ◌==◌, ◌&&◌, ◌||◌, nat_lt, min, Bool, false, not, List, [], ◌∷◌, length, map, Option, Some, None, Result, Ok, Err, if◌then◌else◌}
+use Rattle.std.specs.Prelude.{ℕ, ◌+◌, ◌-◌, ◌*◌, ◌/◌, ◌==◌, ◌&&◌, ◌||◌, nat_lt, min, Bool, false, not, List, [], ◌∷◌, length, map, Option, Some, None, Result, Ok, Err, if◌then◌else◌, sum, slice_index}
+use Rattle.hfs_model.specs.declared.plain.PlainAttribute.{PlainAttribute}
+use Rattle.hfs_volume.specs.Values.{longest_inline, value_extents, value_blocks}
 use Rattle.std.specs.List.{range_with_len}
 use Rattle.hx_bytes.specs.declared.extents.Extent.{Extent}
 use Rattle.hx_bytes.specs.declared.extents.ForkRecord.{ForkRecord}
@@ -19,14 +21,15 @@ use Rattle.hfs_volume.specs.declared.cost.Cost.TheVariants as cost
 use Rattle.hfs_volume.specs.declared.cost.Needs.{Needs}
 use Rattle.hfs_volume.specs.declared.cost.Room.{Room}
 use Rattle.hfs_volume.specs.declared.cost.TreeCost.{TreeCost}
+use Rattle.hfs_volume.specs.declared.cost.ValueChange.{ValueChange}
 use Rattle.hfs_model.specs.declared.plain.PlainEntry.{PlainEntry}
 use Rattle.hfs_model.specs.declared.plain.PlainNode.{PlainNode}
 use Rattle.hfs_model.specs.declared.plain.PlainTree.{PlainTree}
 use Rattle.hfs_model.specs.Plain.{names_of, node_at}
-use Rattle.hfs_model.specs.Step.{Place, to_rm, to_rmdir, to_mv, to_link, to_file, only_reads, size_written, is_same_file}
+use Rattle.hfs_model.specs.Step.{Place, to_rm, to_rmdir, to_mv, to_link, to_file, only_reads, size_written, is_same_file, to_set, to_attribute}
 use Rattle.hfs_volume.specs.Records.{Placed, Overflow, entry_of}
 use Rattle.hfs_volume.specs.Forks.{extents_of, parts_for, data_kind, extents_id, catalog_id, attributes_id}
-use Rattle.hfs_volume.specs.Content.{VolumeState, TreeFacts, is_set, records_of, overflow_in_volume, has_attributes}
+use Rattle.hfs_volume.specs.Content.{VolumeState, TreeFacts, is_set, records_of, overflow_in_volume, has_attributes, attributes_of}
 use Rattle.hfs_volume.specs.Cost.{cost_of, cost_or, load_refusal, overflow_records, no_tree, tree_at, node_sectors}
 
 -- ---- what a volume has
@@ -281,6 +284,69 @@ needs_for free volume many (Some put) =
       runs = runs;
     }
 
+-- ---- the values of attributes
+
+-- how many further records the value of this attribute has
+abbrev pub further_records : VolumeState → ℕ → List ℕ → ℕ
+further_records volume id name = overflow_records (length (value_extents (attributes_of volume) id name))
+
+-- how many blocks it has
+abbrev pub freed_blocks : VolumeState → ℕ → List ℕ → ℕ
+freed_blocks volume id name = length (value_blocks (attributes_of volume) id name)
+
+-- how many blocks a value of so many bytes takes: none where it is written into its record
+abbrev pub blocks_for_value : ℕ → ℕ → ℕ
+blocks_for_value block long = if nat_lt longest_inline long then parts_for long block else 0
+
+-- the value of an attribute goes, and one with so many blocks comes
+abbrev pub value_change : VolumeState → ℕ → List ℕ → ℕ → ValueChange
+value_change volume id name blocks = record { records = further_records volume id name; freed = freed_blocks volume id name; blocks = blocks }
+
+-- what a new value of so many bytes does to values: it takes the blocks that those need, and gives the old ones back; nothing where it is refused
+abbrev pub set_value : VolumeState → List ℕ → ℕ → Result PlainNode Refusal → Option ValueChange
+set_value volume name long (Ok node) = Some (value_change volume node.id name (blocks_for_value volume.head.block_size long))
+set_value volume name long (Err why) = None
+
+-- what the removal of an attribute does to values: its value has no blocks behind it; nothing where it is refused
+abbrev pub deleted_value : VolumeState → List ℕ → Result (PlainNode × PlainAttribute) Refusal → Option ValueChange
+deleted_value volume name (Ok pair) = Some (value_change volume pair.0.id name 0)
+deleted_value volume name (Err why) = None
+
+-- the values of all attributes of a folder go
+abbrev pub values_of_node : VolumeState → Option PlainNode → Option ValueChange
+values_of_node volume None = None
+values_of_node volume (Some node) = Some (record {
+  records = sum (map (λ (a : PlainAttribute). further_records volume node.id a.name) node.attributes);
+  freed = sum (map (λ (a : PlainAttribute). freed_blocks volume node.id a.name) node.attributes);
+  blocks = 0;
+})
+
+-- what a folder's removal does to the values of its attributes: all of them go; nothing where the removal is refused
+abbrev pub removed_values : VolumeState → PlainTree → Result PlainEntry Refusal → Option ValueChange
+removed_values volume tree (Ok entry) = values_of_node volume (node_at tree entry.id)
+removed_values volume tree (Err why) = None
+
+-- what a command does to values, where it sets or drops some
+abbrev pub values_of : VolumeState → PlainTree → Command → Option ValueChange
+values_of volume tree (command.SetAttr path name value) = set_value volume name (length value) (to_set tree path value)
+values_of volume tree (command.DelAttr path name) = deleted_value volume name (to_attribute tree path name)
+values_of volume tree (command.Rmdir path) = removed_values volume tree (to_rmdir tree path)
+values_of volume tree _ = None
+
+-- the runs that a value's blocks take
+abbrev pub runs_for : ℕ → List Bool → ℕ
+runs_for blocks free = if blocks == 0 then 0 else fewest_of blocks (free_runs free)
+
+-- the needs with those of values: further records go and come, and blocks do
+abbrev pub with_values : List Bool → Option ValueChange → Needs → Needs
+with_values free None needs = needs
+with_values free (Some change) needs = record needs {
+  edits = slice_index needs.edits 0 ∷ slice_index needs.edits 1 ∷ (slice_index needs.edits 2 + change.records + overflow_records (runs_for change.blocks free)) ∷ [];
+  new_blocks = change.blocks;
+  old_blocks = change.freed;
+  runs = runs_for change.blocks free;
+}
+
 -- ---- cut steps
 
 -- the sectors that a cut step puts at most
@@ -321,7 +387,7 @@ weight_with capacity free volume tree asked =
     if only_reads asked || changes_nothing tree asked then cost.Load 0 (0 ∷ 0 ∷ 0 ∷ [])
     else if needs_cut volume (data_of tree asked) then cut_cost (room_with capacity free volume)
     else if lacks_tree volume asked then cost.Refused refusal.NoTree
-    else cost_of (needs_for free volume (edits_of tree asked) (data_of tree asked)) (room_with capacity free volume)
+    else cost_of (with_values free (values_of volume tree asked) (needs_for free volume (edits_of tree asked) (data_of tree asked))) (room_with capacity free volume)
 
 -- the same where no block is held
 abbrev pub weight : ℕ → VolumeState → PlainTree → Command → Cost

@@ -4,7 +4,6 @@ use Rattle.std.specs.Prelude.{◌≡◌, ◌≢◌, ◌⊎◌, ◌<◌, ◌≤�
 use Rattle.sector_disk.specs.Space.{AgreesOutside}
 use Rattle.hx_bytes.specs.Field.{put_at}
 use Rattle.jnl_format.specs.Recovery.{Content, header_of_volume}
-use Rattle.volume_header.specs.declared.header.VolumeHeader.{VolumeHeader}
 use Rattle.cat_records.specs.declared.record.EntryFields.{EntryFields}
 use Rattle.cat_records.specs.declared.record.FileRecord.{FileRecord}
 use Rattle.cat_records.specs.declared.record.CatRecord.TheVariants.{File}
@@ -14,22 +13,18 @@ use Rattle.hfs_model.specs.Step.{step, to_write, to_trunc, padded}
 use Rattle.hfs_volume.specs.Records.{Placed, entries_of, id_of}
 use Rattle.hfs_volume.specs.Forks.{Owned, data_kind, blocks_owned, per_block_of, reserved_blocks, special_forks}
 use Rattle.hfs_volume.specs.Links.{orphans_of}
-use Rattle.hfs_volume.specs.Content.{VolumeState, volume_of, records_of, overflow_in_volume}
-use Rattle.hfs_volume.specs.Reclaim.{IsTreeFork, GrowsTree, Does, CutShrunk, CutOrphan, blocks_at, blocks_wanted}
+use Rattle.hfs_volume.specs.Content.{VolumeState, volume_of, records_of, attributes_of, overflow_in_volume}
+use Rattle.hfs_volume.specs.Reclaim.{IsTreeFork, GrowsTree, Does, CutShrunk, CutOrphan, blocks_at, blocks_wanted, SameValues}
 use Rattle.hfs_volume.specs.Data.{PutsInFork}
 use Rattle.hfs_volume.specs.Weight.{Data, first_block, new_blocks_of, old_blocks_of}
 use Rattle.hfs_volume.specs.Aside.{IsFreeSector}
 use Rattle.hfs_volume.specs.Sound.{IsSound, IsSoundVolume}
-use Rattle.hfs_volume.specs.TreeOf.{tree_in, file_bytes}
-use Rattle.hfs_volume.specs.Changes.{PutsBlocks, GrowsFile, with_fork}
+use Rattle.hfs_volume.specs.TreeOf.{tree_in, bytes_in, valued, BytesOf}
+use Rattle.hfs_volume.specs.Changes.{PutsBlocks, GrowsFile, with_fork, with_free}
 use Rattle.hfs_volume.specs.Commands.{AreBytesOf, ChangesFields, IsTouched}
 use Rattle.hfs_volume.specs.Laws.{IsUserFile}
 
 -- ---- the changes
-
--- a header with another number of free blocks, and another block at which the search for free ones begins
-abbrev pub with_free : ℕ → ℕ → VolumeHeader → VolumeHeader
-with_free free next head = record head { free_blocks = free; next_allocation = next }
 
 -- Some blocks of a file's fork have fresh ones in their place, and the header counts the free blocks anew.
 pub record PutsAndCounts (id kind from count : ℕ) (fresh : List ℕ) (old new : VolumeState) : Type 0 where
@@ -57,13 +52,21 @@ file_before puts = puts.puts.file.file
 abbrev pub file_after : {id kind from count : ℕ} {fresh : List ℕ} {old new : VolumeState} → PutsAndCounts id kind from count fresh old new → FileRecord
 file_after {id} {kind} puts = with_fork kind puts.puts.file.fork puts.puts.file.file
 
+-- all values of attributes have the bytes that they had
+abbrev pub KeepsValues : VolumeState → BytesOf → BytesOf → Type 0
+KeepsValues volume bytes_of bytes_after = valued bytes_after (attributes_of volume) ≡ valued bytes_of (attributes_of volume)
+
 -- all files but this one have the bytes that they had
-abbrev pub KeepsOthers : ℕ → VolumeState → (FileRecord → List ℕ) → (FileRecord → List ℕ) → Type 0
-KeepsOthers id volume bytes_of bytes_after = (p : Placed) (file : FileRecord) → Contains (entries_of (records_of volume)) p → p.value ≡ File file → id_of p ≢ id → bytes_after file ≡ bytes_of file
+abbrev pub KeepsFiles : ℕ → VolumeState → BytesOf → BytesOf → Type 0
+KeepsFiles id volume bytes_of bytes_after = (p : Placed) (file : FileRecord) → Contains (entries_of (records_of volume)) p → p.value ≡ File file → id_of p ≢ id → bytes_after.file file ≡ bytes_of.file file
+
+-- all files but this one and all values have the bytes that they had
+abbrev pub KeepsOthers : ℕ → VolumeState → BytesOf → BytesOf → Type 0
+KeepsOthers id volume bytes_of bytes_after = KeepsFiles id volume bytes_of bytes_after × KeepsValues volume bytes_of bytes_after
 
 -- The file has the bytes that are made of those that it had, and all others have theirs.
-pub record MakesBytes (make : List ℕ → List ℕ) {id from count : ℕ} {fresh : List ℕ} {old new : VolumeState} (does : RewritesFile id from count fresh old new) (bytes_of bytes_after : FileRecord → List ℕ) : Type 0 where
-  pub made : bytes_after (file_after does.puts) ≡ make (bytes_of (file_before does.puts))
+pub record MakesBytes (make : List ℕ → List ℕ) {id from count : ℕ} {fresh : List ℕ} {old new : VolumeState} (does : RewritesFile id from count fresh old new) (bytes_of bytes_after : BytesOf) : Type 0 where
+  pub made : bytes_after.file (file_after does.puts) ≡ make (bytes_of.file (file_before does.puts))
   pub others : KeepsOthers id old bytes_of bytes_after
 
 -- Blocks at the end of a fork are cut, and the header counts the free blocks anew: so many are left.
@@ -93,31 +96,31 @@ resized_bytes size bytes = take size (padded size bytes)
 -- step's tree.
 abbrev pub WriteDoes : Type 0
 WriteDoes =
-    (path : List (List ℕ)) (at : ℕ) (value : List ℕ) (file : PlainNode) (from count : ℕ) (fresh : List ℕ) (old new : VolumeState) (bytes_of bytes_after : FileRecord → List ℕ) → AreBytesOf bytes_after → IsSoundVolume old → 0 < length value
+    (path : List (List ℕ)) (at : ℕ) (value : List ℕ) (file : PlainNode) (from count : ℕ) (fresh : List ℕ) (old new : VolumeState) (bytes_of bytes_after : BytesOf) → AreBytesOf bytes_after → IsSoundVolume old → 0 < length value
     → to_write (tree_in old bytes_of) path at value ≡ Ok file → (does : RewritesFile file.id from count fresh old new) → MakesBytes (written_bytes at value) does bytes_of bytes_after
     → IsSoundVolume new × (tree_in new bytes_after ≡ (step (tree_in old bytes_of) (command.Write path at value)).1)
 
 -- `write` of no byte: the step's tree is the one that was told.
 abbrev pub WriteNothingDoes : Type 0
-WriteNothingDoes = (path : List (List ℕ)) (at : ℕ) (file : PlainNode) (old : VolumeState) (bytes_of : FileRecord → List ℕ) → to_write (tree_in old bytes_of) path at [] ≡ Ok file → tree_in old bytes_of ≡ (step (tree_in old bytes_of) (command.Write path at [])).1
+WriteNothingDoes = (path : List (List ℕ)) (at : ℕ) (file : PlainNode) (old : VolumeState) (bytes_of : BytesOf) → to_write (tree_in old bytes_of) path at [] ≡ Ok file → tree_in old bytes_of ≡ (step (tree_in old bytes_of) (command.Write path at [])).1
 
 -- The same for `trunc`, to a larger size, to a smaller one and to the one that the file has.
 abbrev pub TruncDoes : Type 0
 TruncDoes =
-    (path : List (List ℕ)) (size : ℕ) (file : PlainNode) (from count : ℕ) (fresh : List ℕ) (old new : VolumeState) (bytes_of bytes_after : FileRecord → List ℕ) → AreBytesOf bytes_after → IsSoundVolume old
+    (path : List (List ℕ)) (size : ℕ) (file : PlainNode) (from count : ℕ) (fresh : List ℕ) (old new : VolumeState) (bytes_of bytes_after : BytesOf) → AreBytesOf bytes_after → IsSoundVolume old
     → to_trunc (tree_in old bytes_of) path size ≡ Ok file → (does : RewritesFile file.id from count fresh old new) → MakesBytes (resized_bytes size) does bytes_of bytes_after
     → IsSoundVolume new × (tree_in new bytes_after ≡ (step (tree_in old bytes_of) (command.Trunc path size)).1)
 
 -- A step that cuts blocks past a file's size: the volume is sound, its tree is as it was, and of all forks this one alone is cut.
 abbrev pub ShrunkCut : Type 0
 ShrunkCut =
-    (id left count : ℕ) (old new : VolumeState) (bytes_of bytes_after : FileRecord → List ℕ) → IsSoundVolume old → IsUserFile id old → (does : CutsBlocks id data_kind left count old new) → blocks_wanted old id data_kind ≤ left
-    → bytes_after (file_after does.puts) ≡ bytes_of (file_before does.puts) → KeepsOthers id old bytes_of bytes_after → IsSoundVolume new × (tree_in new bytes_after ≡ tree_in old bytes_of) × Does (CutShrunk id) old new
+    (id left count : ℕ) (old new : VolumeState) (bytes_of bytes_after : BytesOf) → IsSoundVolume old → IsUserFile id old → (does : CutsBlocks id data_kind left count old new) → blocks_wanted old id data_kind ≤ left
+    → bytes_after.file (file_after does.puts) ≡ bytes_of.file (file_before does.puts) → KeepsOthers id old bytes_of bytes_after → IsSoundVolume new × (tree_in new bytes_after ≡ tree_in old bytes_of) × Does (CutShrunk id) old new
 
 -- A step that cuts blocks of a file that lost its last name: the same, whatever its bytes are.
 abbrev pub OrphanCut : Type 0
 OrphanCut =
-    (entry : Placed) (kind left count : ℕ) (old new : VolumeState) (bytes_of bytes_after : FileRecord → List ℕ) → IsSoundVolume old → Contains (orphans_of (records_of old)) entry → CutsBlocks (id_of entry) kind left count old new
+    (entry : Placed) (kind left count : ℕ) (old new : VolumeState) (bytes_of bytes_after : BytesOf) → IsSoundVolume old → Contains (orphans_of (records_of old)) entry → CutsBlocks (id_of entry) kind left count old new
     → KeepsOthers (id_of entry) old bytes_of bytes_after → IsSoundVolume new × (tree_in new bytes_after ≡ tree_in old bytes_of) × Does (CutOrphan (id_of entry) kind) old new
 
 -- `write` and `trunc` that put data: the file's data fork has the new blocks in place of the old ones from the first that is written on, and
@@ -135,9 +138,9 @@ RewriteKeepsBlocks = (id from : ℕ) (old new : VolumeState) → IsSoundVolume o
 -- that it had.
 abbrev pub GrowthKeeps : Type 0
 GrowthKeeps =
-    (id more : ℕ) (fresh : List ℕ) (old new : VolumeState) (bytes_of : FileRecord → List ℕ) → IsTreeFork id → IsSoundVolume old → GrowsAndCounts id more fresh old new
+    (id more : ℕ) (fresh : List ℕ) (old new : VolumeState) (bytes_of : BytesOf) → IsTreeFork id → IsSoundVolume old → GrowsAndCounts id more fresh old new
     → IsSoundVolume new × (tree_in new bytes_of ≡ tree_in old bytes_of) × GrowsTree id more old new
-    × ((other kind : ℕ) → (other ≢ id) ⊎ (kind ≢ data_kind) → blocks_at new other kind ≡ blocks_at old other kind)
+    × ((other kind : ℕ) → (other ≢ id) ⊎ (kind ≢ data_kind) → blocks_at new other kind ≡ blocks_at old other kind) × SameValues old new
 
 -- ---- the bytes of other files
 
@@ -152,4 +155,4 @@ IsPutSector content at =
 abbrev pub OthersKeepBytes : Type 0
 OthersKeepBytes =
     (id kind from count : ℕ) (fresh : List ℕ) (content other : Content) (put : VolumeState) → IsSound content → PutsAndCounts id kind from count fresh (volume_of content) put → (volume_of other).head ≡ put.head
-    → (volume_of other).overflow_pairs ≡ put.overflow_pairs → AgreesOutside (IsPutSector content) content other → KeepsOthers id (volume_of content) (file_bytes content) (file_bytes other)
+    → (volume_of other).overflow_pairs ≡ put.overflow_pairs → AgreesOutside (IsPutSector content) content other → KeepsOthers id (volume_of content) (bytes_in content) (bytes_in other)

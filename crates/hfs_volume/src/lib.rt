@@ -11,10 +11,11 @@ mod laws_findings;
 mod laws_names;
 mod laws_reclaiming;
 mod laws_steps;
+mod laws_values;
 mod laws_writing;
 mod summary;
 
-pub use cost::{Cost, Needs, Room, TreeCost};
+pub use cost::{Cost, Needs, Room, TreeCost, ValueChange};
 pub use laws::{
     chmod_does_its_step, create_does_its_step, entry_may_join, header_may_change,
     hidden_is_computed, mkdir_does_its_step, rmdir_does_its_step, soundness_has_two_halves,
@@ -23,11 +24,11 @@ pub use laws::{
 pub use laws_aside::{aside_is_free, free_is_filled};
 pub use laws_attributes::{
     at_does_its_step, delattr_does_its_step, mount_keeps_the_tree, setattr_does_its_step,
+    setattr_of_a_long_value_does_its_step,
 };
 pub use laws_blocks::{blocks_may_be_put, records_have_extents, tree_may_grow};
 pub use laws_changes::{
-    attribute_may_be_added, attribute_may_be_removed, entry_may_be_added, entry_may_be_moved,
-    entry_may_be_removed,
+    attribute_may_be_added, entry_may_be_added, entry_may_be_moved, entry_may_be_removed,
 };
 pub use laws_findings::{no_finding_is_sound, sound_has_no_finding};
 pub use laws_names::{ln_does_its_step, mv_does_its_step, rm_does_its_step};
@@ -36,6 +37,7 @@ pub use laws_reclaiming::{
     reclaim_drops_entries_of_bare_orphans,
 };
 pub use laws_steps::{sound_content_has_tree, sound_has_plain_tree, step_keeps_trees};
+pub use laws_values::{inline_values_stay, value_may_be_freed, values_may_be_put};
 pub use laws_writing::{
     cut_of_a_shrunk_file_keeps_the_tree, cut_of_an_orphan_keeps_the_tree, growth_keeps_the_tree,
     other_files_keep_their_bytes, rewrite_puts_its_blocks_alone, rewrite_without_data_keeps_blocks,

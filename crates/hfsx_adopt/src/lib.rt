@@ -6,6 +6,6 @@ mod extras;
 mod in_memory;
 mod telling;
 
-pub use adopting::adopt;
+pub use adopting::{adopt, adopt_on};
 pub use extras::extras_of;
 pub use in_memory::InMemory;

@@ -34,7 +34,7 @@ use Rattle.hfs_language.proofs.Shown.{both_tails}
 use Rattle.hfs_language.proofs.Spelled.{read_as_spelled}
 use Rattle.hfs_language.proofs.Words.{clear_decimal}
 use Rattle.hfs_model.specs.Plain.{fresh_tree}
-use Rattle.hfs_model.specs.Step.{Step, facts_of, is_private, is_refusal, linked, made, marked, moved_over, on, removed, removed_folder, resized, step, step_line, to_attribute, to_file, to_folder, to_link, to_make, to_mv, to_node, to_read, to_rm, to_rmdir, to_set, to_trunc, to_write, written}
+use Rattle.hfs_model.specs.Step.{Step, facts_of, is_private, is_refusal, linked, made, marked, moved_over, on, removed, removed_folder, resized, step, step_line, to_attribute, to_file, to_folder, to_link, to_make, to_mv, to_node, to_read, to_rm, to_rmdir, to_set, to_trunc, to_value, to_write, written}
 use Rattle.hfs_model.specs.declared.plain.PlainTree.{PlainTree}
 use Rattle.hfs_serving.specs.Ending.{FinishesRun}
 use Rattle.hfs_volume.specs.Mount.{Mounts, MountsTo}
@@ -238,7 +238,7 @@ named_step tree (command.Ls path) bare = absurd bare
 named_step tree (command.Stat path) bare = named_on tree (to_node tree path) (λ node. (reply.Facts (facts_of tree node), tree)) (λ at. tt)
 named_step tree (command.Chmod path mode) bare = named_on tree (to_node tree path) _ (λ at. tt)
 named_step tree (command.SetAttr path name value) bare = named_on tree (to_set tree path value) _ (λ at. tt)
-named_step tree (command.GetAttr path name) bare = named_on tree (to_attribute tree path name) _ (λ at. tt)
+named_step tree (command.GetAttr path name) bare = named_on tree (to_value tree path name) _ (λ at. tt)
 named_step tree (command.DelAttr path name) bare = named_on tree (to_attribute tree path name) _ (λ at. tt)
 named_step tree (command.LsAttr path) bare = absurd bare
 named_step tree (command.At moment) bare = tt

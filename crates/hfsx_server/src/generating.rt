@@ -151,13 +151,18 @@ fn play(alloc: Global, seed: u64, count: u64) -> Result<Played, OutOfMemory>
     })
 }
 
-// Serves these lines on a volume, and gives their replies.
+// Serves these lines on a volume, and gives their replies. A reply that memory was missing says nothing of the volume, so there are none then.
 fn answers(alloc: Global, image: &mut MemImage, lines: &[u8]) -> Result<String, OutOfMemory> {
     let told = serve(alloc, image, lines)?;
-    match str::from_utf8(told.as_slice()) {
-        Ok(told) => Ok(told.to_string(alloc)?),
-        Err(_) => Ok(String::new(alloc)),
+    let Ok(told) = str::from_utf8(told.as_slice()) else {
+        return Ok(String::new(alloc));
+    };
+    for reply in told.lines() {
+        if reply == "no OutOfMemory" {
+            return Err(OutOfMemory);
+        }
     }
+    Ok(told.to_string(alloc)?)
 }
 
 // Looks at what the volume holds. The stream makes folders in the root alone, so the names of files stand in the root and in these.

@@ -6,6 +6,7 @@ ghost use Rattle.jnl_format.specs.Recovery.{Content};
 ghost use Rattle.hfs_language.specs.Lines.{lines};
 ghost use Rattle.hfs_language.specs.declared.reply.Change.{Change};
 ghost use Rattle.hfs_volume.specs.Mount.{IsMountable, Mounts};
+ghost use Rattle.hfs_serving.specs.Commits.{CommitsRun, WantsOver};
 ghost use Rattle.hfs_serving.specs.Ending.{AnswersRun, AnswersToTheLast, FinishesRun};
 ghost use Rattle.hfs_serving.specs.Steps.{KeepsRun};
 ghost use Rattle.line_source.specs.Input.{SameSource};
@@ -13,6 +14,7 @@ ghost use Rattle.hfsx_server.specs.Cause.{IsCauseOf};
 ghost use Rattle.hfsx_server.specs.Faults.{status_of};
 ghost use Rattle.hfsx_server.specs.Telling.{ToldRefusal};
 ghost use Rattle.hfsx_server.specs.Watching.{IsHeard};
+ghost use Rattle.served_volume.specs.Wanting.{ServedWants};
 ghost use Rattle.watchers.specs.Told.{AreTold};
 
 use crate::{Status, tell_mount};
@@ -50,6 +52,10 @@ pub fn run<R: Rig, S: LineSource, W: Watcher>(
     ensures end { IsTrue (S.stream source.old).tells → result ≡ Status.Done → (S.stream source.new).left ≡ [] }
     ensures many { IsTrue (S.stream source.old).tells → result ≡ Status.TooMany → 4294967295 < length (lines (S.stream source.old).left) }
     ensures few { IsTrue (S.stream source.old).tells → result ≡ Status.Done → length (lines (S.stream source.old).left) ≤ 4294967295 }
+    // Done, each batch has made one commit: beside these the disk passed eight barriers at most ahead of the first batch and six behind the last, and those of
+    // commits that a step wanted, for room, for blocks that are held until then or for zero blocks, or that were made since memory was missing for a step.
+    ensures commits { IsTrue (R.state rig.old).tells → result ≡ Status.Done → (count : ℕ) × (IsTrue (S.stream source.old).tells → count ≡ length (lines (S.stream source.old).left))
+        × CommitsRun (WantsOver ServedWants R.state) 9 8 count (R.state rig.old).barriers (R.state rig.new).barriers }
     ensures no_usage { result ≢ Status.Usage }
     ensures disk { IsCauseOf Status.Disk (R.state rig.old).faults (R.state rig.new).faults result }
     ensures source { IsCauseOf Status.Source (S.stream source.old).faults (S.stream source.new).faults result }

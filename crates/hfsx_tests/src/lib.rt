@@ -20,4 +20,6 @@ mod looks;
 #[cfg(test)]
 mod repairs;
 #[cfg(test)]
+mod values;
+#[cfg(test)]
 mod watching;

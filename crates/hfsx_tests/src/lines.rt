@@ -178,7 +178,7 @@ fn the_last_id_is_never_given(rt: HostRuntime) -> Result<(), Fail> {
     Ok(())
 }
 
-// ---- long names and values
+// ---- long names
 
 // A text, a letter so many times, and a newline.
 fn long_line(alloc: Global, front: &[u8], letter: u8, count: usize) -> Result<Vec<u8>, AllocError> {
@@ -206,20 +206,6 @@ fn a_long_line_is_refused_and_the_next_one_served(rt: HostRuntime) -> Result<(),
     }
     let longest = long_line(alloc, b"mkdir /", b'a', 255)?;
     assert!(rt; tells(alloc, &longest, b"ok\n")?);
-    Ok(())
-}
-
-#[test]
-fn attributes_have_1_700_bytes_at_most(rt: HostRuntime) -> Result<(), Fail> {
-    let alloc = rt.alloc();
-    let mut input = Vec::from_slice(alloc, b"create /a\n")?;
-    input.extend_from_slice(&long_line(alloc, b"setattr /a k =", b'x', 1_700)?)?;
-    input.extend_from_slice(&long_line(alloc, b"setattr /a k =", b'x', 1_701)?)?;
-    input.extend_from_slice(
-        b"setattr /a e =\ngetattr /a e\nlsattr /a\ndelattr /a k\ngetattr /a k\n",
-    )?;
-    let told = b"ok\nok\nno AttributeTooLarge\nok\nok =\nok 2 e k\nok\nno NoAttribute\n".as_slice();
-    assert!(rt; tells(alloc, &input, told)?);
     Ok(())
 }
 

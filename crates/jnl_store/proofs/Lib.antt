@@ -3,6 +3,7 @@ pub mod Tables
 pub mod Saved
 pub mod Newest
 pub mod Places
+pub mod Rows
 pub mod Cached
 pub mod Slots
 pub mod ListsBack

@@ -1,14 +1,15 @@
 -- What puts had at the last keep, from what was saved of them.
 use Rattle.std.proofs.Common.{◌≡◌, ◌≢◌, ◌⊎◌, ◌<◌, ◌≤◌, ◌+◌, ℕ, zero, suc, Bool, true, false, ◌||◌, List, [], ◌∷◌, ◌++◌, length, get_or, set, take, refl, sym, ◌∙◌, ap, subst, inl, inr, ⊎_elim, arith, eqb, length-set, length-append}
-use Rattle.std.proofs.lemmas.Bool.{eqb-false, eqb-true, eq-eqb, ne_eqb, true≢false, cases_Bool, cases_eq, or_cases, or_right, or_parts}
-use Rattle.std.proofs.lemmas.List.{length-take-le, take-append-le}
+use Rattle.std.proofs.lemmas.Bool.{eqb-false, eqb-true, eq-eqb, ne_eqb, true≢false, cases_Bool, cases_eq, cases_lt, or_cases, or_right, or_parts}
+use Rattle.std.proofs.lemmas.List.{length-take-le, set-get_or, set_past, take-append-le}
 use Rattle.std.proofs.Math.Seq.{take-suc}
 use Rattle.std.specs.Prelude.{IsTrue, MatchOption, Option, None, Some, if◌then◌else◌}
 use Rattle.sector_disk.specs.Lists.{Content, sector}
 use Rattle.jnl_store.specs.Batch.{AreOnce, IsPlaced, bytes_of, has, names, or_put, put_in, restored, restored_front, saved_or, with_put}
 use Rattle.jnl_store.specs.Overlay.{overlay}
+use Rattle.jnl_store.specs.SpaceLaws.{length-overlay}
 use Rattle.jnl_store.specs.declared.puts.Put.{Put}
-use Rattle.jnl_store.proofs.Batches.{bytes_at, bytes_none, has-names, names-push, overlay-at, overlay-other}
+use Rattle.jnl_store.proofs.Batches.{bytes_at, bytes_none, has-names, names-push, overlay-at, overlay-other, same_names}
 
 -- ---- the put of a sector
 
@@ -310,6 +311,28 @@ bytes_value (p ∷ ps) r at once is c inside =
           subst (λ (o : Option (List ℕ)). MatchOption o (sector (overlay puts c) at ≡ sector c at) (λ bytes. bytes ≡ sector (overlay puts c) at)) (bytes_at puts h.0 at p once h.1 ∙ sym is) (overlay-at puts h.0 at p c once h.1 inside)
       | inr none ↦ subst (λ (o : Option (List ℕ)). MatchOption o (sector (overlay puts c) at ≡ sector c at) (λ bytes. bytes ≡ sector (overlay puts c) at)) (bytes_none puts at none ∙ sym is) (overlay-other puts c at none)
     ]
+
+-- a sector that these bytes were put into
+pub kept_names : (puts : List Put) (at : ℕ) (bytes : List ℕ) → bytes_of puts at ≡ Some bytes → names puts at ≡ true
+kept_names puts at bytes is = elim (cases_Bool (names puts at)) [
+  | inl named ↦ named
+  | inr none ↦ absurd (cc (bytes_none puts at none ∙ is))
+]
+
+pub kept_each : (puts : List Put) (at s : ℕ) (bytes : List ℕ) → bytes_of puts at ≡ Some bytes → names puts s ≡ (eqb s at || names puts s)
+kept_each puts at s bytes is = let h = names_has puts at (kept_names puts at bytes is) in same_names puts h.0 at s h.1
+
+pub kept_count : (puts : List Put) (at : ℕ) (bytes : List ℕ) → bytes_of puts at ≡ Some bytes → length puts ≡ (if names puts at then length puts else length puts + 1)
+kept_count puts at bytes is = sym (ap (λ b. if b then length puts else length puts + 1) (kept_names puts at bytes is))
+
+-- and is as if they were put once more
+pub kept_content : (puts : List Put) (at : ℕ) (bytes : List ℕ) (c : Content) → AreOnce puts → bytes_of puts at ≡ Some bytes → overlay puts c ≡ set (overlay puts c) at bytes
+kept_content puts at bytes c once is = elim (cases_lt at (length c)) [
+  | inl inside ↦
+      let here : bytes ≡ sector (overlay puts c) at = bytes_value puts (Some bytes) at once (sym is) c inside in
+      sym (ap (set (overlay puts c) at) here ∙ set-get_or (overlay puts c) at [])
+  | inr past ↦ sym (set_past (overlay puts c) at bytes (omega (arith, past, length-overlay puts c)))
+]
 
 -- ---- puts that are brought back one after another
 

@@ -6,6 +6,7 @@ pub mod Following
 pub mod Journal
 pub mod Lists
 pub mod Newest
+pub mod Indexed
 pub mod Placed
 pub mod Overlay
 pub mod Plan

@@ -14,6 +14,11 @@ use hx_bytes::{OutOfMemory, Sector};
 use std::alloc::Global;
 use std::marker::Model;
 
+// How many rows the indices have: of the puts of a batch, and of what one command puts again.
+const PUT_ROWS: usize = 1_024;
+
+const SAVED_ROWS: usize = 128;
+
 /// Each sector that was put since the last commit, once. What a command put can be dropped until it is kept: what the puts
 /// had at the last keep is saved when they are put again, so a keep copies nothing. Beside them stands each sector that a live list of the journal names, with the place of its newest bytes in their text. There
 /// is memory for the puts to join these.
@@ -45,12 +50,14 @@ impl Batch {
     pub fn new(alloc: Global, most: usize) -> Result<Batch, OutOfMemory>
         ensures { IfOk result (λ batch. batch ≡ record { all = []; kept = []; live = []; room = 0; most = most }) }
     {
-        let mut live = LiveTable::new(alloc);
+        let puts = PutTable::new(alloc, PUT_ROWS)?;
+        let saved = PutTable::new(alloc, SAVED_ROWS)?;
+        let mut live = LiveTable::new(alloc, most)?;
         live.hold(most)?;
         Ok(Batch {
-            puts: PutTable::new(alloc),
+            puts,
             kept: 0,
-            saved: PutTable::new(alloc),
+            saved,
             live,
             room: 0,
             most,
@@ -120,7 +127,7 @@ impl Batch {
         ensures bytes { result ≡ bytes_of self.now.kept at }
     {
         match self.puts.among(self.kept, at) {
-            Some(put) => Some(self.saved.was(put).bytes),
+            Some(put) => Some(self.saved.was(*put).bytes),
             None => None,
         }
     }
@@ -137,6 +144,10 @@ impl Batch {
         ensures live { self.new.live ≡ self.old.live }
         ensures most { self.new.most ≡ self.old.most }
     {
+        // Of a node's sectors a command mostly changes some.
+        if self.puts.keeps(at, from) {
+            return;
+        }
         save(&self.puts, self.kept, &mut self.saved, at);
         self.puts.put(at, from);
     }
@@ -238,7 +249,7 @@ fn save(puts: &PutTable, kept: usize, saved: &mut PutTable, at: u64)
 {
     let _once = saved.as_slice();
     match puts.among(kept, at) {
-        Some(put) => saved.add(put),
+        Some(put) => saved.add(*put),
         None => {}
     }
 }

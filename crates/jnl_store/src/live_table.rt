@@ -1,72 +1,50 @@
-//! The places of the sectors that are live, in two tables: those that joined last, and those before them.
-ghost use Rattle.std.specs.Prelude.{◌≡◌, ◌<◌, ◌≤◌, ◌+◌, ◌^◌, ◌==◌, ◌-◌, ◌++◌, ℕ, [], Some, length, slice_index_or, if◌then◌else◌, OnOk, OnErr};
+//! The places of the sectors that are live, found by number, in memory that was found before.
+ghost use Rattle.std.specs.Prelude.{◌≡◌, ◌<◌, ◌≤◌, ◌+◌, ◌^◌, ◌==◌, ◌-◌, ℕ, [], Some, length, slice_index_or, if◌then◌else◌, IfOk, OnOk, OnErr};
 ghost use Rattle.jnl_format.specs.declared.blocks.Home.{Home};
 ghost use Rattle.jnl_store.specs.Lists.{IsForm, lists_homes, most_puts};
 ghost use Rattle.jnl_store.specs.Newest.{newest, or_later};
 
 use crate::form::{ListForm, puts_at_most};
-use crate::place_table::PlaceTable;
 use crate::puts::Put;
+use crate::sector_index::SectorIndex;
 use hx_bytes::OutOfMemory;
 use jnl_format::Home;
 use std::alloc::Global;
 use std::marker::Model;
-use std::mem::swap;
 
-// How many sectors may stand in the table of those that joined last. A sector moves some of these when it joins, and all
-// that are live once in so many.
-const RECENT: usize = 1_024;
+// How many rows the index of the live sectors has at most.
+const MOST_ROWS: usize = 65_536;
 
-/// Each sector that is live, with the place of its newest bytes in the text.
+/// Each sector that is live, with the place of its newest bytes in the text, in the order in which they came.
 #[derive(Drop)]
 pub struct LiveTable {
-    recent: PlaceTable,
-    older: PlaceTable,
-    /// Room in which the two are merged. Nothing stands there.
-    spare: PlaceTable,
+    index: SectorIndex,
+    places: Vec<u64>,
     memory: usize,
 }
 
 impl Model for LiveTable {
-    ghost use Rattle.std.specs.Prelude.{◌++◌};
-    ghost use Rattle.jnl_store.specs.Placed.{AreLive, Placed};
+    ghost use Rattle.std.specs.Prelude.{vec_capacity};
+    ghost use Rattle.jnl_store.specs.Placed.{ArePlaced, Placed, beside};
 
     ghost Value = { Placed };
 
-    ghost view = { λ t. record { homes = t.older.homes ++ t.recent.homes; memory = t.memory } };
+    ghost view = { λ t. record { homes = beside t.index.sectors t.places.items; memory = t.memory } };
 
-    ghost invariant = { λ t. AreLive t.recent t.older t.spare t.memory };
+    ghost invariant = { λ t. ArePlaced t.index.sectors t.places.items t.memory t.index.memory (vec_capacity t.places) };
 }
 
 impl LiveTable {
-    /// No sector, and no memory for one.
-    pub fn new(alloc: Global) -> LiveTable
-        ensures { result ≡ record { homes = []; memory = 0 } }
+    /// No sector, and no memory for one. The index has rows for so many.
+    pub fn new(alloc: Global, most: usize) -> Result<LiveTable, OutOfMemory>
+        ensures { IfOk result (λ table. table ≡ record { homes = []; memory = 0 }) }
     {
-        LiveTable {
-            recent: PlaceTable::new(alloc),
-            older: PlaceTable::new(alloc),
-            spare: PlaceTable::new(alloc),
+        let index = SectorIndex::new(alloc, rows_for(most))?;
+        Ok(LiveTable {
+            index,
+            places: Vec::new(alloc),
             memory: 0,
-        }
-    }
-
-    /// Finds memory for so many sectors more than there are.
-    pub fn reserve(&mut self, more: usize) -> Result<(), OutOfMemory>
-        ensures room { OnOk result ((length self.new.homes + more ≤ self.new.memory) × (self.new.memory < 2 ^ 64)) }
-        ensures homes { self.new.homes ≡ self.old.homes }
-        ensures memory { self.old.memory ≤ self.new.memory }
-        ensures same { OnErr result (self.new ≡ self.old) }
-    {
-        let Some(room) = more.checked_add(self.recent.len()) else {
-            return Err(OutOfMemory);
-        };
-        self.older.reserve(room)?;
-        let all = self.older.len() + room;
-        self.spare.reserve(all)?;
-        self.recent.reserve(RECENT)?;
-        self.memory = self.memory.max(all);
-        Ok(())
+        })
     }
 
     /// Finds memory for so many sectors in all.
@@ -76,46 +54,39 @@ impl LiveTable {
         ensures memory { self.old.memory ≤ self.new.memory }
         ensures same { OnErr result (self.new ≡ self.old) }
     {
-        let settled = self.older.len();
-        self.reserve(all.saturating_sub(settled))
+        let more = all.saturating_sub(self.index.len());
+        self.places.reserve(more)?;
+        self.index.reserve(more)?;
+        self.memory = self.memory.max(all);
+        Ok(())
     }
 
     /// The place of a sector's newest bytes.
     pub fn find(&self, at: u64) -> Option<u64>
         ensures { result ≡ newest self.now.homes at }
     {
-        match self.recent.find(at) {
-            Some(place) => Some(place),
-            None => self.older.find(at),
+        match self.index.find(at) {
+            Some(k) => Some(self.places[k]),
+            None => None,
         }
     }
 
-    /// How many homes there are. A sector may have two of them.
+    /// How many sectors are live.
     pub fn len(&self) -> usize
         ensures { result ≡ length self.now.homes }
     {
-        let _most = self.memory;
-        self.older.len() + self.recent.len()
+        self.index.len()
     }
 
-    /// The sector of one of the homes, with the place of its newest bytes.
+    /// One of the sectors, with the place of its newest bytes.
     pub fn home(&self, k: usize) -> Home
         requires { k < length self.now.homes }
         ensures sector { (none : Home) → (slice_index_or self.now.homes k none).sector ≡ result.sector }
         ensures newest { newest self.now.homes result.sector ≡ Some result.place }
     {
-        let before = self.older.len();
-        if k < before {
-            let home = self.older.home(k);
-            match self.recent.find(home.sector) {
-                Some(place) => Home {
-                    sector: home.sector,
-                    place,
-                },
-                None => home,
-            }
-        } else {
-            self.recent.home(k - before)
+        Home {
+            sector: self.index.sector(k),
+            place: self.places[k],
         }
     }
 
@@ -126,8 +97,15 @@ impl LiveTable {
         ensures few { length self.new.homes ≤ length self.old.homes + 1 }
         ensures memory { self.new.memory ≡ self.old.memory }
     {
-        settle(&mut self.recent, &mut self.older, &mut self.spare);
-        self.recent.put(at, place);
+        match self.index.find(at) {
+            Some(k) => {
+                self.places[k] = place;
+            }
+            None => {
+                self.index.push(at);
+                let _place = self.places.push(place);
+            }
+        }
     }
 
     /// Puts the sectors of a transaction, whose lists begin at this place of the text. There is memory for them.
@@ -154,29 +132,22 @@ impl LiveTable {
     pub fn clear(&mut self)
         ensures { self.new ≡ record self.old { homes = [] } }
     {
-        self.recent.clear();
-        self.older.clear();
+        self.index.clear();
+        self.places.clear();
     }
 }
 
-// Where many sectors joined last, merges them with the others.
-fn settle(recent: &mut PlaceTable, older: &mut PlaceTable, spare: &mut PlaceTable)
-    requires empty { spare.old.homes ≡ [] }
-    requires room { length older.old.homes + length recent.old.homes ≤ spare.old.memory }
-    ensures newest { (s : ℕ) → newest (older.new.homes ++ recent.new.homes) s ≡ newest (older.old.homes ++ recent.old.homes) s }
-    ensures empty { spare.new.homes ≡ [] }
-    ensures few { length older.new.homes + length recent.new.homes ≤ length older.old.homes + length recent.old.homes }
-    ensures recent { length recent.new.homes < 1024 }
-    ensures memory { recent.new.memory ≡ recent.old.memory }
-    ensures memories { (n : ℕ) → n ≤ older.old.memory → n ≤ spare.old.memory → (n ≤ older.new.memory) × (n ≤ spare.new.memory) }
+// How many rows the index of so many sectors has.
+fn rows_for(sectors: usize) -> usize
+    ensures few { result ≤ 65536 }
 {
-    if recent.len() < RECENT {
-        return;
+    if sectors <= 1024 {
+        1024
+    } else if sectors <= 16_384 {
+        16_384
+    } else {
+        MOST_ROWS
     }
-    spare.merge(older, recent);
-    swap(older, spare);
-    spare.clear();
-    recent.clear();
 }
 
 // Where the bytes of the next put stand: behind the header of a new list, where the last one has no entry left.

@@ -1,29 +1,22 @@
-//! Puts of sectors, each sector once, found by its number in logarithmic time, in memory that was found before.
-ghost use Rattle.std.specs.Prelude.{◌≡◌, ◌⊎◌, ◌<◌, ◌≤◌, ◌+◌, ◌^◌, ◌==◌, ◌||◌, ℕ, [], IsTrue, Bool, length, slice_set, if◌then◌else◌, MatchOption, IfOk, List, OnOk, OnErr, take};
-ghost use Rattle.std.specs.List.{HoldsAt};
-ghost use Rattle.std.specs.List.Sorted.{IsBinarySearchResult, IsSearchInRange};
-ghost use Rattle.std.specs.Ordering.{nat_cmp};
-ghost use Rattle.std.specs.declared.cmp.Ordering.TheVariants.{Equal};
+//! Puts of sectors, each sector once, found by its number, in memory that was found before.
+ghost use Rattle.std.specs.Prelude.{◌≡◌, ◌⊎◌, ◌<◌, ◌≤◌, ◌+◌, ◌^◌, ◌==◌, ◌||◌, ℕ, [], IsTrue, Bool, None, Some, length, slice_set, if◌then◌else◌, MatchOption, IfOk, List, OnOk, OnErr, take};
 ghost use Rattle.sector_disk.specs.Lists.{Content, sector};
 ghost use Rattle.jnl_store.specs.Batch.{AreOnce, IsPlaced, bytes_of, has, names, put_in, restored_front, saved_or, with_put};
 ghost use Rattle.jnl_store.specs.Overlay.{overlay};
 ghost use Rattle.jnl_store.specs.declared.puts.Put.{Put};
 
 use crate::puts::Put;
+use crate::sector_index::SectorIndex;
 use hx_bytes::{OutOfMemory, Sector};
 use std::alloc::Global;
 use std::marker::Model;
 
-/// Puts in the order in which their sectors came. Beside them stand the sectors in rising order, each with the place of
-/// its put.
+/// Puts in the order in which their sectors came, with an index of these.
 #[derive(Drop)]
 pub struct PutTable {
     puts: Vec<Put>,
-    sectors: Vec<u64>,
-    places: Vec<usize>,
+    index: SectorIndex,
     memory: usize,
-    /// Where the sector stands that was put last, or stood then.
-    near: usize,
 }
 
 impl Model for PutTable {
@@ -34,21 +27,20 @@ impl Model for PutTable {
 
     ghost view = { λ t. record { items = t.puts.items; memory = t.memory } };
 
-    ghost invariant = { λ t. IsTable t.puts.items t.sectors.items t.places.items t.memory (vec_capacity t.puts) (vec_capacity t.sectors) (vec_capacity t.places) };
+    ghost invariant = { λ t. IsTable t.puts.items t.index.sectors t.memory (vec_capacity t.puts) t.index.memory };
 }
 
 impl PutTable {
-    /// No put, and no memory for one.
-    pub fn new(alloc: Global) -> PutTable
-        ensures { result ≡ record { items = []; memory = 0 } }
+    /// No put, and no memory for one. The index of their sectors has so many rows.
+    pub fn new(alloc: Global, rows: usize) -> Result<PutTable, OutOfMemory>
+        ensures { IfOk result (λ table. table ≡ record { items = []; memory = 0 }) }
     {
-        PutTable {
+        let index = SectorIndex::new(alloc, rows)?;
+        Ok(PutTable {
             puts: Vec::new(alloc),
-            sectors: Vec::new(alloc),
-            places: Vec::new(alloc),
+            index,
             memory: 0,
-            near: 0,
-        }
+        })
     }
 
     pub fn len(&self) -> usize
@@ -73,8 +65,7 @@ impl PutTable {
         ensures same { OnErr result (self.new ≡ self.old) }
     {
         self.puts.reserve(more)?;
-        self.sectors.reserve(more)?;
-        self.places.reserve(more)?;
+        self.index.reserve(more)?;
         self.memory = self.memory.max(self.puts.len() + more);
         Ok(())
     }
@@ -83,9 +74,9 @@ impl PutTable {
     fn find(&self, at: u64) -> Option<usize>
         ensures { MatchOption result (names self.now.items at ≡ Bool.false) (λ k. has self.now.items k at) }
     {
-        match self.sectors.binary_search(&at) {
-            Ok(k) => Some(self.places[k]),
-            Err(_) => None,
+        match self.index.find(at) {
+            Some(k) => Some(k),
+            None => None,
         }
     }
 
@@ -121,13 +112,24 @@ impl PutTable {
     }
 
     /// The put of a sector, where it is one of the first so many.
-    pub fn among(&self, count: usize, at: u64) -> Option<Put>
-        ensures put { result ≡ put_in (take count self.now.items) at }
+    pub fn among(&self, count: usize, at: u64) -> Option<&Put>
+        ensures put { MatchOption result (put_in (take count self.now.items) at ≡ None) (λ put. put_in (take count self.now.items) at ≡ Some put.now) }
         ensures once { AreOnce self.now.items }
     {
         match self.find(at) {
-            Some(k) => { if k < count { Some(self.puts[k]) } else { None } }
+            Some(k) => { if k < count { Some(&self.puts[k]) } else { None } }
             None => None,
+        }
+    }
+
+    /// Whether these bytes were put into a sector last.
+    pub fn keeps(&self, at: u64, bytes: &Sector) -> bool
+        ensures keeps { IsTrue result → bytes_of self.now.items at ≡ Some bytes.now }
+        ensures once { AreOnce self.now.items }
+    {
+        match self.find(at) {
+            Some(k) => are_same(&self.puts[k].bytes, bytes),
+            None => false,
         }
     }
 
@@ -152,19 +154,13 @@ impl PutTable {
         ensures count { length self.new.items ≡ (if names self.old.items put.at then length self.old.items else length self.old.items + 1) }
         ensures memory { self.new.memory ≡ self.old.memory }
     {
-        let at = put.at;
-        match search_near(&self.sectors, self.near, at) {
-            Ok(k) => {
-                let place = self.places[k];
-                self.puts[place] = put;
-                self.near = k;
+        match self.find(put.at) {
+            Some(k) => {
+                self.puts[k] = put;
             }
-            Err(k) => {
-                let place = self.puts.len();
-                let _sector = self.sectors.insert(k, at);
-                let _place = self.places.insert(k, place);
+            None => {
+                self.index.push(put.at);
                 let _put = self.puts.push(put);
-                self.near = k;
             }
         }
     }
@@ -235,12 +231,10 @@ impl PutTable {
         ensures memory { self.new.memory ≡ self.old.memory }
         ensures once { AreOnce self.old.items × AreOnce from.now.items }
     {
-        self.puts.clear();
-        self.sectors.clear();
-        self.places.clear();
-        let _puts = self.puts.extend_from_slice(&from.puts);
-        let _sectors = self.sectors.extend_from_slice(&from.sectors);
-        let _places = self.places.extend_from_slice(&from.places);
+        let _once = self.as_slice();
+        let _from_once = from.as_slice();
+        let count = from.len();
+        self.copy_front(from, count);
     }
 
     /// No put any more.
@@ -248,23 +242,17 @@ impl PutTable {
         ensures { self.new ≡ record self.old { items = [] } }
     {
         self.puts.clear();
-        self.sectors.clear();
-        self.places.clear();
+        self.index.clear();
     }
 }
 
-// Where a sector stands among rising ones, or would stand. Behind a place it is looked for first: the sectors of a node are put
-// one after another.
-fn search_near(sectors: &[u64], near: usize, at: u64) -> Result<usize, usize>
-    ensures bound { IsSearchInRange result (length sectors.now) }
-    ensures ok { IfOk result (HoldsAt (λ y. nat_cmp y at ≡ Equal) sectors.now) }
-    ensures position { IsBinarySearchResult (λ y. nat_cmp y at) sectors.now result }
+// Whether two sectors have the same bytes. All are looked at, which takes less than looking for the first that differs.
+fn are_same(a: &Sector, b: &Sector) -> bool
+    ensures { IsTrue result → a.now ≡ b.now }
 {
-    let next = near.saturating_add(1);
-    if next < sectors.len() {
-        if sectors[next] == at {
-            return Ok(next);
-        }
+    let mut same = true;
+    for k in 0..512 {
+        same &= a[k] == b[k];
     }
-    sectors.binary_search(&at)
+    same
 }

@@ -9,13 +9,12 @@ ghost use Rattle.hfs_language.specs.declared.refusal.Refusal.{Refusal};
 ghost use Rattle.link_kinds.specs.Lines.{begins_as, is_kind_line, kind_line_of, kind_of, read_of, symlink_of, words_kind, write_of};
 
 use crate::kinds::{KindCommand, KindEdit, KindLine};
-use cmd_lang::{LineFault, MOST_BYTES, read_number, read_path};
+use cmd_lang::{
+    BAD_COMMAND, LineFault, MOST_BYTES, read_number, read_path, read_value_text, text_of, words_of,
+};
 use hfs_language::Refusal;
-use hx_bytes::Bytes;
-use open_files::{session_of, text_of, words_of};
+use open_files::session_of;
 use std::alloc::Global;
-
-const BAD_COMMAND: LineFault = LineFault::No(Refusal::BadCommand);
 
 /// What a line on a link or a resource fork asks for; the line is given without its newline.
 ///
@@ -137,7 +136,7 @@ fn four_words(
 fn read_symlink(alloc: Global, path: &str, value: &str) -> Result<KindCommand, LineFault>
     ensures { Reads (symlink_of (path_of path.now) (value_of value.now)) result }
 {
-    let value = value_in(alloc, value)?;
+    let value = read_value_text(alloc, value.as_bytes())?;
     let path = read_path(alloc, path)?;
     Ok(KindCommand::Edit(KindEdit::Symlink { path, value }))
 }
@@ -152,7 +151,7 @@ fn read_resource_write(
     ensures { Reads (write_of (path_of path.now) (number_of from.now) (value_of value.now)) result }
 {
     let from = read_number(from)?;
-    let value = value_in(alloc, value)?;
+    let value = read_value_text(alloc, value.as_bytes())?;
     let path = read_path(alloc, path)?;
     Ok(KindCommand::Edit(KindEdit::ResourceWrite { path, from, value }))
 }
@@ -170,15 +169,4 @@ fn read_resource_read(
     let length = read_number(length)?;
     let path = read_path(alloc, path)?;
     Ok(KindCommand::Edit(KindEdit::ResourceRead { path, from, length }))
-}
-
-/// A value, spelled as it is printed.
-#[tactic(auto, using(crate::proofs::Values::value_or_bad))]
-fn value_in(alloc: Global, word: &str) -> Result<Bytes, LineFault>
-    ensures { Reads (value_of word.now) result }
-{
-    match cmd_lang::read_value(alloc, word.as_bytes())? {
-        Some(value) => Ok(value),
-        None => Err(BAD_COMMAND),
-    }
 }

@@ -5,8 +5,8 @@ ghost use Rattle.std.specs.Str.{is_utf8};
 ghost use Rattle.std.specs.Char.Escape.{encode_utf16};
 ghost use Rattle.link_kinds.specs.Targets.{are_short, component_units, components_of, is_from_root, is_target};
 
+use cmd_lang::{components_of, text_of};
 use hx_bytes::{OutOfMemory, Units};
-use open_files::text_of;
 use std::alloc::{AllocError, Global};
 use unicode_normalization::slice::extend_nfd;
 
@@ -58,14 +58,8 @@ fn are_short(components: &[Units]) -> bool
 fn components(alloc: Global, text: &str) -> Result<Vec<Units>, OutOfMemory>
     ensures { IfOk result (λ components. components.items ≡ components_of text.now) }
 {
-    let parts = parts(alloc, text)?;
+    let parts = components_of(alloc, text)?;
     each_component(alloc, &parts)
-}
-
-fn parts(alloc: Global, text: &str) -> Result<Vec<&str>, AllocError>
-    ensures { IfOk result (λ parts. map (λ part. part.now) parts.items ≡ slice_split (λ b. b == 47) text.now) }
-{
-    text.split('/').collect(alloc)
 }
 
 fn each_component(alloc: Global, parts: &[&str]) -> Result<Vec<Units>, OutOfMemory>

@@ -2,6 +2,7 @@
 use Rattle.std.specs.Prelude.{ℕ, ◌^◌, ◌==◌, nat_lt, List, [], ◌∷◌, ◌++◌, length, Option, Some, None, Result, Ok, Err, bytes_eq, codes, if◌then◌else◌}
 use Rattle.std.specs.List.{slice_split}
 use Rattle.std.specs.Str.{is_utf8}
+use Rattle.cmd_lang.specs.Numbers.{small_number_of}
 use Rattle.hfs_language.specs.Language.{after, command_of, most_bytes, number_of, path_of}
 use Rattle.hfs_language.specs.Text.{field, reply_text}
 use Rattle.hfs_model.specs.Step.{then_}
@@ -16,13 +17,9 @@ use Rattle.open_files.specs.Sessions.{Part, session_of}
 
 -- ---- what it asks for
 
-abbrev pub within_handle : Result ℕ Refusal → Result ℕ Refusal
-within_handle (Ok number) = if nat_lt number (2 ^ 32) then Ok number else Err BadCommand
-within_handle (Err why) = Err why
-
 -- a handle is a number below 2 ^ 32
 abbrev pub handle_of : List ℕ → Result ℕ Refusal
-handle_of word = within_handle (number_of word)
+handle_of word = small_number_of word
 
 -- a command of the plain language
 abbrev pub plain_act : List ℕ → Result Act Refusal

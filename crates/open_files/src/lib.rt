@@ -13,7 +13,6 @@ mod line;
 mod print;
 mod session;
 mod table;
-mod texts;
 
 pub use act::{Act, OpenFile, SessionLine, SessionReply};
 pub use copies::{copy_name, copy_path};
@@ -24,7 +23,6 @@ pub use line::read_session;
 pub use print::print_session_reply;
 pub use session::session_of;
 pub use table::{Closed, MOST_OPEN, Opened, Table};
-pub use texts::{text_of, words_of};
 
 #[cfg(test)]
 mod tests;

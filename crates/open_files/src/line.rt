@@ -8,12 +8,13 @@ ghost use Rattle.hfs_language.specs.Language.{number_of};
 ghost use Rattle.hfs_language.specs.declared.refusal.Refusal.{Refusal};
 ghost use Rattle.open_files.specs.Lines.{act_of, asks_of, handle_of, plain_act, read_act, words_act};
 
-use crate::{Act, SessionLine, session_of, text_of, words_of};
-use cmd_lang::{LineFault, MOST_BYTES, read_line, read_number, read_path};
+use crate::{Act, SessionLine, session_of};
+use cmd_lang::{
+    BAD_COMMAND, LineFault, MOST_BYTES, read_line, read_number, read_path, read_small_number,
+    text_of, words_of,
+};
 use hfs_language::Refusal;
 use std::alloc::Global;
-
-const BAD_COMMAND: LineFault = LineFault::No(Refusal::BadCommand);
 
 /// What a line of a session asks for; the line is given without its newline.
 ///
@@ -90,7 +91,7 @@ fn two_words(alloc: Global, part: &str, verb: &str, word: &str) -> Result<Act, L
 {
     match verb {
         "open" => Ok(Act::Open(read_path(alloc, word)?)),
-        "close" => Ok(Act::Close(read_handle(word)?)),
+        "close" => Ok(Act::Close(read_small_number(word)?)),
         _ => read_plain(alloc, part),
     }
 }
@@ -125,7 +126,7 @@ fn read_plain(alloc: Global, part: &str) -> Result<Act, LineFault>
 fn read_handle_read(handle: &str, from: &str, length: &str) -> Result<Act, LineFault>
     ensures { Reads (read_act (handle_of handle.now) (number_of from.now) (number_of length.now)) result }
 {
-    let handle = read_handle(handle)?;
+    let handle = read_small_number(handle)?;
     let from = read_number(from)?;
     let length = read_number(length)?;
     Ok(Act::HandleRead {
@@ -133,18 +134,4 @@ fn read_handle_read(handle: &str, from: &str, length: &str) -> Result<Act, LineF
         from,
         length,
     })
-}
-
-/// A handle, which is a number below 2 to the 32nd.
-fn read_handle(word: &str) -> Result<u32, LineFault>
-    ensures { Reads (handle_of word.now) result }
-{
-    match read_number(word) {
-        Ok(number) => if number < 0x1_0000_0000 {
-            Ok(number as u32)
-        } else {
-            Err(BAD_COMMAND)
-        },
-        Err(fault) => Err(fault),
-    }
 }

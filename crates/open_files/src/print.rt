@@ -1,12 +1,11 @@
 //! What a session's line is told, as a line.
-ghost use Rattle.std.specs.Prelude.{◌≡◌, ◌++◌, ◌∷◌, [], IfOk, OnOk};
+ghost use Rattle.std.specs.Prelude.{◌≡◌, ◌++◌, ◌∷◌, [], IfOk};
 ghost use Rattle.hfs_language.specs.Text.{field};
 ghost use Rattle.open_files.specs.Lines.{session_text};
 
 use crate::SessionReply;
-use cmd_lang::print_reply;
+use cmd_lang::{print_reply, push_field};
 use hx_bytes::{Bytes, OutOfMemory};
-use itoa::Buffer;
 use std::alloc::Global;
 
 /// The text of what a line is told: one line with its newline.
@@ -33,17 +32,7 @@ fn numbered(alloc: Global, words: &[u8], number: u32) -> Result<Bytes, OutOfMemo
     ensures { IfOk result (λ line. line ≡ words.now ++ field number ++ 10 ∷ []) }
 {
     let mut line = Vec::from_slice(alloc, words)?;
-    push_field(&mut line, number)?;
+    push_field(&mut line, u64::from(number))?;
     line.push(b'\n')?;
     Ok(Bytes::from_vec(line))
-}
-
-/// Appends a number with a space in front.
-fn push_field(text: &mut Vec<u8>, number: u32) -> Result<(), OutOfMemory>
-    ensures { OnOk result (text.new.items ≡ text.old.items ++ field number) }
-{
-    let mut buffer = Buffer::new();
-    text.extend_from_slice(b" ")?;
-    text.extend_from_slice(buffer.format(number).as_bytes())?;
-    Ok(())
 }

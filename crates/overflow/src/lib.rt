@@ -11,5 +11,6 @@ mod storing;
 
 pub use laws::stored_forks_are_loaded;
 pub use loading::load_fork;
-pub use record::OverflowRecord;
-pub use storing::store_fork;
+pub use record::{OverflowRecord, count_blocks, eight_extents, push_used};
+pub use splitting::split;
+pub use storing::{leave_out_unused, store_fork};

@@ -74,9 +74,9 @@ pub(crate) fn has_no_room(extents: &ExtentRecord) -> bool
     extents.extents.iter().all(|extent| extent.count != 0)
 }
 
-/// How many blocks up to eight extents have.
-pub(crate) fn count_blocks(extents: &[Extent]) -> u64
-    requires { length extents.now ≤ 8 }
+/// How many blocks extents have.
+pub fn count_blocks(extents: &[Extent]) -> u64
+    requires { length extents.now < 2 ^ 32 }
     ensures { result ≡ length (blocks_of extents.now) }
 {
     let mut count = 0;
@@ -97,7 +97,7 @@ fn extent_or_none(extents: &[Extent], at: usize) -> Extent
 }
 
 /// The eight extents of a list from a place on, with unused ones where the list has fewer.
-pub(crate) fn eight_extents(extents: &[Extent], at: usize) -> ExtentRecord
+pub fn eight_extents(extents: &[Extent], at: usize) -> ExtentRecord
     requires { at + 8 < 2 ^ 64 }
     ensures { result ≡ eight_at extents.now at }
 {
@@ -116,7 +116,7 @@ pub(crate) fn eight_extents(extents: &[Extent], at: usize) -> ExtentRecord
 }
 
 /// Adds the extents in use to a list.
-pub(crate) fn push_used(list: &mut ExtentList, extents: &[Extent]) -> Result<(), OutOfMemory>
+pub fn push_used(list: &mut ExtentList, extents: &[Extent]) -> Result<(), OutOfMemory>
     ensures { OnOk result (list.new ≡ list.old ++ in_use extents.now) }
 {
     for extent in extents {

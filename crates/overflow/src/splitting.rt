@@ -7,8 +7,8 @@ use crate::record::{OverflowRecord, count_blocks, eight_extents};
 use hx_bytes::{Extent, OutOfMemory};
 use std::alloc::Global;
 
-/// The overflow records of a fork with these extents.
-pub(crate) fn split(alloc: Global, extents: &[Extent]) -> Result<Vec<OverflowRecord>, OutOfMemory>
+/// The records behind that of a fork with these extents: each has eight, and says how many blocks stand before it.
+pub fn split(alloc: Global, extents: &[Extent]) -> Result<Vec<OverflowRecord>, OutOfMemory>
     requires { length (blocks_of extents.now) < 2 ^ 32 }
     ensures { IfOk result (λ records. records.items ≡ records_for extents.now) }
 {

@@ -84,7 +84,7 @@ pub fn store_fork<N: NodeStore>(
 }
 
 /// The extents of a list that have blocks.
-fn leave_out_unused(alloc: Global, list: &ExtentList) -> Result<ExtentList, OutOfMemory>
+pub fn leave_out_unused(alloc: Global, list: &ExtentList) -> Result<ExtentList, OutOfMemory>
     ensures { IfOk result (λ used. used ≡ in_use list.now) }
 {
     let mut used = ExtentList::new(alloc);

@@ -21,8 +21,8 @@ use Rattle.volume_base.specs.Room.{capacity_of}
 use Rattle.volume_base.specs.Standing.{IsSettled, IsStanding, attribute_sectors, own_sectors, own_sectors_in}
 use Rattle.volume_base.specs.Touching as base
 use Rattle.volume_base.specs.declared.volume.Volume.{Volume}
-use Rattle.volume_space.specs.Spilling.{IsLaidOutAs}
-use Rattle.volume_space.specs.Standing.{HoldsOn}
+use Rattle.volume_base.specs.Holding.{IsLaidOutAs}
+use Rattle.volume_base.specs.Holding.{HoldsOn}
 use Rattle.served_volume.specs.Knowing.{Knows}
 use Rattle.served_volume.proofs.Heading.{head_is}
 use Rattle.served_volume.proofs.Holding.{holds_own}

@@ -5,45 +5,37 @@ use Rattle.std.proofs.lemmas.List.{append-nil}
 use Rattle.hx_bytes.specs.declared.faults.Trouble.{Trouble}
 use Rattle.jnl_format.specs.Recovery.{Content}
 use Rattle.sector_disk.specs.Space.{Space}
-use Rattle.hfs_language.specs.Text.{reply_text}
 use Rattle.hfs_language.specs.declared.reply.Change.{Change}
 use Rattle.hfs_language.specs.declared.reply.Reply.{Reply}
 use Rattle.hfs_language.specs.Language.{command_of}
 use Rattle.hfs_model.specs.Step.{refuses}
 use Rattle.hfs_model.specs.declared.plain.PlainTree.{PlainTree}
 use Rattle.volume_runs.specs.Rest.{CutsFor, GrowsFor, file_written}
-use Rattle.volume_runs.specs.Run.{Entry, IsServed, is_ok, or_before, replies_of, shrunk_after, shrunk_by, spelled}
+use Rattle.volume_runs.specs.Run.{Entry, IsServed, is_ok, or_before, shrunk_after, shrunk_by, spelled}
 use Rattle.volume_runs.specs.Told.{changes_by, changes_in}
 use Rattle.hfs_volume.specs.Content.{VolumeState, volume_of}
 use Rattle.hfs_volume.specs.Forks.{data_kind}
-use Rattle.hfs_volume.specs.Reclaim.{CutsAlone, GrowsTrees, SameFiles, blocks_wanted, first_growth}
+use Rattle.hfs_volume.specs.Reclaim.{CutsAlone, GrowsTrees, SameFiles, SameValues, blocks_wanted, first_growth}
 use Rattle.hfs_volume.specs.TreeOf.{tree_of}
 use Rattle.hfs_volume.specs.Weight.{cut_cost, data_of, free_blocks, needs_cut, room_with, weight}
-use Rattle.hfs_serving.specs.Going.{Answered, AnswersTo, Stays, Tidied, asked_in}
+use Rattle.hfs_serving.specs.Going.{Does, PerformsTo, Stays, Tidied, asked_in}
 use Rattle.hfs_serving.specs.Grounds.{KeepsHeading}
-use Rattle.hfs_serving.specs.Said.{joined, said_of}
 use Rattle.hfs_serving.specs.Serving.{IsDurable, IsRead}
-use Rattle.hfs_serving.specs.declared.volume.Step.{Step}
-use Rattle.hfs_serving.specs.declared.volume.Step.TheVariants as step
-use Rattle.hfs_serving.specs.declared.volume.ToTell.{ToTell}
 use Rattle.volume_base.specs.Keeping.{shrunk_of}
 use Rattle.volume_base.specs.declared.volume.Volume.{Volume}
 use Rattle.volume_step.specs.Steps.{IsServedAs}
 use Rattle.volume_step.specs.declared.outcome.Outcome.{Outcome}
 use Rattle.volume_step.specs.declared.outcome.Outcome.TheVariants as outcome
-use Rattle.served_volume.specs.Answering.{AnswersAs, CutsForLine, FillsForLine, GrowsForLine, ShrinksBy, TellsAs}
+use Rattle.served_volume.specs.Answering.{AnswersAs, CutsForLine, FillsForLine, GrowsForLine, ShrinksBy, performed_of}
 use Rattle.served_volume.specs.Knowing.{IsAlike, Knows}
 use Rattle.served_volume.proofs.Alike.{served_alike, told_alike}
 use Rattle.served_volume.proofs.Filled.{line_filled}
 use Rattle.served_volume.proofs.Stepping.{Leaves, follow, heads_then, knows_then, place_then, reads_then}
 
--- what a run of one entry tells
-one_said : (number : ℕ) (entry : Entry) (said : ToTell) → said.replies ≡ reply_text entry.reply → said.changes ≡ changes_by number entry → said_of number (entry ∷ []) ≡ said
-unfolding replies_of changes_in
-one_said number entry said replies changes = λ i. record {
-  replies = (append-nil (reply_text entry.reply) ∙ sym replies) i;
-  changes = (append-nil (changes_by number entry) ∙ sym changes) i;
-}
+-- what a run of one entry tells watchers
+one_told : (number : ℕ) (entry : Entry) (changes : List Change) → changes ≡ changes_by number entry → changes_in number (entry ∷ []) ≡ changes
+unfolding changes_in
+one_told number entry changes is = append-nil (changes_by number entry) ∙ sym is
 
 -- contents that are alike have the same cut
 cuts_alike : (capacity : ℕ) (line : List ℕ) (now next before after : Content) → IsAlike now before → IsAlike next after → CutsForLine capacity line before after → CutsFor capacity (asked_in line) now next
@@ -79,6 +71,7 @@ grows_alike capacity shrunk line now next before after one two was = record {
     some = was.first.some;
     grows = subst (λ (k : VolumeState × VolumeState). GrowsTrees (first_growth was.first.grow) k.0 k.1) {x = (volume_of before, volume_of after)} {y = (volume_of now, volume_of next)} (λ i. (sym one.lists i, sym two.lists i)) was.first.grows;
     files = subst (λ (k : VolumeState × VolumeState). SameFiles k.0 k.1) {x = (volume_of before, volume_of after)} {y = (volume_of now, volume_of next)} (λ i. (sym one.lists i, sym two.lists i)) was.first.files;
+    values = subst (λ (k : VolumeState × VolumeState). SameValues k.0 k.1) {x = (volume_of before, volume_of after)} {y = (volume_of now, volume_of next)} (λ i. (sym one.lists i, sym two.lists i)) was.first.values;
     keeps = record { sound = two.sound; tree = two.tree ∙ was.first.keeps.tree ∙ sym one.tree };
   };
   own = ap spelled was.spelled;
@@ -92,10 +85,10 @@ module _ (v w : Volume) (capacity : ℕ) (committed now : Content) (shrunk : Opt
   shrunk_then : (line : List ℕ) (said : Reply) (changes : List Change) → ShrinksBy (outcome.Answered said changes) line a.content (shrunk_of v) (shrunk_of w) → shrunk_of w ≡ (if is_ok said then or_before (shrunk_by (tree_of now) (command_of line)) shrunk else shrunk)
   shrunk_then line said changes was = was ∙ (λ i. if is_ok said then or_before (shrunk_by (sym known.alike.tree i) (command_of line)) (known.shrunk_is i) else known.shrunk_is i)
 
-  answered : (number : ℕ) (line : List ℕ) (said : Reply) (changes : List Change) → IsServedAs capacity number changes (record { line = line; reply = said; before = a.content; after = b.content })
+  does : (number : ℕ) (line : List ℕ) (said : Reply) (changes : List Change) → IsServedAs capacity number changes (record { line = line; reply = said; before = a.content; after = b.content })
       → ShrinksBy (outcome.Answered said changes) line a.content (shrunk_of v) (shrunk_of w)
-      → Answered capacity (λ was is file. Knows w capacity was is file b) committed now shrunk b number line (record { replies = reply_text said; changes = changes })
-  answered number line said changes was shrinks =
+      → Does capacity (λ was is file. Knows w capacity was is file b) committed now shrunk b number line said changes
+  does number line said changes was shrinks =
       let f = follow v w capacity committed now shrunk a b known below reads heads leaves in
       record {
         entry = record { line = line; reply = said; before = now; after = next };
@@ -106,7 +99,8 @@ module _ (v w : Volume) (capacity : ℕ) (committed now : Content) (shrunk : Opt
         reads = reads_then v w capacity committed now shrunk a b known below reads heads leaves;
         heads = heads_then v w capacity committed now shrunk a b known below reads heads leaves;
         known = knows_then v w capacity committed now shrunk a b known below reads heads leaves (shrunk_after shrunk (record { line = line; reply = said; before = now; after = next })) (shrunk_then line said changes shrinks);
-        told = one_said number (record { line = line; reply = said; before = now; after = next }) (record { replies = reply_text said; changes = changes }) refl
+        reply = refl;
+        told = one_told number (record { line = line; reply = said; before = now; after = next }) changes
             (was.told ∙ sym (told_alike capacity line said now next a.content b.content known.alike f.alike f.still number));
       }
 
@@ -134,20 +128,11 @@ module _ (v w : Volume) (capacity : ℕ) (committed now : Content) (shrunk : Opt
         known = knows_then v w capacity committed now shrunk a b known below reads heads leaves shrunk (kept ∙ known.shrunk_is);
       }
 
-  pub answers : (number : ℕ) (line : List ℕ) (before after : ToTell) (o : Outcome) (s : Step) → AnswersAs o capacity number line a.content b.content → ShrinksBy o line a.content (shrunk_of v) (shrunk_of w) → TellsAs s o before after
-      → AnswersTo s capacity (λ was is file. Knows w capacity was is file b) committed now shrunk b number line before after
-  answers number line before after (outcome.Answered said changes) step.Answered was shrinks told = (record { replies = reply_text said; changes = changes }, told, answered number line said changes was shrinks)
-  answers number line before after (outcome.Answered said changes) step.Again was shrinks told = absurd told
-  answers number line before after (outcome.Answered said changes) step.CommitFirst was shrinks told = absurd told
-  answers number line before after (outcome.Answered said changes) step.Forgone was shrinks told = absurd told
-  answers number line before after outcome.CommitFirst step.Forgone was shrinks told = absurd told
-  answers number line before after outcome.Again step.Forgone was shrinks told = absurd told
-  answers number line before after outcome.CommitFirst step.Answered was shrinks told = absurd told
-  answers number line before after outcome.CommitFirst step.Again was shrinks told = absurd told
-  answers number line before after outcome.CommitFirst step.CommitFirst was shrinks told = (told, stays was shrinks)
-  answers number line before after outcome.Again step.Answered was shrinks told = absurd told
-  answers number line before after outcome.Again step.Again was shrinks told = (told, went line was shrinks)
-  answers number line before after outcome.Again step.CommitFirst was shrinks told = absurd told
+  pub performs : (number : ℕ) (line : List ℕ) (o : Outcome) → AnswersAs o capacity number line a.content b.content → ShrinksBy o line a.content (shrunk_of v) (shrunk_of w)
+      → PerformsTo (performed_of o) capacity (λ was is file. Knows w capacity was is file b) committed now shrunk b number line
+  performs number line (outcome.Answered said changes) was shrinks = does number line said changes was shrinks
+  performs number line outcome.Again was shrinks = went line was shrinks
+  performs number line outcome.CommitFirst was shrinks = stays was shrinks
 
 -- what a result's value has
 pub if_so : {A E : Type 0} (P Q : A → Type 0) (r : Result A E) → ((x : A) → P x → Q x) → IfOk r P → IfOk r Q

@@ -18,7 +18,7 @@ use Rattle.hfs_serving.specs.Serving.{Commits, IsRead}
 use Rattle.volume_base.specs.Keeping.{SameStanding, Settles}
 use Rattle.volume_base.specs.Room.{capacity_of}
 use Rattle.volume_base.specs.Service.{IsInService}
-use Rattle.volume_space.specs.Standing.{HoldsOn}
+use Rattle.volume_base.specs.Holding.{HoldsOn}
 use Rattle.volume_base.specs.Standing.{IsSettled, IsStanding, StandsOver}
 use Rattle.volume_base.specs.declared.volume.Kept.{Kept}
 use Rattle.volume_base.specs.declared.volume.Volume.{Volume}

@@ -5,7 +5,7 @@ use Rattle.hx_bytes.specs.declared.faults.Trouble.{Trouble}
 use Rattle.jnl_format.specs.Recovery.{Content}
 use Rattle.sector_disk.specs.Space.{Space}
 use Rattle.hfs_volume.specs.Content.{VolumeState, volume_of}
-use Rattle.hfs_volume.specs.Reclaim.{CommandWants, Does, GrowsTreeFirst, GrowsTrees, Reclaims, SameFiles, StepWants, first_growth, next_reclaim, reclaim_cost}
+use Rattle.hfs_volume.specs.Reclaim.{CommandWants, Does, GrowsTreeFirst, GrowsTrees, Reclaims, SameFiles, SameValues, StepWants, first_growth, next_reclaim, reclaim_cost}
 use Rattle.hfs_volume.specs.Weight.{weight}
 use Rattle.hfs_model.specs.Step.{refuses}
 use Rattle.hfs_model.specs.declared.plain.PlainTree.{PlainTree}
@@ -58,6 +58,7 @@ growth_alike capacity shrunk now next before after one two was =
       some = was.some;
       grows = subst (λ (k : VolumeState × VolumeState). GrowsTrees (first_growth was.grow) k.0 k.1) {x = (volume_of before, volume_of after)} {y = (volume_of now, volume_of next)} (λ i. (sym one.lists i, sym two.lists i)) was.grows;
       files = subst (λ (k : VolumeState × VolumeState). SameFiles k.0 k.1) {x = (volume_of before, volume_of after)} {y = (volume_of now, volume_of next)} (λ i. (sym one.lists i, sym two.lists i)) was.files;
+      values = subst (λ (k : VolumeState × VolumeState). SameValues k.0 k.1) {x = (volume_of before, volume_of after)} {y = (volume_of now, volume_of next)} (λ i. (sym one.lists i, sym two.lists i)) was.values;
       keeps = record { sound = two.sound; tree = two.tree ∙ was.keeps.tree ∙ sym one.tree };
     }
 

@@ -1,7 +1,7 @@
--- Lines that are refused.
-use Rattle.std.proofs.Common.{◌≡◌, ◌≢◌, ◌⊎◌, ◌<◌, ◌==◌, ℕ, arith, Bool, true, false, List, [], inl, inr, ⊎_elim, refl, sym, ap, subst}
+-- Commands that are refused.
+use Rattle.std.proofs.Common.{◌≡◌, ◌≢◌, ◌<◌, ◌==◌, ℕ, arith, Bool, true, false, List, [], inl, inr, ⊎_elim, refl, sym, subst}
 use Rattle.std.proofs.lemmas.Bool.{ne_eqb, true≢false}
-use Rattle.std.specs.Prelude.{Option, Result, Ok, Err, if◌then◌else◌}
+use Rattle.std.specs.Prelude.{Option, Result, Ok, if◌then◌else◌}
 use Rattle.jnl_format.specs.Keeping.{IsSame}
 use Rattle.jnl_format.specs.Recovery.{Content, header_of_volume}
 use Rattle.volume_header.specs.declared.header.VolumeHeader.{VolumeHeader}
@@ -11,32 +11,22 @@ use Rattle.hfs_language.specs.declared.refusal.Refusal.{Refusal}
 use Rattle.hfs_language.specs.declared.refusal.Refusal.TheVariants as refusal
 use Rattle.hfs_language.specs.declared.reply.Reply.{Reply}
 use Rattle.hfs_language.specs.declared.reply.Reply.TheVariants as reply
-use Rattle.hfs_model.specs.Step.{step_line}
-use Rattle.volume_runs.specs.Run.{DoesLine, Entry, IsAnswered, LacksMemory, is_ok, or_before, reply_to, shrunk_by}
+use Rattle.volume_runs.specs.Run.{Entry, is_ok, or_before, shrunk_by}
 use Rattle.hfs_volume.specs.Sound.{IsSound}
 use Rattle.hfs_volume.specs.TreeOf.{tree_of}
 use Rattle.volume_step.specs.Steps.{IsServedAs, KeepsJournal, ShrinksAs, StepsTo}
 use Rattle.volume_step.specs.declared.outcome.Outcome.{Outcome}
 use Rattle.volume_step.specs.declared.outcome.Outcome.TheVariants as outcome
-use Rattle.served_volume.specs.Answering.{AnswersAs, IsDecidedAs, IsDecidedOrWaits, IsRefusedAs, ShrinksBy, unless_short}
+use Rattle.served_volume.specs.Answering.{AnswersAs, IsDecidedAs, IsDecidedOrWaits, ShrinksBy, unless_short}
 
+-- the entry of a command for which memory is missing
 module _ (capacity number : ℕ) (line : List ℕ) (content : Content) (sound : IsSound content) where
-  abbrev entry : Refusal → Entry
-  entry why = record { line = line; reply = reply.No why; before = content; after = content }
+  abbrev entry : Entry
+  entry = record { line = line; reply = reply.No refusal.OutOfMemory; before = content; after = content }
 
-  answered : (why : Refusal) → command_of line ≡ Err why → IsAnswered capacity (entry why)
-  answered why bad = record {
-    reply_is = subst (λ (r : Result Command Refusal). reply.No why ≡ reply_to capacity content r) (sym bad) refl;
-    tree = subst (λ (r : Result Command Refusal). tree_of content ≡ (step_line (tree_of content) r).1) (sym bad) refl;
-    does = subst (λ (r : Result Command Refusal). DoesLine capacity r content content) (sym bad) refl;
-  }
-
-  memory : (why : Refusal) → why ≡ refusal.OutOfMemory → LacksMemory capacity (entry why)
-  memory why short = record { reply_is = ap reply.No short; same = refl }
-
-  pub refused_entry : (why : Refusal) → IsRefusedAs line why → IsServedAs capacity number [] (entry why)
-  refused_entry why is = record {
-    served = record { sound_before = sound; sound_after = sound; is = ⊎_elim (λ bad. inl (answered why bad)) (λ short. inr (inr (memory why short))) is };
+  short_entry : IsServedAs capacity number [] entry
+  short_entry = record {
+    served = record { sound_before = sound; sound_after = sound; is = inr (inr (record { reply_is = refl; same = refl })) };
     told = refl;
   }
 
@@ -48,7 +38,7 @@ pub shortened : (capacity number : ℕ) (line : List ℕ) (asked : Command) (bef
 shortened capacity number line asked before after sound spelled true (outcome.Answered said changes) was = (was line spelled).served
 shortened capacity number line asked before after sound spelled false (outcome.Answered said changes) was = (was line spelled).served
 shortened capacity number line asked before after sound spelled true outcome.CommitFirst was =
-    subst (λ (c : Content). IsServedAs capacity number [] (record { line = line; reply = reply.No refusal.OutOfMemory; before = before; after = c })) (sym was) (refused_entry capacity number line before sound refusal.OutOfMemory (inr refl))
+    subst (λ (c : Content). IsServedAs capacity number [] (record { line = line; reply = reply.No refusal.OutOfMemory; before = before; after = c })) (sym was) (short_entry capacity number line before sound)
 shortened capacity number line asked before after sound spelled false outcome.CommitFirst was = was
 shortened capacity number line asked before after sound spelled true outcome.Again was = ⊎_elim (λ cuts. inl (record { asked = asked; spelled = spelled; first = cuts })) (⊎_elim (λ grows. inr (inl (record { asked = asked; spelled = spelled; first = grows }))) (λ fills. inr (inr (record { asked = asked; spelled = spelled; first = fills })))) was
 shortened capacity number line asked before after sound spelled false outcome.Again was = ⊎_elim (λ cuts. inl (record { asked = asked; spelled = spelled; first = cuts })) (⊎_elim (λ grows. inr (inl (record { asked = asked; spelled = spelled; first = grows }))) (λ fills. inr (inr (record { asked = asked; spelled = spelled; first = fills })))) was

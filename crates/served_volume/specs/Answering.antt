@@ -1,20 +1,15 @@
 -- What a line on a volume in service came to.
 use Rattle.std.specs.Prelude.{◌≡◌, ◌⊎◌, ℕ, Ok, Err, Bool, true, false, List, [], Option, if◌then◌else◌}
-use Rattle.cmd_lang.specs.declared.fault.LineFault.{LineFault}
-use Rattle.cmd_lang.specs.declared.fault.LineFault.TheVariants as fault
 use Rattle.jnl_format.specs.Recovery.{Content}
 use Rattle.hfs_language.specs.Language.{command_of}
 use Rattle.hfs_language.specs.declared.command.Command.{Command}
 use Rattle.hfs_language.specs.declared.refusal.Refusal.{Refusal}
 use Rattle.hfs_language.specs.declared.refusal.Refusal.TheVariants as refusal
 use Rattle.hfs_language.specs.declared.reply.Reply.TheVariants as reply
-use Rattle.hfs_language.specs.Text.{reply_text}
 use Rattle.volume_runs.specs.Run.{IsAnswered, LacksResource, is_ok, or_before, shrunk_by}
 use Rattle.hfs_volume.specs.TreeOf.{tree_of}
-use Rattle.hfs_serving.specs.Said.{joined}
-use Rattle.hfs_serving.specs.declared.volume.Step.{Step}
-use Rattle.hfs_serving.specs.declared.volume.Step.TheVariants as step
-use Rattle.hfs_serving.specs.declared.volume.ToTell.{ToTell}
+use Rattle.hfs_serving.specs.declared.volume.Performed.{Performed}
+use Rattle.hfs_serving.specs.declared.volume.Performed.TheVariants as performed
 use Rattle.volume_step.specs.Steps.{CutsFirst, FillsFirst, GrowsFirst, IsServedAs}
 use Rattle.volume_step.specs.declared.outcome.Outcome.{Outcome}
 use Rattle.volume_step.specs.declared.outcome.Outcome.TheVariants as outcome
@@ -65,11 +60,6 @@ ShrinksBy outcome.Again line before old new = new ≡ old
 abbrev pub refused : Refusal → Outcome
 refused why = outcome.Answered (reply.No why) []
 
--- why a line that was read to no command is refused
-abbrev pub refusal_of : LineFault → Refusal
-refusal_of (fault.No why) = why
-refusal_of fault.Memory = refusal.OutOfMemory
-
 -- what a step came to; where it wants a commit, though nothing was put since the last one, memory is missing
 abbrev pub unless_short : Bool → Outcome → Outcome
 unless_short true outcome.CommitFirst = refused refusal.OutOfMemory
@@ -77,13 +67,8 @@ unless_short false outcome.CommitFirst = outcome.CommitFirst
 unless_short fresh (outcome.Answered said changes) = outcome.Answered said changes
 unless_short fresh outcome.Again = outcome.Again
 
--- what is to be told was added where a line was answered
-abbrev pub TellsAs : Step → Outcome → ToTell → ToTell → Type 0
-TellsAs step.Answered (outcome.Answered said changes) before after = after ≡ joined before (record { replies = reply_text said; changes = changes })
-TellsAs step.CommitFirst outcome.CommitFirst before after = after ≡ before
-TellsAs step.Again outcome.Again before after = after ≡ before
-TellsAs _ _ before after = ⊥
-
--- the line spells no command for this reason, or memory is missing
-abbrev pub IsRefusedAs : List ℕ → Refusal → Type 0
-IsRefusedAs line why = (command_of line ≡ Err why) ⊎ (why ≡ refusal.OutOfMemory)
+-- what a step came to, as a server sees it
+abbrev pub performed_of : Outcome → Performed
+performed_of (outcome.Answered said changes) = performed.Done said changes
+performed_of outcome.CommitFirst = performed.CommitFirst
+performed_of outcome.Again = performed.Again

@@ -9,9 +9,9 @@ use Rattle.hfs_volume.specs.TreeOf.{tree_of}
 use Rattle.volume_base.specs.Keeping.{shrunk_of}
 use Rattle.volume_base.specs.Room.{capacity_of}
 use Rattle.volume_base.specs.Service.{IsInService}
-use Rattle.volume_space.specs.Spilling.{IsLaidOutAs}
+use Rattle.volume_base.specs.Holding.{IsLaidOutAs}
 use Rattle.volume_base.specs.Standing.{StandsOver, IsSettled}
-use Rattle.volume_space.specs.Standing.{HoldsOn}
+use Rattle.volume_base.specs.Holding.{HoldsOn}
 use Rattle.volume_space.specs.Zeroing.{HasFilled}
 use Rattle.volume_base.specs.declared.volume.Volume.{Volume}
 

@@ -1,11 +1,9 @@
-//! A line on a volume in service.
-ghost use Rattle.std.specs.Prelude.{◌≡◌, ◌≢◌, ◌⊎◌, ◌<◌, ◌==◌, ℕ, true, IsTrue, IfErr, IfOk, Err, Ok, OnOk};
+//! A command on a volume in service.
+ghost use Rattle.std.specs.Prelude.{◌≡◌, ◌≢◌, ◌⊎◌, ◌<◌, ◌==◌, ℕ, List, true, IsTrue, IfOk, Ok, OnOk, Some};
 ghost use Rattle.jnl_format.specs.Recovery.{Content};
 ghost use Rattle.sector_disk.specs.Space.{SameSpace};
 ghost use Rattle.btree_edit.specs.Causes.{HasTroubleCause};
-ghost use Rattle.cmd_lang.specs.declared.fault.LineFault.TheVariants.{No};
 ghost use Rattle.hfs_language.specs.Language.{command_of};
-ghost use Rattle.hfs_language.specs.declared.refusal.Refusal.{Refusal};
 ghost use Rattle.hfs_language.specs.Written.{FitsCommand};
 ghost use Rattle.hfs_model.specs.Step.{only_reads};
 ghost use Rattle.hfs_volume.specs.Aside.{IsJournalSector};
@@ -13,22 +11,20 @@ ghost use Rattle.hfs_volume.specs.Sound.{IsSound};
 ghost use Rattle.volume_base.specs.Keeping.{shrunk_of};
 ghost use Rattle.volume_base.specs.Room.{capacity_of};
 ghost use Rattle.volume_base.specs.Service.{IsInService};
-ghost use Rattle.volume_space.specs.Spilling.{IsLaidOutAs};
-ghost use Rattle.volume_space.specs.Standing.{HoldsOn};
+ghost use Rattle.volume_base.specs.Holding.{IsLaidOutAs};
+ghost use Rattle.volume_base.specs.Holding.{HoldsOn};
 ghost use Rattle.volume_space.specs.Zeroing.{HasFilled};
 ghost use Rattle.volume_base.specs.Standing.{IsSettled, StandsOver};
 ghost use Rattle.volume_base.specs.Touching.{Touches};
 ghost use Rattle.volume_step.specs.Anew.{FitsAnew, IsAnew};
-ghost use Rattle.volume_step.specs.Steps.{FitsNow, KeepsJournal, OwnOf, PutsNow};
+ghost use Rattle.volume_step.specs.Steps.{FitsReady, KeepsJournal, OwnOf, PutsNow};
 ghost use Rattle.volume_step.specs.declared.outcome.Outcome.TheVariants as outcome;
-ghost use Rattle.served_volume.specs.Answering.{AnswersAs, IsDecidedAs, IsDecidedOrWaits, IsRefusedAs, ShrinksBy, refusal_of, refused, unless_short};
+ghost use Rattle.served_volume.specs.Answering.{AnswersAs, IsDecidedAs, IsDecidedOrWaits, ShrinksBy, performed_of, refused, unless_short};
+ghost use Rattle.served_volume.specs.Wanting.{WantsCommit};
 
-use crate::fitting::look_at_command;
-use cmd_lang::{LineFault, read_line, read_valued};
 use hfs_language::{Changes, Command, Refusal, Reply};
-use hfs_serving::Ground;
+use hfs_serving::{Ground, Performed};
 use hx_bytes::Trouble;
-use line_source::Line;
 use std::alloc::Global;
 use volume_base::Volume;
 use volume_step::{Outcome, step};
@@ -40,16 +36,6 @@ fn refused(alloc: Global, why: Refusal) -> Outcome
     Outcome::Answered {
         reply: Reply::No(why),
         changes: Changes::new(alloc),
-    }
-}
-
-/// Why a line that was read to no command is refused.
-fn refusal_of(fault: LineFault) -> Refusal
-    ensures { result ≡ refusal_of fault }
-{
-    match fault {
-        LineFault::No(why) => why,
-        LineFault::Memory => Refusal::OutOfMemory,
     }
 }
 
@@ -70,31 +56,14 @@ fn unless_short(alloc: Global, fresh: bool, outcome: Outcome) -> Outcome
     }
 }
 
-/// The command that a line spells, or why it is refused.
-fn read_command(alloc: Global, line: &Line) -> Result<Command, Refusal>
-    ensures command { IfOk result (λ command. command_of line.now ≡ Ok command) }
-    ensures fits { IfOk result FitsCommand }
-    // It is refused for what is wrong with it, or because memory is missing.
-    ensures refused { IfErr result (IsRefusedAs line.now) }
+/// What a step came to, as a server sees it.
+pub(crate) fn performed(outcome: Outcome) -> Performed
+    ensures { result ≡ performed_of outcome }
 {
-    match command_in(alloc, line) {
-        Ok(command) => {
-            look_at_command(&command);
-            Ok(command)
-        }
-        Err(fault) => Err(refusal_of(fault)),
-    }
-}
-
-/// The command that a line spells. Where it ends in a value that is there as it is, that isn't spelled to be read.
-fn command_in(alloc: Global, line: &Line) -> Result<Command, LineFault>
-    ensures command { IfOk result (λ command. command_of line.now ≡ Ok command) }
-    ensures refused { (why : Refusal) → result ≡ Err (No why) → command_of line.now ≡ Err why }
-{
-    let (text, value) = line.parts();
-    match value {
-        None => read_line(alloc, text),
-        Some(value) => read_valued(alloc, text, value),
+    match outcome {
+        Outcome::Answered { reply, changes } => Performed::Done { reply, changes },
+        Outcome::CommitFirst => Performed::CommitFirst,
+        Outcome::Again => Performed::Again,
     }
 }
 
@@ -105,48 +74,12 @@ fn is_fresh<P: Ground>(space: &P) -> bool
     space.pending() == 0
 }
 
-/// Answers the line of this number.
-pub(crate) fn answer_line<P: Ground>(
+/// Does a command of the line with this number. Behind a fault no growth is in hand.
+pub(crate) fn do_command<P: Ground>(
     alloc: Global,
     volume: &mut Volume,
     space: &mut P,
     number: u64,
-    line: &Line,
-) -> Result<Outcome, Trouble>
-    requires stands { StandsOver volume.old (P.SectorView.space space.old) }
-    requires settled { IsTrue (P.SectorView.space space.old).tells → IsSettled volume.old (P.SectorView.space space.old).content }
-    requires filled { HasFilled volume.old (P.SectorView.space space.old) }
-    requires sound { IsTrue (P.SectorView.space space.old).tells → IsSound (P.SectorView.space space.old).content }
-    requires closed { IsTrue (P.SectorView.space space.old).tells → (at : ℕ) → (P.SectorView.space space.old).closed at → IsJournalSector (P.SectorView.space space.old).content at }
-    // Told, the line's entry is one of a run, with what it changed for watchers; or a commit is wanted first.
-    ensures answered { IsTrue (P.SectorView.space space.old).tells → IfOk result (λ outcome. AnswersAs outcome (capacity_of volume.old) number line.now (P.SectorView.space space.old).content (P.SectorView.space space.new).content) }
-    ensures place { IsTrue (P.SectorView.space space.old).tells → OnOk result (KeepsJournal (P.SectorView.space space.old).content (P.SectorView.space space.new).content) }
-    ensures stands { OnOk result (StandsOver volume.new (P.SectorView.space space.new)) }
-    ensures settled { IsTrue (P.SectorView.space space.old).tells → OnOk result (IsSettled volume.new (P.SectorView.space space.new).content) }
-    ensures filled { HasFilled volume.new (P.SectorView.space space.new) }
-    ensures service { IsInService volume.new (P.SectorView.space space.new) }
-    ensures holds { (committed : Content) → HoldsOn committed volume.old → OnOk result (HoldsOn committed volume.new) }
-    ensures capacity { capacity_of volume.new ≡ capacity_of volume.old }
-    // The file that was shrunk last is the one that the line shrank, where it shrank one.
-    ensures shrunk { IsTrue (P.SectorView.space space.old).tells → IfOk result (λ outcome. ShrinksBy outcome line.now (P.SectorView.space space.old).content (shrunk_of volume.old) (shrunk_of volume.new)) }
-    ensures touches { (committed : Content) → HoldsOn committed volume.old → IsLaidOutAs committed volume.old → Touches committed (OwnOf volume.old volume.new) (P.SectorView.space space.old) (P.SectorView.space space.new) }
-    ensures same { SameSpace (P.SectorView.space space.old) (P.SectorView.space space.new) }
-    ensures below { P.SectorView.follows space.old space.new }
-    ensures cause { HasTroubleCause (P.SectorView.space space.old).faults (P.SectorView.space space.new).faults result }
-{
-    match read_command(alloc, line) {
-        Ok(command) => do_command(alloc, volume, space, number, line, &command),
-        Err(why) => Ok(refused(alloc, why)),
-    }
-}
-
-// Does the command that a line spells. Behind a fault no growth is in hand.
-fn do_command<P: Ground>(
-    alloc: Global,
-    volume: &mut Volume,
-    space: &mut P,
-    number: u64,
-    line: &Line,
     command: &Command,
 ) -> Result<Outcome, Trouble>
     requires stands { StandsOver volume.old (P.SectorView.space space.old) }
@@ -154,15 +87,16 @@ fn do_command<P: Ground>(
     requires filled { HasFilled volume.old (P.SectorView.space space.old) }
     requires sound { IsTrue (P.SectorView.space space.old).tells → IsSound (P.SectorView.space space.old).content }
     requires closed { IsTrue (P.SectorView.space space.old).tells → (at : ℕ) → (P.SectorView.space space.old).closed at → IsJournalSector (P.SectorView.space space.old).content at }
-    requires spelled { command_of line.now ≡ Ok command.now }
     requires fits { FitsCommand command.now }
-    ensures answered { IsTrue (P.SectorView.space space.old).tells → IfOk result (λ outcome. AnswersAs outcome (capacity_of volume.old) number line.now (P.SectorView.space space.old).content (P.SectorView.space space.new).content) }
+    ensures answered { (line : List ℕ) → command_of line ≡ Ok command.now → IsTrue (P.SectorView.space space.old).tells → IfOk result (λ outcome. AnswersAs outcome (capacity_of volume.old) number line (P.SectorView.space space.old).content (P.SectorView.space space.new).content) }
     // Where the step is ready for it, or nothing was put since the last commit and nothing is missing for it, neither a commit is wanted nor is
     // memory missing.
-    ensures ready { IsTrue (P.SectorView.space space.old).tells → (only_reads command.now ≡ true) ⊎ (FitsNow command.now volume.old (P.SectorView.space space.old) ⊎ PutsNow command.now volume.old (P.SectorView.space space.old)) → IfOk result (λ outcome. IsDecidedAs outcome (capacity_of volume.old) line.now (P.SectorView.space space.old).content (P.SectorView.space space.new).content) }
-    ensures anew { IsTrue (P.SectorView.space space.old).tells → IsAnew volume.old (P.SectorView.space space.old) → FitsAnew command.now volume.old (P.SectorView.space space.old).content → IfOk result (λ outcome. IsDecidedAs outcome (capacity_of volume.old) line.now (P.SectorView.space space.old).content (P.SectorView.space space.new).content) }
+    ensures ready { (line : List ℕ) → command_of line ≡ Ok command.now → IsTrue (P.SectorView.space space.old).tells → (only_reads command.now ≡ true) ⊎ (FitsReady command.now volume.old (P.SectorView.space space.old) ⊎ PutsNow command.now volume.old (P.SectorView.space space.old)) → IfOk result (λ outcome. IsDecidedAs outcome (capacity_of volume.old) line (P.SectorView.space space.old).content (P.SectorView.space space.new).content) }
+    ensures anew { (line : List ℕ) → command_of line ≡ Ok command.now → IsTrue (P.SectorView.space space.old).tells → IsAnew volume.old (P.SectorView.space space.old) → FitsAnew command.now volume.old (P.SectorView.space space.old).content → IfOk result (λ outcome. IsDecidedAs outcome (capacity_of volume.old) line (P.SectorView.space space.old).content (P.SectorView.space space.new).content) }
     // Where something was put since the last commit memory isn't missing for it; where nothing was, no commit is wanted.
-    ensures pends { IsTrue (P.SectorView.space space.old).tells → 0 < P.taken space.old → IfOk result (λ outcome. IsDecidedOrWaits outcome (capacity_of volume.old) line.now (P.SectorView.space space.old).content (P.SectorView.space space.new).content) }
+    ensures pends { (line : List ℕ) → command_of line ≡ Ok command.now → IsTrue (P.SectorView.space space.old).tells → 0 < P.taken space.old → IfOk result (λ outcome. IsDecidedOrWaits outcome (capacity_of volume.old) line (P.SectorView.space space.old).content (P.SectorView.space space.new).content) }
+    // One is wanted only where something stands in the command's way: room, the blocks that are held until then, or many zero blocks.
+    ensures waits { IsTrue (P.SectorView.space space.old).tells → IfOk result (λ came. came ≡ outcome.CommitFirst → WantsCommit volume.old (P.SectorView.space space.old) (Some command.now)) }
     ensures never { P.taken space.old ≡ 0 → IfOk result (λ it. it ≢ outcome.CommitFirst) }
     ensures place { IsTrue (P.SectorView.space space.old).tells → OnOk result (KeepsJournal (P.SectorView.space space.old).content (P.SectorView.space space.new).content) }
     ensures stands { OnOk result (StandsOver volume.new (P.SectorView.space space.new)) }
@@ -171,7 +105,7 @@ fn do_command<P: Ground>(
     ensures service { IsInService volume.new (P.SectorView.space space.new) }
     ensures holds { (committed : Content) → HoldsOn committed volume.old → OnOk result (HoldsOn committed volume.new) }
     ensures capacity { capacity_of volume.new ≡ capacity_of volume.old }
-    ensures shrunk { IsTrue (P.SectorView.space space.old).tells → IfOk result (λ outcome. ShrinksBy outcome line.now (P.SectorView.space space.old).content (shrunk_of volume.old) (shrunk_of volume.new)) }
+    ensures shrunk { (line : List ℕ) → command_of line ≡ Ok command.now → IsTrue (P.SectorView.space space.old).tells → IfOk result (λ outcome. ShrinksBy outcome line (P.SectorView.space space.old).content (shrunk_of volume.old) (shrunk_of volume.new)) }
     ensures touches { (committed : Content) → HoldsOn committed volume.old → IsLaidOutAs committed volume.old → Touches committed (OwnOf volume.old volume.new) (P.SectorView.space space.old) (P.SectorView.space space.new) }
     ensures same { SameSpace (P.SectorView.space space.old) (P.SectorView.space space.new) }
     ensures below { P.SectorView.follows space.old space.new }

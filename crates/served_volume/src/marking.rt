@@ -24,6 +24,7 @@ impl ServedVolume {
         ensures still { (capacity : ℕ) → G.serves base.old capacity → G.taken base.old ≤ capacity → OnOk result (G.serves base.new capacity × (G.taken base.new ≤ capacity)) }
         ensures tells { (G.space base.new).tells ≡ (G.space base.old).tells }
         ensures anchor { G.anchor base.new ≡ G.anchor base.old }
+        ensures barriers { (G.space base.new).barriers ≡ (G.space base.old).barriers }
         ensures faults { Faults (G.failed base.old) (G.space base.old) (G.failed base.new) (G.space base.new) result }
     {
         if self.is_elsewhere(base) {

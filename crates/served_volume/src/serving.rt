@@ -1,20 +1,22 @@
 //! A whole volume, served within batches.
 ghost use Rattle.served_volume.specs.Knowing.{Knows};
+ghost use Rattle.served_volume.specs.Wanting.{ServedWants};
 
-use crate::answering::answer_line;
+use crate::answering::{do_command, performed};
 use crate::renewing::{put_in_place, with_shrunk};
 use crate::served::ServedVolume;
 use crate::tidied::next_of;
-use crate::told::{say_short, tell};
-use hfs_serving::{Ground, Next, Recalled, Step, ToTell, Volume};
+use hfs_language::Command;
+use hfs_serving::{Ground, Next, Performed, Recalled, Volume};
 use hfs_volume::aside_is_free;
 use hx_bytes::Trouble;
-use line_source::Line;
 use std::alloc::Global;
 use volume_step::tidy;
 
 impl Volume for ServedVolume {
     ghost knows = { λ served space capacity committed now shrunk. Knows served.volume capacity committed now shrunk space };
+
+    ghost wants = { ServedWants };
 
     fn attach<G: Ground>(alloc: Global, base: &mut G, capacity: u64) -> Result<Self, Trouble> {
         let _before = base.pending();
@@ -46,20 +48,19 @@ impl Volume for ServedVolume {
         }
     }
 
-    fn answer<G: Ground>(
+    fn perform<G: Ground>(
         &mut self,
         base: &mut G,
         number: u64,
-        line: &Line,
-        told: &mut ToTell,
-    ) -> Result<Step, Trouble> {
+        command: &Command,
+    ) -> Result<Performed, Trouble> {
         if self.is_elsewhere(base) {
             return Err(Trouble::Memory);
         }
-        let outcome = answer_line(self.alloc, &mut self.volume, base, number, line);
+        let outcome = do_command(self.alloc, &mut self.volume, base, number, command);
         base.look();
         match outcome {
-            Ok(outcome) => tell(self.alloc, outcome, told),
+            Ok(outcome) => Ok(performed(outcome)),
             Err(trouble) => Err(trouble),
         }
     }
@@ -86,11 +87,6 @@ impl Volume for ServedVolume {
             }
             Err(trouble) => Err(trouble),
         }
-    }
-
-    fn tell_short(&self, told: &mut ToTell) -> Result<(), Trouble> {
-        say_short(self.alloc, told)?;
-        Ok(())
     }
 
     fn mark_mounted<G: Ground>(&mut self, base: &mut G) -> Result<(), Trouble> {

@@ -69,3 +69,18 @@ pub fn filling(alloc: Global, files: u8) -> Result<Vec<u8>, AllocError> {
     }
     Ok(lines)
 }
+
+/// A text in which each tilde stands for so many letters `v`.
+pub fn lengthened(alloc: Global, text: &[u8], letters: usize) -> Result<Vec<u8>, AllocError> {
+    let mut long = Vec::new(alloc);
+    for byte in text {
+        if *byte == b'~' {
+            for _letter in 0..letters {
+                long.push(b'v')?;
+            }
+        } else {
+            long.push(*byte)?;
+        }
+    }
+    Ok(long)
+}

@@ -14,7 +14,7 @@ use Rattle.btree_edit.specs.LevelEdit.{node_room}
 use Rattle.hfs_language.specs.declared.refusal.Refusal.{Refusal}
 use Rattle.hfs_language.specs.declared.refusal.Refusal.TheVariants as refusal
 use Rattle.hfs_volume.specs.Cost.{depth_of, rises, need, missing, growth, growth_for, new_maps, growth_writes, tree_load, node_sectors, is_too_deep, tree_at, plan_of, growth_blocks, load_of, cost_of, cost_or, resource_refusal, first_refusal, where_, extents_key, catalog_key, attributes_key}
-use Rattle.hfs_volume.specs.Weight.{changes_nothing, edits_of, data_of, needs_for, needs_cut, lacks_tree, room_with, weight_with}
+use Rattle.hfs_volume.specs.Weight.{changes_nothing, edits_of, data_of, needs_for, needs_cut, lacks_tree, room_with, weight_with, values_of, with_values}
 use Rattle.hfs_model.specs.Step.{only_reads}
 use Rattle.hfs_volume.specs.declared.cost.Cost.{Cost}
 use Rattle.hfs_volume.specs.declared.cost.Cost.TheVariants as cost
@@ -208,8 +208,8 @@ unless_refused false false false x y z why load grow no_a no_b is = is
 pub weight_law : WeightSaysEnough
 unfolding weight_with
 weight_law capacity free volume tree asked load grow changes no_cut is =
-    says_law (needs_for free volume (edits_of tree asked) (data_of tree asked)) (room_with capacity free volume) load grow
-    (unless_refused (only_reads asked || changes_nothing tree asked) (needs_cut volume (data_of tree asked)) (lacks_tree volume asked) _ _ (cost_of (needs_for free volume (edits_of tree asked) (data_of tree asked)) (room_with capacity free volume)) _ load grow changes no_cut is)
+    says_law (with_values free (values_of volume tree asked) (needs_for free volume (edits_of tree asked) (data_of tree asked))) (room_with capacity free volume) load grow
+    (unless_refused (only_reads asked || changes_nothing tree asked) (needs_cut volume (data_of tree asked)) (lacks_tree volume asked) _ _ (cost_of (with_values free (values_of volume tree asked) (needs_for free volume (edits_of tree asked) (data_of tree asked))) (room_with capacity free volume)) _ load grow changes no_cut is)
 
 pub commands_law : CommandsHaveRoom
 commands_law needs room load grow afforded zero written store small tells formed holds low_records grown by_growth enough =

@@ -7,7 +7,7 @@ use Rattle.hfs_model.specs.declared.plain.PlainTree.{PlainTree}
 use Rattle.hfs_model.specs.Step.{only_reads}
 use Rattle.hfs_volume.specs.Content.{VolumeState}
 use Rattle.hfs_volume.specs.Cost.{depth_of, rises, need, growth, new_maps, growth_writes, tree_load, node_sectors, is_too_deep, extents_key, catalog_key, attributes_key, tree_at, plan_of, growth_blocks, load_of, cost_of}
-use Rattle.hfs_volume.specs.Weight.{changes_nothing, edits_of, data_of, needs_for, needs_cut, room_with, weight_with}
+use Rattle.hfs_volume.specs.Weight.{changes_nothing, edits_of, data_of, needs_for, needs_cut, room_with, values_of, weight_with, with_values}
 use Rattle.hfs_volume.specs.declared.cost.Cost.TheVariants as cost
 use Rattle.hfs_volume.specs.declared.cost.Needs.{Needs}
 use Rattle.hfs_volume.specs.declared.cost.Room.{Room}
@@ -80,11 +80,11 @@ pub record IsAfforded (needs : Needs) (room : Room) (load : ℕ) (grow : List �
 abbrev pub LoadSaysEnough : Type 0
 LoadSaysEnough = (needs : Needs) (room : Room) (load : ℕ) (grow : List ℕ) → cost_of needs room ≡ cost.Load load grow → IsAfforded needs room load grow
 
--- So does the weight of a command that changes something and needs no cut step before: what it needs are its edits and its data.
+-- So does the weight of a command that changes something and needs no cut step before: what it needs are its edits, its data and what it does to values.
 abbrev pub WeightSaysEnough : Type 0
 WeightSaysEnough =
     (capacity : ℕ) (free : List Bool) (volume : VolumeState) (tree : PlainTree) (asked : Command) (load : ℕ) (grow : List ℕ) → (only_reads asked || changes_nothing tree asked) ≡ false → needs_cut volume (data_of tree asked) ≡ false
-    → weight_with capacity free volume tree asked ≡ cost.Load load grow → IsAfforded (needs_for free volume (edits_of tree asked) (data_of tree asked)) (room_with capacity free volume) load grow
+    → weight_with capacity free volume tree asked ≡ cost.Load load grow → IsAfforded (with_values free (values_of volume tree asked) (needs_for free volume (edits_of tree asked) (data_of tree asked))) (room_with capacity free volume) load grow
 
 -- the longest keys of the trees of extents, catalog and attributes, in this order
 abbrev pub key_at : ℕ → ℕ

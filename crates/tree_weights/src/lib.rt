@@ -30,7 +30,7 @@ pub fn a_load_says_enough()
     ensures { LoadSaysEnough }
 {}
 
-/// The weight of a command says that nothing is missing for its edits and its data.
+/// The weight of a command says that nothing is missing for its edits, its data and what it does to values.
 pub fn a_weight_says_enough()
     ensures { WeightSaysEnough }
 {}

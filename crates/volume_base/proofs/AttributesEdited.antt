@@ -5,9 +5,6 @@ use Rattle.std.specs.List.{All}
 use Rattle.std.proofs.lemmas.List.Elements.{Contains-append_left, Contains-append_right}
 use Rattle.alloc_bitmap.specs.Apart.{AreApart, times}
 use Rattle.alloc_bitmap.proofs.ApartLaws.{times-append}
-use Rattle.attributes.specs.Values.{AnswersSet, Setting, SetsValue}
-use Rattle.attributes.specs.declared.answer.SetAnswer.{SetAnswer}
-use Rattle.attributes.specs.declared.answer.SetAnswer.TheVariants as answer
 use Rattle.btree_edit.specs.Desk.{IsDeskOf}
 use Rattle.btree_node.specs.Keys.{IsCatalogKey, IsExtentKey, IsAttrKey, catalog_cmp, extent_cmp, attr_cmp, is_eight_extents, anything}
 use Rattle.btree_node.specs.Levels.{Pair}
@@ -261,18 +258,8 @@ module _ (volume : Volume) (a b : Space) (later : Tree) (has : IsTrue (has_attri
     headed = header_stays volume a b later follows has was tells holds;
   }
 
-  pub attributes_changed : (Does : List Pair → List Pair → Type 0) (result : Result SetAnswer Trouble) → OnOk result (HoldsTree attributes_form IsAttrKey anything attr_cmp later.file b.content)
+  pub attributes_changed : {T : Type 0} (Does : List Pair → List Pair → Type 0) (result : Result T Trouble) → OnOk result (HoldsTree attributes_form IsAttrKey anything attr_cmp later.file b.content)
       → OnOk result (AreSortedAttributes (pairs_in (sectors_of_tree volume.attributes.file) b.content)) → OnOk result (Does (pairs_in (sectors_of_tree volume.attributes.file) a.content) (pairs_in (sectors_of_tree volume.attributes.file) b.content))
       → OnOk result (ChangesAttributes Does volume (edited volume a b later) a.content b.content)
   attributes_changed Does (Ok answer) holds sorted does = done Does holds sorted does
   attributes_changed Does (Err why) holds sorted does = holds
-
-  -- a value that isn't too long was set
-  pub values_set : (id : ℕ) (name value : List ℕ) → length value ≤ 1700 → (result : Result SetAnswer Trouble) → IfOk result (λ answer. AnswersSet (length value) answer)
-      → OnOk result (HoldsTree attributes_form IsAttrKey anything attr_cmp later.file b.content) → OnOk result (AreSortedAttributes (pairs_in (sectors_of_tree volume.attributes.file) b.content))
-      → IfOk result (λ answer. Setting id name value (pairs_in (sectors_of_tree volume.attributes.file) a.content) (pairs_in (sectors_of_tree volume.attributes.file) b.content) answer)
-      → OnOk result (ChangesAttributes (SetsValue id name value) volume (edited volume a b later) a.content b.content)
-  values_set id name value long (Ok answer.Done) answers holds sorted set = done (SetsValue id name value) holds sorted set
-  values_set id name value long (Ok answer.AttributeTooLarge) answers holds sorted set = absurd (omega (arith, long, answers))
-  values_set id name value long (Ok answer.NoAttribute) answers holds sorted set = absurd answers
-  values_set id name value long (Err why) answers holds sorted set = holds

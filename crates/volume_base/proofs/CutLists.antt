@@ -19,14 +19,14 @@ use Rattle.fork_map.specs.Blocks.{blocks_of}
 use Rattle.fork_map.specs.Cut.{front}
 use Rattle.hfs_model.specs.Sorted.{kept}
 use Rattle.hfs_volume.specs.Blocks.{GoesOn, HasSizes, forks_of}
-use Rattle.hfs_volume.specs.Changes.{FlipsBits, HasSameNodes, IsStored, SwapsFork, with_fork}
+use Rattle.hfs_volume.specs.Changes.{FlipsBits, HasSameNodes, IsStored, SwapsFork, with_fork, with_free}
 use Rattle.hfs_volume.specs.Content.{TreeFacts, VolumeState, is_set, overflow_in_volume, records_of}
 use Rattle.hfs_volume.specs.Entries.{IsUserId}
 use Rattle.hfs_volume.specs.Forks.{Owned, all_forks, blocks_owned, data_kind, extents_id, extents_of, forks_in, in_use, is_of, overflow_in, resource_kind}
 use Rattle.hfs_volume.specs.Reclaim.{blocks_at, blocks_found, is_fork}
 use Rattle.hfs_volume.specs.Records.{Overflow, Placed, overflow_of, entries_of, id_in, id_of, is_empty, is_folder, is_link_type, is_placed_at, is_thread, placed_in}
 use Rattle.hfs_volume.specs.Sound.{IsSoundVolume}
-use Rattle.hfs_volume.specs.Writing.{CutsBlocks, file_after, file_before, with_free}
+use Rattle.hfs_volume.specs.Writing.{CutsBlocks, file_after, file_before}
 use Rattle.hfs_volume.proofs.Flat.{found_some}
 use Rattle.hfs_volume.proofs.Hiding.{one_there, same_entry}
 use Rattle.hfs_volume.proofs.Making.{pairs_split}

@@ -19,7 +19,7 @@ use Rattle.hfs_model.specs.declared.plain.PlainEntry.{PlainEntry}
 use Rattle.hfs_model.specs.declared.plain.PlainTree.{PlainTree}
 use Rattle.volume_header.specs.declared.header.VolumeHeader.{VolumeHeader}
 use Rattle.hfs_volume.specs.Changes.{Adds, HasSameNodes, InAttributes, InCatalog, DropsEntry, thread_with}
-use Rattle.hfs_volume.specs.Commands.{ChangesFields, DropsAttributes, IsTouched, RemovesFolder, RmdirDoes, with_fields, with_folder_removed, without_attributes}
+use Rattle.hfs_volume.specs.Commands.{ChangesFields, DropsAttributes, IsTouched, RemovesFolder, RmdirDoes, with_fields, with_folder_removed}
 use Rattle.hfs_volume.specs.Content.{VolumeState, volume_of, records_of}
 use Rattle.hfs_volume.specs.Books.{SoundHasPlainTree}
 use Rattle.hfs_volume.specs.Entries.{AreThreaded, IsRoot, LiesIn, below, count_in, is_it}
@@ -27,7 +27,9 @@ use Rattle.hfs_volume.specs.Laws.{IsFolderId}
 use Rattle.hfs_volume.specs.Links.{private_id}
 use Rattle.hfs_volume.specs.Records.{Placed, entries_of, id_of, is_empty, is_folder, is_placed_at, is_thread, placed_in, placed_of, record_at, special_of, valence_in}
 use Rattle.hfs_volume.specs.Sound.{IsSoundVolume}
-use Rattle.hfs_volume.specs.TreeOf.{file_bytes, id_or_0, shared_file, tree_in, tree_of}
+use Rattle.hfs_volume.specs.TreeOf.{bytes_in, id_or_0, shared_file, tree_in, tree_of, BytesOf}
+use Rattle.hfs_volume.specs.Data.{PutsInValues}
+use Rattle.volume_base.proofs.Taken.{bares_nothing}
 use Rattle.hfs_volume.proofs.Bytes.{file_bytes_are}
 use Rattle.hfs_volume.proofs.Counting.{map_insert}
 use Rattle.hfs_volume.proofs.Dropping.{Leaves, threads_less}
@@ -49,7 +51,6 @@ use Rattle.volume_base.specs.declared.removing.Leaving.{Leaving}
 use Rattle.volume_base.specs.declared.volume.Volume.{Volume}
 use Rattle.volume_base.proofs.Counted.{counts_low}
 use Rattle.volume_base.proofs.ListsAgain.{lists_again}
-use Rattle.volume_base.proofs.Taken.{bares_none}
 use Rattle.volume_base.proofs.ListsAfter.{changes_both}
 use Rattle.volume_base.proofs.NodeIs.{elsewhere}
 use Rattle.volume_base.proofs.Recounting.{no_thread}
@@ -71,7 +72,7 @@ third_false true true c d is = absurd (true≢false is)
 third_false true false true d is = absurd (true≢false is)
 third_false true false false d is = is
 
-module _ (old : VolumeState) (bytes_of : FileRecord → List ℕ) (sound : IsSoundVolume old) where
+module _ (old : VolumeState) (bytes_of : BytesOf) (sound : IsSoundVolume old) where
   abbrev tree : PlainTree
   tree = tree_in old bytes_of
 
@@ -103,20 +104,20 @@ module _ (v : Volume) (a : Space) (was : IsStanding v a) (settled : IsSettled v 
   head_is : (volume_of a.content).head ≡ v.header
   head_is = ap (λ (l : VolumeState). l.head) settled.lists
 
-  allowed : to_rmdir (tree_in (volume_of a.content) (file_bytes a.content)) leaving.path ≡ Ok (folder_at at name)
+  allowed : to_rmdir (tree_in (volume_of a.content) (bytes_in a.content)) leaving.path ≡ Ok (folder_at at name)
   unfolding tree_of
   allowed = leaving.allowed
 
-  pub left : IsSeen (records_of (volume_of a.content)) (folder_at at name) × ((length (entries_in (tree_in (volume_of a.content) (file_bytes a.content)) at.id) == 0) ≡ true)
-  left = seen_where_left (volume_of a.content) (file_bytes a.content) settled.sound leaving.path (folder_at at name) allowed
+  pub left : IsSeen (records_of (volume_of a.content)) (folder_at at name) × ((length (entries_in (tree_in (volume_of a.content) (bytes_in a.content)) at.id) == 0) ≡ true)
+  left = seen_where_left (volume_of a.content) (bytes_in a.content) settled.sound leaving.path (folder_at at name) allowed
 
   -- the entry that stands under this key is the folder
-  entry_there : (entry : Placed) → record_at (placed_in (volume_of a.content).catalog_pairs) at.parent name ≡ Some entry → is_empty name ≡ false → IsSeenName (volume_of a.content) (file_bytes a.content) settled.sound (folder_at at name) entry
+  entry_there : (entry : Placed) → record_at (placed_in (volume_of a.content).catalog_pairs) at.parent name ≡ Some entry → is_empty name ≡ false → IsSeenName (volume_of a.content) (bytes_in a.content) settled.sound (folder_at at name) entry
   entry_there entry found some =
       let it = found_some (is_placed_at at.parent name) (placed_in (volume_of a.content).catalog_pairs) entry found in
       let tests = and_parts (entry.parent == at.parent) (bytes_eq entry.name name) it.1 in
       let same : entry.name ≡ name = (bytes_eq-Decides entry.name name).0 tests.1 in
-      named_entry (volume_of a.content) (file_bytes a.content) settled.sound (folder_at at name) entry (settled_sorted v a.content was.trees settled) left.0
+      named_entry (volume_of a.content) (bytes_in a.content) settled.sound (folder_at at name) entry (settled_sorted v a.content was.trees settled) left.0
       (kept_stands (λ (placed : Placed). not (is_empty placed.name)) (records_of (volume_of a.content)) entry it.0 (ap not (ap is_empty same ∙ some))) (eqb-true entry.parent at.parent tests.0) same
 
   -- it has a name, and something stands under its key
@@ -133,7 +134,7 @@ module _ (v : Volume) (a : Space) (was : IsStanding v a) (settled : IsSettled v 
     entry : Placed
     entry = drops.removes.entry
 
-    it : IsSeenName (volume_of a.content) (file_bytes a.content) settled.sound (folder_at at name) drops.removes.entry
+    it : IsSeenName (volume_of a.content) (bytes_in a.content) settled.sound (folder_at at name) drops.removes.entry
     it = entry_there drops.removes.entry (ap (λ (l : List Pair). record_at (placed_in l) at.parent name) pairs_are ∙ drops.removes.found) some
 
     is_a : is_folder drops.removes.entry.value ≡ true
@@ -155,15 +156,15 @@ module _ (v : Volume) (a : Space) (was : IsStanding v a) (settled : IsSettled v 
       childless : count_in (entries_of (records_of (volume_of a.content))) (id_of drops.removes.entry) ≡ 0
       unfolding tree_of
       childless =
-          sym (elsewhere (volume_of a.content) settled.sound (settled_sorted v a.content was.trees settled) (tree_in (volume_of a.content) (file_bytes a.content)) (tree_entries (volume_of a.content) (file_bytes a.content))
+          sym (elsewhere (volume_of a.content) settled.sound (settled_sorted v a.content was.trees settled) (tree_in (volume_of a.content) (bytes_in a.content)) (tree_entries (volume_of a.content) (bytes_in a.content))
           (settled_is_plain plain v a.content was.trees settled) (id_of drops.removes.entry)
           (record {
             folder = (drops.removes.entry, it.stands, is_a, refl);
             visible = seen_visible (records_of (volume_of a.content)) (volume_of a.content).head.next_catalog_id settled.sound.entries.ids settled.sound.entries.rooted drops.removes.entry it.stands it.shows;
           })
           (differs (id_of drops.removes.entry) 2 (λ two. omega (arith, two, it.high))))
-          ∙ ap (λ n. length (entries_in (tree_in (volume_of a.content) (file_bytes a.content)) n)) its_id
-          ∙ eqb-true (length (entries_in (tree_in (volume_of a.content) (file_bytes a.content)) at.id)) 0 left.1
+          ∙ ap (λ n. length (entries_in (tree_in (volume_of a.content) (bytes_in a.content)) n)) its_id
+          ∙ eqb-true (length (entries_in (tree_in (volume_of a.content) (bytes_in a.content)) at.id)) 0 left.1
 
       above : IsFolderId (entries_of (records_of (volume_of a.content))) drops.removes.entry.parent
       above = elim (each_of (λ (q : Placed). IsRoot q ⊎ LiesIn (entries_of (records_of (volume_of a.content))) 2 q.parent) (entries_of (records_of (volume_of a.content))) settled.sound.entries.rooted.each drops.removes.entry it.stands) [
@@ -249,9 +250,6 @@ module _ (v : Volume) (a : Space) (was : IsStanding v a) (settled : IsSettled v 
       moment : w.header.modify_date ≡ (volume_of a.content).head.modify_date
       moment = ap (λ (h : VolumeHeader). h.modify_date) drops.header ∙ sym (ap (λ (h : VolumeHeader). h.modify_date) head_is)
 
-      attributes_same : (lists_then a.content u c.content).attribute_pairs ≡ (volume_of a.content).attribute_pairs
-      attributes_same = ap (λ (l : VolumeState). l.attribute_pairs) t.changes.lists ∙ ap (λ (l : VolumeState). l.attribute_pairs) dropped_is
-
       counts : ChangesFields drops.removes.entry.parent (IsTouched (volume_of a.content).head.modify_date 0 1) (lists_then a.content w b.content) (lists_then a.content u c.content)
       counts = record {
         entry = t.counts.entry;
@@ -267,34 +265,25 @@ module _ (v : Volume) (a : Space) (was : IsStanding v a) (settled : IsSettled v 
         };
       }
 
-      bares : InAttributes (DropsAttributes at.id) (record (volume_of a.content) { head = with_folder_removed (volume_of a.content).head }) (without_attributes (volume_of a.content) (lists_then a.content u c.content))
-      bares = record {
-        changes = attributes_same ∙ bare;
-        nodes = record { total = refl; size = refl };
-        rest = refl;
-      }
-
-      in_catalog : InCatalog (DropsEntry drops.removes.entry) (without_attributes (volume_of a.content) (lists_then a.content u c.content)) (lists_then a.content w b.content)
-      in_catalog = record {
-        changes = dropped_entry;
-        nodes = nodes;
-        rest = dropped_is ∙ (λ i. record (volume_of a.content) { head = with_folder_removed (volume_of a.content).head; attribute_pairs = sym attributes_same i; catalog_pairs = (lists_of w b.content).catalog_pairs; catalog_tree = facts_on w.catalog.file });
-      }
+      in_catalog : InCatalog (DropsEntry drops.removes.entry) (record (volume_of a.content) { head = with_folder_removed (volume_of a.content).head }) (lists_then a.content w b.content)
+      in_catalog = record { changes = dropped_entry; nodes = nodes; rest = dropped_is }
 
       abbrev removes : RemovesFolder at.id (volume_of a.content) (lists_then a.content u c.content)
       removes = record {
         entry = drops.removes.entry;
         stands = it.stands;
         is_entry = its_id;
-        bares = bares;
+        bared = volume_of a.content;
+        bares = bares_nothing at.id (volume_of a.content) bare;
         dropped = lists_then a.content w b.content;
         drops = in_catalog;
         sorted = settled_sorted v a.content was.trees settled;
         counts = counts;
       }
 
-      does : IsSoundVolume (lists_then a.content u c.content) × (tree_in (lists_then a.content u c.content) (file_bytes a.content) ≡ (step (tree_in (volume_of a.content) (file_bytes a.content)) (command.Rmdir leaving.path)).1)
-      does = law leaving.path (folder_at at name) (volume_of a.content) (lists_then a.content u c.content) (file_bytes a.content) (file_bytes_are a.content) settled.sound allowed removes
+      does : IsSoundVolume (lists_then a.content u c.content) × (tree_in (lists_then a.content u c.content) (bytes_in a.content) ≡ (step (tree_in (volume_of a.content) (bytes_in a.content)) (command.Rmdir leaving.path)).1)
+          × PutsInValues (tree_in (volume_of a.content) (bytes_in a.content)) (command.Rmdir leaving.path) (volume_of a.content) (lists_then a.content u c.content)
+      does = law leaving.path (folder_at at name) (volume_of a.content) (lists_then a.content u c.content) (bytes_in a.content) (file_bytes_are a.content) settled.sound allowed removes
 
       changes : ChangesCatalog v u a.content c.content
       changes = changes_both v w u a.content b.content c.content drops.changes t.changes
@@ -331,7 +320,7 @@ module _ (v : Volume) (a : Space) (was : IsStanding v a) (settled : IsSettled v 
 
         -- in the lists of the content
         takes_then : TakesFolder at.id (volume_of a.content) (lists_then a.content u c.content)
-        takes_then = record { bared = volume_of a.content; bares = bares_none at.id (volume_of a.content) bare; removes = removes; folder = is_a }
+        takes_then = record { removes = removes; folder = is_a }
 
         pub emptied_takes : TakesFolder at.id (volume_of a.content) (volume_of c.content)
         emptied_takes = subst (λ (l : VolumeState). TakesFolder at.id (volume_of a.content) l) (sym (lists_again v u a c changes settled was emptied_does.0)) takes_then

@@ -39,7 +39,7 @@ module _ (content : Content) (sound : IsSoundVolume (volume_of content)) where
   unfolding volume_of
   geometry_is = geometry (length content) (header_of_volume content) sound.blocks.header.accepted
 
-  total_is : (volume_of content).head.total_blocks ≡ (header_of_volume content).total_blocks
+  pub total_is : (volume_of content).head.total_blocks ≡ (header_of_volume content).total_blocks
   unfolding volume_of
   total_is = refl
 

@@ -9,19 +9,21 @@ use Rattle.btree_node.specs.Levels.{Pair}
 use Rattle.fork_map.specs.Blocks.{blocks_of, sectors_of}
 use Rattle.cat_records.specs.declared.record.FileRecord.{FileRecord}
 use Rattle.cat_records.specs.declared.record.CatRecord.TheVariants.{File}
-use Rattle.hfs_volume.specs.Blocks.{forks_of}
-use Rattle.hfs_volume.specs.Content.{VolumeState, volume_of, records_of, overflow_in_volume, block_bytes}
+use Rattle.hfs_volume.specs.Blocks.{forks_of, used_in}
+use Rattle.hfs_volume.specs.Content.{VolumeState, volume_of, records_of, overflow_in_volume, attributes_of, block_bytes}
 use Rattle.hfs_volume.specs.Entries.{IsUserId}
 use Rattle.hfs_volume.specs.Forks.{Owned, per_block_of, parts_for, data_kind, allocation_id, catalog_id, attributes_id, extents_id, extents_of, blocks_owned, reserved_blocks}
 use Rattle.hfs_volume.specs.Records.{Placed, entries_of, overflow_of, id_of, id_in}
 use Rattle.hfs_volume.specs.Sound.{IsSoundVolume}
-use Rattle.hfs_volume.specs.TreeOf.{tree_in, file_bytes}
-use Rattle.hfs_volume.proofs.Apart.{not_reserved, not_in_both}
+use Rattle.hfs_volume.specs.TreeOf.{tree_in, file_bytes, bytes_in, valued}
+use Rattle.hfs_volume.specs.Values.{blocks_of_values}
+use Rattle.hfs_volume.proofs.Apart.{fork_is_used, value_is_used, not_reserved, not_in_both, value_not_reserved, value_not_in_fork}
 use Rattle.hfs_volume.proofs.BlockWants.{in_range}
 use Rattle.hfs_volume.proofs.Bytes.{same_bytes_same_tree}
 use Rattle.hfs_volume.proofs.Members.{each_of}
 use Rattle.hfs_volume.proofs.Rereading.{same_bytes}
 use Rattle.hfs_volume.proofs.Sectors.{in_block, in_front}
+use Rattle.hfs_volume.proofs.Valued.{values_same}
 use Rattle.hfs_volume.proofs.Untouched.{HasWholeBlocks, whole_blocks, data_fork_of, file_fork_stands, special_stands}
 
 -- a content whose files lie where these lists say
@@ -72,13 +74,43 @@ module _ (lists : VolumeState) (sound : IsSoundVolume lists) where
   unfolding extents_of
   extents_alone = refl
 
+  -- the header's block is kept back
+  header_reserved : Contains (reserved_blocks lists.sectors lists.head) (2 / per)
+  header_reserved =
+      Contains-append_left (range_with_len 0 (parts_for 1536 lists.head.block_size)) (range_with_len ((lists.sectors * 512 - 1024) / lists.head.block_size) (lists.head.total_blocks - (lists.sectors * 512 - 1024) / lists.head.block_size)) (2 / per)
+      (in_range 0 (parts_for 1536 lists.head.block_size) (2 / per) (omega arith) (omega (arith, in_front lists.head.block_size per whole.whole whole.some 1536 2 (omega arith))))
+
   -- a sector of a file isn't the header's
   no_header : (owned : Owned) → (Contains (reserved_blocks lists.sectors lists.head) (2 / per) → Contains (blocks_by owned) (2 / per) → ⊥) → Contains (sectors_of per (blocks_by owned)) 2 → ⊥
-  no_header owned apart has =
-      apart
-      (Contains-append_left (range_with_len 0 (parts_for 1536 lists.head.block_size)) (range_with_len ((lists.sectors * 512 - 1024) / lists.head.block_size) (lists.head.total_blocks - (lists.sectors * 512 - 1024) / lists.head.block_size)) (2 / per)
-      (in_range 0 (parts_for 1536 lists.head.block_size) (2 / per) (omega arith) (omega (arith, in_front lists.head.block_size per whole.whole whole.some 1536 2 (omega arith)))))
-      (in_block per (blocks_by owned) 2 whole.some has)
+  no_header owned apart has = apart header_reserved (in_block per (blocks_by owned) 2 whole.some has)
+
+  -- a sector of a value is neither the header's nor one of a special file
+  abbrev pub IsOfValue : ℕ → Type 0
+  IsOfValue at = Contains (blocks_of_values (attributes_of lists)) (at / per)
+
+  value_not_2 : (at : ℕ) → IsOfValue at → at ≢ 2
+  value_not_2 at has two = value_not_reserved lists sound.blocks.forks (2 / per) (subst (λ (n : ℕ). Contains (blocks_of_values (attributes_of lists)) (n / per)) two has) header_reserved
+
+  value_not_in : (owned : Owned) → Contains (forks_of lists) owned → (at : ℕ) → IsOfValue at → Contains (sectors_of per (blocks_by owned)) at → ⊥
+  value_not_in owned stands at has there = value_not_in_fork lists sound.blocks.forks owned (at / per) has stands (in_block per (blocks_by owned) at whole.some there)
+
+  pub value_not_in_catalog : (at : ℕ) → IsOfValue at → Contains (catalog_sectors lists) at → ⊥
+  value_not_in_catalog at has there = value_not_in catalog_owned (special_stands lists catalog_owned (1, omega arith, refl)) at has there
+
+  pub value_not_in_attributes : (at : ℕ) → IsOfValue at → Contains (attributes_sectors lists) at → ⊥
+  value_not_in_attributes at has there = value_not_in attributes_owned (special_stands lists attributes_owned (4, omega arith, refl)) at has there
+
+  pub value_not_in_map : (at : ℕ) → IsOfValue at → Contains (allocation_sectors lists) at → ⊥
+  value_not_in_map at has there = value_not_in allocation_owned (special_stands lists allocation_owned (2, omega arith, refl)) at has there
+
+  pub value_not_in_extents : (at : ℕ) → IsOfValue at → Contains (extents_sectors lists) at → ⊥
+  value_not_in_extents at has there = value_not_in extents_owned (special_stands lists extents_owned (0, omega arith, refl)) at has (subst (λ (l : List ℕ). Contains l at) (sym extents_alone) there)
+
+  -- where their sectors are the same, so are the values
+  pub values_stay : (a b : Content) → ReadsAs a lists → ReadsAs b lists → ((at : ℕ) → IsOfValue at → sector b at ≡ sector a at) → valued (bytes_in b) (attributes_of lists) ≡ valued (bytes_in a) (attributes_of lists)
+  values_stay a b reads_a reads_b agrees =
+      values_same a b (attributes_of lists) (reads_b.block ∙ sym reads_a.block) (reads_b.total ∙ sym reads_a.total) (subst (λ (n : ℕ). 0 < n / 512) (sym reads_a.block) whole.some)
+      (λ at has. agrees at (subst (λ (n : ℕ). Contains (blocks_of_values (attributes_of lists)) (at / (n / 512))) reads_a.block has))
 
   -- a sector of the attributes file is neither the header's nor the catalog's, whatever the size of the file
   pub attributes_apart : (at : ℕ) → Contains (attributes_sectors lists) at → (at ≢ 2) × (Contains (catalog_sectors lists) at → ⊥)
@@ -147,19 +179,34 @@ module _ (lists : VolumeState) (sound : IsSoundVolume lists) where
       bytes_stay = by_lists b reads_b ∙ ap (λ (l : List ℕ). take file.data_fork.logical_size l) (same_bytes a b (lists.head.total_blocks * per) file_sectors (λ at has. agrees at (not_2 at has) (not_in_catalog at has) (not_in_attributes at has))) ∙ sym (by_lists a reads_a)
 
   -- so is the tree of the lists, where neither header nor catalog nor bitmap is looked at
-  pub tree_stays_but : (a b : Content) → ReadsAs a lists → ReadsAs b lists → ((at : ℕ) → at ≢ 2 → (Contains (catalog_sectors lists) at → ⊥) → (Contains (allocation_sectors lists) at → ⊥) → sector b at ≡ sector a at) → tree_in lists (file_bytes b) ≡ tree_in lists (file_bytes a)
-  tree_stays_but a b reads_a reads_b agrees = same_bytes_same_tree lists (file_bytes b) (file_bytes a) (λ p file stands is.
+  pub tree_stays_but : (a b : Content) → ReadsAs a lists → ReadsAs b lists → ((at : ℕ) → at ≢ 2 → (Contains (catalog_sectors lists) at → ⊥) → (Contains (allocation_sectors lists) at → ⊥) → sector b at ≡ sector a at) → tree_in lists (bytes_in b) ≡ tree_in lists (bytes_in a)
+  tree_stays_but a b reads_a reads_b agrees = same_bytes_same_tree lists (bytes_in b) (bytes_in a) (λ p file stands is.
       by_lists p file stands is b reads_b
       ∙ ap (λ (l : List ℕ). take file.data_fork.logical_size l) (same_bytes a b (lists.head.total_blocks * per) (file_sectors p file stands is) (λ at has. agrees at (not_2 p file stands is at has) (not_in_catalog p file stands is at has) (not_in_map p file stands is at has)))
       ∙ sym (by_lists p file stands is a reads_a))
+      (values_stay a b reads_a reads_b (λ at has. agrees at (value_not_2 at has) (value_not_in_catalog at has) (value_not_in_map at has)))
 
   -- so is it where neither header nor attributes file nor bitmap is looked at
-  pub tree_stays_beside : (a b : Content) → ReadsAs a lists → ReadsAs b lists → ((at : ℕ) → at ≢ 2 → (Contains (attributes_sectors lists) at → ⊥) → (Contains (allocation_sectors lists) at → ⊥) → sector b at ≡ sector a at) → tree_in lists (file_bytes b) ≡ tree_in lists (file_bytes a)
-  tree_stays_beside a b reads_a reads_b agrees = same_bytes_same_tree lists (file_bytes b) (file_bytes a) (λ p file stands is.
+  pub tree_stays_beside : (a b : Content) → ReadsAs a lists → ReadsAs b lists → ((at : ℕ) → at ≢ 2 → (Contains (attributes_sectors lists) at → ⊥) → (Contains (allocation_sectors lists) at → ⊥) → sector b at ≡ sector a at) → tree_in lists (bytes_in b) ≡ tree_in lists (bytes_in a)
+  tree_stays_beside a b reads_a reads_b agrees = same_bytes_same_tree lists (bytes_in b) (bytes_in a) (λ p file stands is.
       by_lists p file stands is b reads_b
       ∙ ap (λ (l : List ℕ). take file.data_fork.logical_size l) (same_bytes a b (lists.head.total_blocks * per) (file_sectors p file stands is) (λ at has. agrees at (not_2 p file stands is at has) (not_in_attributes p file stands is at has) (not_in_map p file stands is at has)))
       ∙ sym (by_lists p file stands is a reads_a))
+      (values_stay a b reads_a reads_b (λ at has. agrees at (value_not_2 at has) (value_not_in_attributes at has) (value_not_in_map at has)))
 
   -- so the tree of the lists is the same by both
-  pub tree_stays : (a b : Content) → ReadsAs a lists → ReadsAs b lists → ((at : ℕ) → at ≢ 2 → (Contains (catalog_sectors lists) at → ⊥) → (Contains (attributes_sectors lists) at → ⊥) → sector b at ≡ sector a at) → tree_in lists (file_bytes b) ≡ tree_in lists (file_bytes a)
-  tree_stays a b reads_a reads_b agrees = same_bytes_same_tree lists (file_bytes b) (file_bytes a) (λ p file stands is. bytes_stay p file stands is a b reads_a reads_b agrees)
+  pub tree_stays : (a b : Content) → ReadsAs a lists → ReadsAs b lists → ((at : ℕ) → at ≢ 2 → (Contains (catalog_sectors lists) at → ⊥) → (Contains (attributes_sectors lists) at → ⊥) → sector b at ≡ sector a at) → tree_in lists (bytes_in b) ≡ tree_in lists (bytes_in a)
+  tree_stays a b reads_a reads_b agrees = same_bytes_same_tree lists (bytes_in b) (bytes_in a) (λ p file stands is. bytes_stay p file stands is a b reads_a reads_b agrees)
+      (values_stay a b reads_a reads_b (λ at has. agrees at (value_not_2 at has) (value_not_in_catalog at has) (value_not_in_attributes at has)))
+
+  -- so is it where neither header nor catalog nor attributes file nor bitmap is looked at, nor what lies in no used block
+  pub tree_stays_used : (a b : Content) → ReadsAs a lists → ReadsAs b lists
+      → ((at : ℕ) → at ≢ 2 → (Contains (catalog_sectors lists) at → ⊥) → (Contains (attributes_sectors lists) at → ⊥) → (Contains (allocation_sectors lists) at → ⊥) → Contains (used_in lists) (at / per_block_of lists.head) → sector b at ≡ sector a at)
+      → tree_in lists (bytes_in b) ≡ tree_in lists (bytes_in a)
+  tree_stays_used a b reads_a reads_b agrees = same_bytes_same_tree lists (bytes_in b) (bytes_in a) (λ p file stands is.
+      by_lists p file stands is b reads_b
+      ∙ ap (λ (l : List ℕ). take file.data_fork.logical_size l) (same_bytes a b (lists.head.total_blocks * per) (file_sectors p file stands is)
+      (λ at has. agrees at (not_2 p file stands is at has) (not_in_catalog p file stands is at has) (not_in_attributes p file stands is at has) (not_in_map p file stands is at has)
+      (fork_is_used lists (data_fork_of file) (at / per) (fork_there p file stands is) (in_block per (blocks_by (data_fork_of file)) at whole.some has))))
+      ∙ sym (by_lists p file stands is a reads_a))
+      (values_stay a b reads_a reads_b (λ at has. agrees at (value_not_2 at has) (value_not_in_catalog at has) (value_not_in_attributes at has) (value_not_in_map at has) (value_is_used lists (at / per) has)))

@@ -14,14 +14,13 @@ use Rattle.hfs_volume.specs.declared.cost.Room.{Room}
 use Rattle.hfs_volume.specs.declared.cost.TreeCost.{TreeCost}
 use Rattle.volume_header.specs.declared.header.VolumeHeader.{VolumeHeader}
 use Rattle.tree_weights.specs.Weights.{IsAfforded, LoadIsOfParts, LoadSaysEnough, load_at}
-use Rattle.volume_base.specs.Attributing.{HasRoomToMark}
 use Rattle.volume_base.specs.Changing.{HasRoomToUpdate}
 use Rattle.volume_base.specs.Fitting.{AreMet, is_met}
 use Rattle.volume_base.specs.Lists.{facts_on}
 use Rattle.volume_base.specs.Making.{HasRoomToMake}
 use Rattle.volume_base.specs.Moving.{HasRoomToMove}
 use Rattle.volume_base.specs.Unlinking.{HasRoomToUnlinkLast}
-use Rattle.volume_base.specs.Removing.{HasRoomToBare, HasRoomToRemove}
+use Rattle.volume_base.specs.Removing.{HasRoomToRemove}
 use Rattle.volume_base.specs.Room.{capacity_of, free_in}
 use Rattle.volume_base.specs.declared.room.FreeBlocks.TheVariants as blocks
 use Rattle.volume_base.specs.Standing.{IsSettled}
@@ -31,15 +30,15 @@ use Rattle.volume_base.specs.declared.weighing.Edits.{Edits}
 
 -- ---- a cost that is met
 
-record IsMet (cost_ : Cost) (spare : ℕ) : Type 0 where
-  load : ℕ
-  grow : List ℕ
-  is : cost_ ≡ cost.Load load grow
-  catalog : slice_index grow 1 ≡ 0
-  attributes : slice_index grow 2 ≡ 0
-  fits : load ≤ spare
+pub record IsMet (cost_ : Cost) (spare : ℕ) : Type 0 where
+  pub load : ℕ
+  pub grow : List ℕ
+  pub is : cost_ ≡ cost.Load load grow
+  pub catalog : slice_index grow 1 ≡ 0
+  pub attributes : slice_index grow 2 ≡ 0
+  pub fits : load ≤ spare
 
-met : (cost_ : Cost) (spare : ℕ) → is_met cost_ spare ≡ true → IsMet cost_ spare
+pub met : (cost_ : Cost) (spare : ℕ) → is_met cost_ spare ≡ true → IsMet cost_ spare
 met (cost.Refused why) spare is = absurd (true≢false (sym is))
 met (cost.Load load grow) spare is =
     let first = and_parts (slice_index grow 1 == 0) ((slice_index grow 2 == 0) && nat_le load spare) is in
@@ -56,7 +55,7 @@ met (cost.Load load grow) spare is =
 -- ---- the trees of a volume
 
 module _ (capacity : ℕ) (free : List Bool) (volume : VolumeState) where
-  block_is : (room_with capacity free volume).block ≡ volume.head.block_size
+  pub block_is : (room_with capacity free volume).block ≡ volume.head.block_size
   unfolding room_with
   block_is = refl
 
@@ -64,16 +63,16 @@ module _ (capacity : ℕ) (free : List Bool) (volume : VolumeState) where
   unfolding room_with
   id_is = refl
 
-  catalog_is : tree_at (room_with capacity free volume) 1 ≡ cost_of_tree volume.catalog_tree (extents_in_use volume catalog_id volume.head.catalog_fork)
+  pub catalog_is : tree_at (room_with capacity free volume) 1 ≡ cost_of_tree volume.catalog_tree (extents_in_use volume catalog_id volume.head.catalog_fork)
   unfolding room_with
   catalog_is = refl
 
-  attributes_is : IsTrue (has_attributes volume.head) → tree_at (room_with capacity free volume) 2 ≡ cost_of_tree volume.attributes_tree (extents_in_use volume attributes_id volume.head.attributes_fork)
+  pub attributes_is : IsTrue (has_attributes volume.head) → tree_at (room_with capacity free volume) 2 ≡ cost_of_tree volume.attributes_tree (extents_in_use volume attributes_id volume.head.attributes_fork)
   unfolding room_with
   attributes_is has = ap (λ b. if b then cost_of_tree volume.attributes_tree (extents_in_use volume attributes_id volume.head.attributes_fork) else no_tree) has
 
 -- growth doesn't hang on the extents of a tree
-growth_alike : (block key edits : ℕ) (tree : TreeFacts) (extents : ℕ) → growth block key (cost_of_tree tree extents) edits ≡ growth block key (cost_of_tree tree 0) edits
+pub growth_alike : (block key edits : ℕ) (tree : TreeFacts) (extents : ℕ) → growth block key (cost_of_tree tree extents) edits ≡ growth block key (cost_of_tree tree 0) edits
 unfolding growth_for
 growth_alike block key edits tree extents = refl
 
@@ -83,7 +82,7 @@ pub record IsRoomy (block key edits spare others : ℕ) (tree : TreeFacts) : Typ
   pub none : growth block key (cost_of_tree tree 0) edits ≡ 0
   pub load : others + tree_load key (cost_of_tree tree 0) edits 0 ≤ spare
 
-roomy : (block key edits spare others extents more : ℕ) (tree : TreeFacts) (cost_ : TreeCost) → cost_ ≡ cost_of_tree tree extents → is_too_deep key cost_ edits ≡ false → growth block key cost_ edits ≡ 0 → more ≡ 0
+pub roomy : (block key edits spare others extents more : ℕ) (tree : TreeFacts) (cost_ : TreeCost) → cost_ ≡ cost_of_tree tree extents → is_too_deep key cost_ edits ≡ false → growth block key cost_ edits ≡ 0 → more ≡ 0
     → others + tree_load key cost_ edits more ≤ spare → IsRoomy block key edits spare others tree
 roomy block key edits spare others extents more tree cost_ is shallow none no_more load = record {
   shallow = subst (λ t. is_too_deep key t edits ≡ false) is shallow;
@@ -124,9 +123,6 @@ module _ (says : LoadSaysEnough) (of_parts : LoadIsOfParts) (v : Volume) (a : Sp
     no_catalog : slice_index (plan_of needs room).grow 1 ≡ 0
     no_catalog = sym (ap (λ l. slice_index l 1) afforded.grows) ∙ is.catalog
 
-    no_attributes : slice_index (plan_of needs room).grow 2 ≡ 0
-    no_attributes = sym (ap (λ l. slice_index l 2) afforded.grows) ∙ is.attributes
-
     pub catalog : IsRoomy v.header.block_size catalog_key asked.catalog a.spare (1 + asked.updates * (v.catalog.file.shape.node_size / 512)) (facts_on v.catalog.file)
     catalog =
         subst (λ (k : TreeFacts × VolumeHeader). IsRoomy k.1.block_size catalog_key asked.catalog a.spare (1 + asked.updates * (v.catalog.file.shape.node_size / 512)) k.0) {x = ((volume_of a.content).catalog_tree, (volume_of a.content).head)} {y = (facts_on v.catalog.file, v.header)}
@@ -134,27 +130,6 @@ module _ (says : LoadSaysEnough) (of_parts : LoadIsOfParts) (v : Volume) (a : Sp
         (subst (λ block. IsRoomy block catalog_key asked.catalog a.spare (1 + asked.updates * (v.catalog.file.shape.node_size / 512)) (volume_of a.content).catalog_tree) (block_is (capacity_of v) (free_in blocks.Takable v.map) (volume_of a.content))
         (roomy room.block catalog_key asked.catalog a.spare (1 + asked.updates * (v.catalog.file.shape.node_size / 512)) _ _ (volume_of a.content).catalog_tree (tree_at room 1) (catalog_is (capacity_of v) (free_in blocks.Takable v.map) (volume_of a.content))
         afforded.catalog no_catalog no_catalog (omega (arith, parts, nodes_are))))
-
-    attributes : IsTrue (has_attributes v.header) → IsRoomy v.header.block_size attributes_key asked.attributes a.spare (1 + asked.updates * (v.catalog.file.shape.node_size / 512)) (facts_on v.attributes.file)
-    attributes has =
-        let same = settled.attributes has in
-        let has_there : IsTrue (has_attributes (volume_of a.content).head) = subst (λ (h : VolumeHeader). IsTrue (has_attributes h)) (sym same_head) has in
-        subst (λ (k : TreeFacts × VolumeHeader). IsRoomy k.1.block_size attributes_key asked.attributes a.spare (1 + asked.updates * (v.catalog.file.shape.node_size / 512)) k.0) {x = ((volume_of a.content).attributes_tree, (volume_of a.content).head)} {y = (facts_on v.attributes.file, v.header)}
-        (λ i. (same i, same_head i))
-        (subst (λ block. IsRoomy block attributes_key asked.attributes a.spare (1 + asked.updates * (v.catalog.file.shape.node_size / 512)) (volume_of a.content).attributes_tree) (block_is (capacity_of v) (free_in blocks.Takable v.map) (volume_of a.content))
-        (roomy room.block attributes_key asked.attributes a.spare (1 + asked.updates * (v.catalog.file.shape.node_size / 512)) _ _ (volume_of a.content).attributes_tree (tree_at room 2) (attributes_is (capacity_of v) (free_in blocks.Takable v.map) (volume_of a.content) has_there)
-        afforded.attributes no_attributes no_attributes (omega (arith, parts, nodes_are))))
-
-    -- both trees together
-    both : IsTrue (has_attributes v.header)
-        → 1 + asked.updates * (v.catalog.file.shape.node_size / 512) + tree_load catalog_key (cost_of_tree (facts_on v.catalog.file) 0) asked.catalog 0 + tree_load attributes_key (cost_of_tree (facts_on v.attributes.file) 0) asked.attributes 0 ≤ a.spare
-    both has =
-        let has_there : IsTrue (has_attributes (volume_of a.content).head) = subst (λ (h : VolumeHeader). IsTrue (has_attributes h)) (sym same_head) has in
-        let first : load_at needs room 1 ≡ tree_load catalog_key (cost_of_tree (facts_on v.catalog.file) 0) asked.catalog 0 =
-        (λ i. tree_load catalog_key (catalog_is (capacity_of v) (free_in blocks.Takable v.map) (volume_of a.content) i) asked.catalog (no_catalog i)) ∙ (λ i. tree_load catalog_key (cost_of_tree (same_catalog i) 0) asked.catalog 0) in
-        let second : load_at needs room 2 ≡ tree_load attributes_key (cost_of_tree (facts_on v.attributes.file) 0) asked.attributes 0 =
-        (λ i. tree_load attributes_key (attributes_is (capacity_of v) (free_in blocks.Takable v.map) (volume_of a.content) has_there i) asked.attributes (no_attributes i)) ∙ (λ i. tree_load attributes_key (cost_of_tree (settled.attributes has i) 0) asked.attributes 0) in
-        omega (arith, parts, nodes_are, first, second)
 
     -- records are updated in place
     pub nodes_fit : asked.updates * (v.catalog.file.shape.node_size / 512) ≤ a.spare
@@ -203,13 +178,6 @@ module _ (says : LoadSaysEnough) (of_parts : LoadIsOfParts) (v : Volume) (a : Sp
     told = λ tells. let it = catalog says of_parts v a (settled tells) (record { ids = 0; catalog = 2; attributes = 0; updates = 1 }) (ok tells) in (omega (arith, it.load), it.shallow, it.none);
   }
 
-  pub bare_fits : (many : ℕ) → Meets (record { ids = 0; catalog = 2; attributes = many; updates = 1 }) → HasRoomToBare many v a
-  bare_fits many ok = record {
-    told = λ tells has.
-        let it = attributes says of_parts v a (settled tells) (record { ids = 0; catalog = 2; attributes = many; updates = 1 }) (ok tells) has in
-        (omega (arith, both says of_parts v a (settled tells) (record { ids = 0; catalog = 2; attributes = many; updates = 1 }) (ok tells) has), it.shallow, it.none);
-  }
-
   pub unlink_last_fits : Meets (record { ids = 0; catalog = 5; attributes = 0; updates = 4 }) → 1 ≤ a.spare → HasRoomToUnlinkLast v a
   unlink_last_fits ok some = record {
     some = some;
@@ -220,19 +188,3 @@ module _ (says : LoadSaysEnough) (of_parts : LoadIsOfParts) (v : Volume) (a : Sp
   move_fits ok = record {
     told = λ tells. let it = catalog says of_parts v a (settled tells) (record { ids = 0; catalog = 3; attributes = 0; updates = 3 }) (ok tells) in (omega (arith, it.load), it.shallow, it.none);
   }
-
-  pub set_fits : Meets (record { ids = 0; catalog = 0; attributes = 2; updates = 1 }) → HasRoomToMark 2 v a
-  set_fits ok = record {
-    update = record { told = λ tells. let it = nodes_fit says of_parts v a (settled tells) (record { ids = 0; catalog = 0; attributes = 2; updates = 1 }) (ok tells) in omega (arith, it) };
-    told = λ tells has. let it = attributes says of_parts v a (settled tells) (record { ids = 0; catalog = 0; attributes = 2; updates = 1 }) (ok tells) has in (omega (arith, it.load), it.shallow, it.none);
-  }
-
-  pub delete_fits : Meets (record { ids = 0; catalog = 0; attributes = 1; updates = 1 }) → HasRoomToMark 1 v a
-  delete_fits ok = record {
-    update = record { told = λ tells. let it = nodes_fit says of_parts v a (settled tells) (record { ids = 0; catalog = 0; attributes = 1; updates = 1 }) (ok tells) in omega (arith, it) };
-    told = λ tells has. let it = attributes says of_parts v a (settled tells) (record { ids = 0; catalog = 0; attributes = 1; updates = 1 }) (ok tells) has in (omega (arith, it.load), it.shallow, it.none);
-  }
-
--- without an attributes file there is only the record
-pub mark_alone : (edits : ℕ) (v : Volume) (a : Space) → (has_attributes v.header ≡ false) → HasRoomToUpdate v a → HasRoomToMark edits v a
-mark_alone edits v a none room = record { update = room; told = λ tells has. absurd (true≢false (sym has ∙ none)) }

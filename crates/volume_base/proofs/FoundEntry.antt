@@ -16,7 +16,7 @@ use Rattle.hfs_model.specs.declared.plain.PlainNode.{PlainNode}
 use Rattle.hfs_volume.specs.Content.{VolumeState, volume_of, records_of, attributes_of}
 use Rattle.hfs_volume.specs.Entries.{AreSpelled, AreThreaded}
 use Rattle.hfs_volume.specs.Records.{Placed, entries_of, id_of, id_in, is_thread, is_empty}
-use Rattle.hfs_volume.specs.TreeOf.{tree_of, file_bytes}
+use Rattle.hfs_volume.specs.TreeOf.{tree_of, bytes_in, valued}
 use Rattle.hfs_volume.proofs.Members.{each_of}
 use Rattle.hfs_volume.proofs.NodesOf.{IsNodeOf, nodes_from}
 use Rattle.hfs_volume.proofs.Sides.{entry_is_record, entry_is_named}
@@ -58,8 +58,8 @@ module _ (v : Volume) (content : Content) (holds : HoldsTrees v content) (settle
   found_is e stands = entry_is (volume_of content).catalog_pairs settled.sound.entries.threads (settled_sorted v content holds settled) (short_names (volume_of content).catalog_pairs keys) e stands
 
   module _ (id : ℕ) (node : PlainNode) (there : Contains (tree_of content).nodes node) (number : node.id ≡ id) where
-    node_of : IsNodeOf (attributes_of (volume_of content)) (file_bytes content) (records_of (volume_of content)) node
-    node_of = nodes_from (attributes_of (volume_of content)) (file_bytes content) (records_of (volume_of content)) node (subst (λ (l : List PlainNode). Contains l node) (nodes_are content) there)
+    node_of : IsNodeOf (valued (bytes_in content) (attributes_of (volume_of content))) (bytes_in content) (records_of (volume_of content)) node
+    node_of = nodes_from (valued (bytes_in content) (attributes_of (volume_of content))) (bytes_in content) (records_of (volume_of content)) node (subst (λ (l : List PlainNode). Contains l node) (nodes_are content) there)
 
     here : entry_by_id (lists_of v content).catalog_pairs id ≡ Some (record { parent = node_of.entry.parent; name = node_of.entry.name; rec = node_of.entry.value })
     here = (λ i. entry_by_id (sym pairs_are i) ((sym number ∙ node_of.id) i)) ∙ found_is node_of.entry node_of.stands

@@ -19,7 +19,8 @@ use Rattle.hfs_volume.specs.Weight.{cost_of_tree}
 use Rattle.hfs_volume.specs.declared.cost.TreeCost.{TreeCost}
 use Rattle.tree_weights.specs.Weights.{EditsHaveRoom, EditsTakeTheirLoad, HasGrown, IsWrittenByGrowth}
 use Rattle.volume_header.specs.declared.header.VolumeHeader.{VolumeHeader}
-use Rattle.volume_base.specs.Attributing.{HasRoomToMark, attributes_cost, mark_load}
+use Rattle.volume_base.specs.Attributing.{HasRoomForValue, attributes_cost, mark_load, runs_taken, value_edits}
+use Rattle.hfs_volume.specs.declared.cost.ValueChange.{ValueChange}
 use Rattle.volume_base.specs.Changing.{HasRoomToUpdate}
 use Rattle.volume_base.specs.Lists.{facts_on}
 use Rattle.volume_base.specs.Looking.{ReadsVolume}
@@ -27,6 +28,17 @@ use Rattle.volume_base.specs.declared.volume.Tree.{Tree}
 use Rattle.volume_base.specs.declared.volume.Volume.{Volume}
 use Rattle.volume_base.proofs.FoundEntry.{room_still}
 use Rattle.volume_base.proofs.Still.{lists_still}
+
+-- Where the space tells, there is room to mark a folder or file; and where there is an attributes file, for so many edits of it before, for which it
+-- needn't grow.
+pub record HasRoomToMark (edits : ℕ) (volume : Volume) (space : Space) : Type 0 where
+  pub update : HasRoomToUpdate volume space
+  pub told : IsTrue space.tells → IsTrue (has_attributes volume.header)
+      → (mark_load edits volume ≤ space.spare) × (is_too_deep attributes_key (attributes_cost volume) edits ≡ false) × (growth volume.header.block_size attributes_key (attributes_cost volume) edits ≡ 0)
+
+-- room for a change of values is room for its edits
+pub value_marks : (edits : ℕ) (change : ValueChange) (v : Volume) (a : Space) → HasRoomForValue edits change v a → HasRoomToMark (value_edits edits change (runs_taken v change)) v a
+value_marks edits change v a room = record { update = room.update; told = λ tells has. let it = room.told tells has in (omega (arith, it.0), it.1, it.2) }
 
 -- ---- numbers
 

@@ -35,7 +35,7 @@ use Rattle.hfs_volume.specs.Laws.{IsShaped, one_if}
 use Rattle.hfs_volume.specs.Links.{private_id, folder_id, is_shared_file, is_link_to, links_to, node_name}
 use Rattle.hfs_volume.specs.Records.{Placed, Attribute, entries_of, record_at, is_placed_at, id_of, id_in, is_empty, is_folder, is_file, is_link, is_link_type, special_of, valence_in}
 use Rattle.hfs_volume.specs.Sound.{IsSoundVolume}
-use Rattle.hfs_volume.specs.TreeOf.{is_hidden, is_seen, is_linked, is_plain_folder, is_plain_file, id_or_0, shared_file, seen_entry, plain_entry, plain_node, node_in, threaded_node}
+use Rattle.hfs_volume.specs.TreeOf.{is_hidden, is_seen, is_linked, is_plain_folder, is_plain_file, id_or_0, shared_file, seen_entry, plain_entry, plain_node, node_in, threaded_node, BytesOf}
 use Rattle.hfs_volume.proofs.Counting.{length_kept}
 use Rattle.hfs_volume.proofs.Fitting.{differs, none_counted, not_same}
 use Rattle.hfs_volume.proofs.Flat.{found_none, found_some}
@@ -328,7 +328,7 @@ module _ (volume : VolumeState) (sound : IsSoundVolume volume) (sorted : AreSort
 
     -- ---- the folder or file that was reached
 
-    module _ (attributes : List Attribute) (bytes_of : FileRecord → List ℕ) (same_nodes : tree.nodes ≡ flat_map (threaded_node attributes records bytes_of) records) where
+    module _ (attributes : List Attribute) (bytes_of : BytesOf) (same_nodes : tree.nodes ≡ flat_map (threaded_node attributes records bytes_of) records) where
       -- the record of a folder or file
       abbrev pub value_of : Node → CatRecord
       value_of (node.Folder folder) = Folder folder
@@ -337,7 +337,7 @@ module _ (volume : VolumeState) (sound : IsSoundVolume volume) (sorted : AreSort
       -- the folder or file of the tree that it is
       abbrev pub plain_of : Node → PlainNode
       plain_of (node.Folder folder) = plain_node attributes folder.fields true [] false
-      plain_of (node.File file linked) = plain_node attributes file.fields false (bytes_of file) linked
+      plain_of (node.File file linked) = plain_node attributes file.fields false (bytes_of.file file) linked
 
       -- a folder that users see has its entries, and a file so many names
       abbrev pub Counts : Node → Type 0
@@ -354,7 +354,7 @@ module _ (volume : VolumeState) (sound : IsSoundVolume volume) (sorted : AreSort
 
       abbrev Tells : Placed → CatRecord → PlainNode → Type 0
       Tells p (Folder folder) n = n ≡ plain_node attributes folder.fields true [] false
-      Tells p (File file) n = n ≡ plain_node attributes file.fields false (bytes_of file) (is_linked records p)
+      Tells p (File file) n = n ≡ plain_node attributes file.fields false (bytes_of.file file) (is_linked records p)
       Tells p (Thread thread) n = ⊥
 
       tells_of : (p : Placed) (value : CatRecord) (n : PlainNode) → Contains (node_in attributes records bytes_of p value) n → Tells p value n
@@ -365,9 +365,9 @@ module _ (volume : VolumeState) (sound : IsSoundVolume volume) (sorted : AreSort
           by_test true one = in_one (plain_node attributes folder.fields true [] false) n one
       tells_of p (File file) n has = by_test (is_plain_file records p) has
         where
-          by_test : (b : Bool) → Contains (if b then plain_node attributes file.fields false (bytes_of file) (is_linked records p) ∷ [] else []) n → n ≡ plain_node attributes file.fields false (bytes_of file) (is_linked records p)
+          by_test : (b : Bool) → Contains (if b then plain_node attributes file.fields false (bytes_of.file file) (is_linked records p) ∷ [] else []) n → n ≡ plain_node attributes file.fields false (bytes_of.file file) (is_linked records p)
           by_test false none = absurd (omega (arith, none.1))
-          by_test true one = in_one (plain_node attributes file.fields false (bytes_of file) (is_linked records p)) n one
+          by_test true one = in_one (plain_node attributes file.fields false (bytes_of.file file) (is_linked records p)) n one
       tells_of p (Thread thread) n has = absurd (omega (arith, has.1))
 
       module _ (n : PlainNode) (there : Contains tree.nodes n) where
@@ -443,12 +443,12 @@ module _ (volume : VolumeState) (sound : IsSoundVolume volume) (sorted : AreSort
               by_link : (b : Bool) → is_link_type file.fields ≡ b → IsNode (file_node volume.catalog_pairs (private_id records) file) n
               by_link false isnt =
                   let its_id : n.id ≡ file.fields.id = id ∙ ap (λ (x : PlainEntry). x.id) is ∙ own_id p isnt in
-                  let told : n ≡ plain_node attributes file.fields false (bytes_of file) (is_linked records p) = tells p stands its_id in
+                  let told : n ≡ plain_node attributes file.fields false (bytes_of.file file) (is_linked records p) = tells p stands its_id in
                   subst (λ (f : Node). IsNode f n) (sym (own (private_id records) isnt)) (record {
                     entry = p;
                     stands = stands;
                     value = refl;
-                    is = told ∙ ap (plain_node attributes file.fields false (bytes_of file)) (unlinked (is_linked records p) refl);
+                    is = told ∙ ap (plain_node attributes file.fields false (bytes_of.file file)) (unlinked (is_linked records p) refl);
                     counts = one_name p stands shows.visible (subst (λ k. 0 < names_of tree k) its_id (plain.files n there (ap (λ (m : PlainNode). m.folder) told)));
                   })
               by_link true link =
@@ -456,7 +456,7 @@ module _ (volume : VolumeState) (sound : IsSoundVolume volume) (sorted : AreSort
                   let shared = shared_is (private_id records) file.fields.special to.file to.shared in
                   let it = file_of to.file.value shared.file in
                   let its_id : n.id ≡ id_of to.file = id ∙ ap (λ (x : PlainEntry). x.id) is ∙ to.id in
-                  let told : n ≡ plain_node attributes it.0.fields false (bytes_of it.0) (is_linked records to.file) = subst (λ v. Tells to.file v n) it.1 (tells to.file to.stands its_id) in
+                  let told : n ≡ plain_node attributes it.0.fields false (bytes_of.file it.0) (is_linked records to.file) = subst (λ v. Tells to.file v n) it.1 (tells to.file to.stands its_id) in
                   let found : value_at volume.catalog_pairs shared.folder (node_name file.fields.special) ≡ Some (File it.0) =
                   ap (option_map (λ (q : Placed). q.value)) (key_found volume.catalog_pairs sorted to.file (entry_is_record records to.file to.stands) shared.folder (node_name file.fields.special)
                   (ap (λ k. k == shared.folder) shared.parent ∙ same_number shared.folder) ((bytes_eq-Decides to.file.name (node_name file.fields.special)).1 shared.name)) ∙ ap Some it.1 in
@@ -470,7 +470,7 @@ module _ (volume : VolumeState) (sound : IsSoundVolume volume) (sorted : AreSort
                     entry = to.file;
                     stands = to.stands;
                     value = it.1;
-                    is = told ∙ ap (plain_node attributes it.0.fields false (bytes_of it.0)) (links_it records to.file (record { link = p; stands = stands; is_one = link; names = to.shared }));
+                    is = told ∙ ap (plain_node attributes it.0.fields false (bytes_of.file it.0)) (links_it records to.file (record { link = p; stands = stands; is_one = link; names = to.shared }));
                     counts = ap (names_of tree) (sym (ap id_in it.1)) ∙ link_names file.fields.special to.file to.stands to.shared ∙ ap (λ v. special_of (record { parent = to.file.parent; name = to.file.name; value = v })) it.1;
                   })
 
@@ -508,7 +508,7 @@ module _ (volume : VolumeState) (sound : IsSoundVolume volume) (sorted : AreSort
 
       -- ---- what `stat` answers
 
-      facts_is : ((file : FileRecord) (p : Placed) → Contains entries p → p.value ≡ File file → length (bytes_of file) ≡ file.data_fork.logical_size)
+      facts_is : ((file : FileRecord) (p : Placed) → Contains entries p → p.value ≡ File file → length (bytes_of.file file) ≡ file.data_fork.logical_size)
           → (found : Node) (n : PlainNode) → IsNode found n → facts_told (own_entries (private_id records)) found ≡ facts_of tree n
       facts_is sized (node.Folder folder) n it =
           ap (λ k. record {
@@ -528,14 +528,14 @@ module _ (volume : VolumeState) (sound : IsSoundVolume volume) (sorted : AreSort
             id = file.fields.id;
             size = sym (sized file it.entry it.stands it.value) i;
             links = sym it.counts i;
-            mode = (plain_node attributes file.fields false (bytes_of file) linked).mode;
+            mode = (plain_node attributes file.fields false (bytes_of.file file) linked).mode;
             created = file.fields.created;
             changed = file.fields.changed;
             attribute = file.fields.attribute;
           })
           ∙ sym (ap (facts_of tree) it.is)
 
-      pub facts_same : ((file : FileRecord) (p : Placed) → Contains entries p → p.value ≡ File file → length (bytes_of file) ≡ file.data_fork.logical_size) → (path : List (List ℕ)) → is_private_path path ≡ false → FitsPath path
+      pub facts_same : ((file : FileRecord) (p : Placed) → Contains entries p → p.value ≡ File file → length (bytes_of.file file) ≡ file.data_fork.logical_size) → (path : List (List ℕ)) → is_private_path path ≡ false → FitsPath path
           → facts_in volume.catalog_pairs (private_id records) path ≡ (step tree (command.Stat path)).0
       facts_same sized path not_own fits = by_node (node_for volume.catalog_pairs (private_id records) path) (to_node tree path) (node_same path not_own fits)
         where
@@ -560,16 +560,16 @@ module _ (volume : VolumeState) (sound : IsSoundVolume volume) (sorted : AreSort
               record { entry = it.entry; stands = it.stands; value = it.value ∙ ap (λ (f : FileRecord). File f) (unless_ok (nat_lt most_bytes long) refusal.TooLarge own file is).1 }
 
       pub content_same : (path : List (List ℕ)) (start long : ℕ) → is_private_path path ≡ false → FitsPath path
-          → replied (file_in volume.catalog_pairs (private_id records) path long) (λ file. reply.Content (take long (drop start (bytes_of file)))) ≡ (step tree (command.Read path start long)).0
+          → replied (file_in volume.catalog_pairs (private_id records) path long) (λ file. reply.Content (take long (drop start (bytes_of.file file)))) ≡ (step tree (command.Read path start long)).0
       content_same path start long not_own fits = by_node (node_for volume.catalog_pairs (private_id records) path) (to_node tree path) (node_same path not_own fits)
         where
-          by_length : (b : Bool) (own : FileRecord) (n : PlainNode) → n.bytes ≡ bytes_of own
-              → replied (unless b refusal.TooLarge own) (λ file. reply.Content (take long (drop start (bytes_of file)))) ≡ (on tree (unless b refusal.TooLarge n) (λ file. (reply.Content (take long (drop start file.bytes)), tree))).0
+          by_length : (b : Bool) (own : FileRecord) (n : PlainNode) → n.bytes ≡ bytes_of.file own
+              → replied (unless b refusal.TooLarge own) (λ file. reply.Content (take long (drop start (bytes_of.file file)))) ≡ (on tree (unless b refusal.TooLarge n) (λ file. (reply.Content (take long (drop start file.bytes)), tree))).0
           by_length true own n same_bytes = refl
           by_length false own n same_bytes = ap (λ l. reply.Content (take long (drop start l))) (sym same_bytes)
 
           by_node : (r : Result Node Refusal) (s : Result PlainNode Refusal) → Agree IsNode r s
-              → replied (then_ r (to_read_ long)) (λ file. reply.Content (take long (drop start (bytes_of file))))
+              → replied (then_ r (to_read_ long)) (λ file. reply.Content (take long (drop start (bytes_of.file file))))
               ≡ (on tree (then_ (then_ s (λ n. unless n.folder refusal.IsFolder n)) (λ file. unless (nat_lt most_bytes long) refusal.TooLarge file)) (λ file. (reply.Content (take long (drop start file.bytes)), tree))).0
           by_node (Err why) (Err other) agree = ap reply.No agree
           by_node (Ok found) (Err other) never = absurd never

@@ -7,7 +7,7 @@ use Rattle.hx_bytes.specs.declared.extents.Extent.{Extent}
 use Rattle.sector_disk.specs.Lists.{Content}
 use Rattle.sector_disk.specs.Space.{Space}
 use Rattle.fork_map.specs.Blocks.{fork_sectors}
-use Rattle.attributes.specs.Values.{AreInline}
+use Rattle.attributes.specs.Values.{AreValued}
 use Rattle.btree_node.specs.Keys.{IsCatalogKey, IsAttrKey, catalog_cmp, attr_cmp, anything}
 use Rattle.btree_node.specs.TreeFile.{TreeForm, IsTreeFile, tree_head, shape_of, catalog_form, attributes_form}
 use Rattle.btree_node.specs.declared.store.TreeShape.{TreeShape}
@@ -82,7 +82,7 @@ attributes_over_read a b desk later old new was reads fits = record {
   unclosed = λ told k low. λ shut. was.unclosed (back told) k (subst (λ (l : List ℕ). k < length l) same low) (subst (λ (l : List ℕ). old.closed (get_or l k 0)) same ((reads.looks.closed (back told) (get_or (sectors_of_tree b) k 0)).0 shut));
   holds = λ told. subst (λ (c : Content). HoldsTree attributes_form IsAttrKey anything attr_cmp b c) (sym (reads.looks.content (back told))) (held_kept attributes_form IsAttrKey anything attr_cmp old.tells a b old.content (back told) reads.keeps (was.holds (back told)));
   whole = λ told. subst AreWhole (sym (reads.looks.content (back told))) (was.whole (back told));
-  inline = λ told. subst AreInline (sym (pairs_read a b old new (back told) reads)) (was.inline (back told));
+  values = λ told. subst AreValued (sym (pairs_read a b old new (back told) reads)) (was.values (back told));
 }
   where
     back : IsTrue new.tells → IsTrue old.tells

@@ -9,7 +9,7 @@ use Rattle.btree_node.specs.Levels.{Pair}
 use Rattle.cat_records.specs.declared.record.CatRecord.{CatRecord}
 use Rattle.catalog.specs.Entries.{UpdatesEntry}
 use Rattle.catalog.specs.Pairs.{value_at}
-use Rattle.attributes.specs.Values.{AreInline, SetsValue}
+use Rattle.attributes.specs.Values.{AreValued, SetsValue}
 use Rattle.hfs_language.specs.declared.command.Command.TheVariants as command
 use Rattle.hfs_language.specs.declared.refusal.Refusal.TheVariants as refusal
 use Rattle.hfs_model.specs.Step.{most_attribute, step, then_, to_attribute, to_node, to_set, unless}
@@ -25,7 +25,7 @@ use Rattle.hfs_volume.specs.Laws.{SoundIsBoth}
 use Rattle.hfs_volume.specs.Links.{private_id}
 use Rattle.hfs_volume.specs.Records.{placed_in, id_in, is_thread}
 use Rattle.hfs_volume.specs.Sound.{IsSoundVolume}
-use Rattle.hfs_volume.specs.TreeOf.{tree_in, tree_of, file_bytes}
+use Rattle.hfs_volume.specs.TreeOf.{tree_in, tree_of, bytes_in}
 use Rattle.hfs_volume.proofs.Bytes.{file_bytes_are}
 use Rattle.hfs_volume.proofs.Telling.{private_after_fields}
 use Rattle.volume_base.specs.Attributing.{ChangesOwned, with_mark}
@@ -124,107 +124,22 @@ module _ (Does : List Pair → List Pair → Type 0) (flag : Bool) (halves : (vo
       pub settled_then : IsSettled w b.content
       settled_then = settles_again v w a b changes settled was stands headed (facts_on w.attributes.file) (λ x. refl) sound private
 
-      pub tree_then : tree_of b.content ≡ tree_in (lists_with (facts_on w.attributes.file) w b.content) (file_bytes a.content)
+      pub tree_then : tree_of b.content ≡ tree_in (lists_with (facts_on w.attributes.file) w b.content) (bytes_in a.content)
       tree_then = tree_again v w a b changes settled was stands headed (facts_on w.attributes.file) (λ x. refl) sound
 
 -- where there is an attributes file, a settled content has the lists that are kept
-lists_now : (w : Volume) (content : Content) → IsSettled w content → IsTrue (has_attributes w.header) → volume_of content ≡ lists_with (facts_on w.attributes.file) w content
+pub lists_now : (w : Volume) (content : Content) → IsSettled w content → IsTrue (has_attributes w.header) → volume_of content ≡ lists_with (facts_on w.attributes.file) w content
 lists_now w content settled has = settled.lists ∙ (λ i. record (lists_of w content) { attributes_tree = settled.attributes has i })
 
--- ---- `setattr`
+-- ---- of a settled volume
 
-module _ (law : SetAttrDoes) (halves : (volume : VolumeState) → SoundIsBoth volume) (v w : Volume) (a b : Space) (settled : IsSettled v a.content) (was : IsStanding v a) (stands : IsStanding w b) (has : IsTrue (has_attributes v.header))
-    (entry : Entry) (there : value_at (lists_of v a.content).catalog_pairs entry.parent entry.name ≡ Some entry.rec) (kind : is_thread entry.rec ≡ false) (name value : List ℕ) (flag : Bool)
-    (owned : ChangesOwned (SetsValue (id_in entry.rec) name value) flag entry v w a.content b.content)
-  where
-    sets : SetsAttribute (id_in entry.rec) name value (volume_of a.content) (lists_with (facts_on w.attributes.file) w b.content)
-    sets =
-        let set = does (SetsValue (id_in entry.rec) name value) flag halves v w a b settled was stands has entry there kind owned in
-        record {
-          sorted = settled_sorted v a.content was.trees settled;
-          bared = record (volume_of a.content) { attribute_pairs = set.bared };
-          bares = record { changes = set.bares; nodes = record { total = refl; size = refl }; rest = refl };
-          added = valued (SetsValue (id_in entry.rec) name value) flag halves v w a b settled was stands has entry there kind owned;
-          adds = record { changes = set.adds; nodes = attribute_nodes (SetsValue (id_in entry.rec) name value) flag halves v w a b settled was stands has entry there kind owned; rest = refl };
-          sorted_again = owned.attributes.sorted;
-          marks = marks (SetsValue (id_in entry.rec) name value) flag halves v w a b settled was stands has entry there kind owned;
-        }
-
-    pub set_does : 0 < length name → (path : List (List ℕ)) (node : PlainNode) → to_set (tree_of a.content) path value ≡ Ok node → node.id ≡ id_in entry.rec
-        → IsSettled w b.content × (tree_of b.content ≡ (step (tree_of a.content) (command.SetAttr path name value)).1) × SetsAttribute (id_in entry.rec) name value (volume_of a.content) (volume_of b.content)
-    unfolding tree_of
-    set_does named path node allowed number =
-        let so = law path name value node (volume_of a.content) (lists_with (facts_on w.attributes.file) w b.content) (file_bytes a.content) (file_bytes_are a.content) settled.sound named allowed
-        (subst (λ id. SetsAttribute id name value (volume_of a.content) (lists_with (facts_on w.attributes.file) w b.content)) (sym number) sets) in (
-          settled_then (SetsValue (id_in entry.rec) name value) flag halves v w a b settled was stands has entry there kind owned so.0,
-          tree_then (SetsValue (id_in entry.rec) name value) flag halves v w a b settled was stands has entry there kind owned so.0 ∙ so.1,
-          subst (λ (l : VolumeState). SetsAttribute (id_in entry.rec) name value (volume_of a.content) l)
-              (sym (lists_now w b.content (settled_then (SetsValue (id_in entry.rec) name value) flag halves v w a b settled was stands has entry there kind owned so.0) (subst (λ (h : VolumeHeader). IsTrue (has_attributes h)) (sym (header_same (SetsValue (id_in entry.rec) name value) flag halves v w a b settled was stands has entry there kind owned)) has))) sets,
-        )
-
--- ---- `delattr`
-
-module _ (law : DelAttrDoes) (halves : (volume : VolumeState) → SoundIsBoth volume) (v w : Volume) (a b : Space) (settled : IsSettled v a.content) (was : IsStanding v a) (stands : IsStanding w b) (has : IsTrue (has_attributes v.header))
-    (entry : Entry) (there : value_at (lists_of v a.content).catalog_pairs entry.parent entry.name ≡ Some entry.rec) (kind : is_thread entry.rec ≡ false) (name : List ℕ) (flag : Bool)
-    (owned : ChangesOwned (DropsAttribute (id_in entry.rec) name) flag entry v w a.content b.content)
-  where
-    deletes : DeletesAttribute (id_in entry.rec) name (volume_of a.content) (lists_with (facts_on w.attributes.file) w b.content)
-    deletes = record {
-      sorted = settled_sorted v a.content was.trees settled;
-      bared = valued (DropsAttribute (id_in entry.rec) name) flag halves v w a b settled was stands has entry there kind owned;
-      bares = record {
-        changes = does (DropsAttribute (id_in entry.rec) name) flag halves v w a b settled was stands has entry there kind owned;
-        nodes = attribute_nodes (DropsAttribute (id_in entry.rec) name) flag halves v w a b settled was stands has entry there kind owned;
-        rest = refl;
-      };
-      marks = marks (DropsAttribute (id_in entry.rec) name) flag halves v w a b settled was stands has entry there kind owned;
-    }
-
-    pub delete_does : (path : List (List ℕ)) (node : PlainNode) (attribute : PlainAttribute) → to_attribute (tree_of a.content) path name ≡ Ok (node, attribute) → node.id ≡ id_in entry.rec
-        → IsSettled w b.content × (tree_of b.content ≡ (step (tree_of a.content) (command.DelAttr path name)).1) × DeletesAttribute (id_in entry.rec) name (volume_of a.content) (volume_of b.content)
-    unfolding tree_of
-    delete_does path node attribute allowed number =
-        let so = law path name node attribute (volume_of a.content) (lists_with (facts_on w.attributes.file) w b.content) (file_bytes a.content) (file_bytes_are a.content) settled.sound allowed
-        (subst (λ id. DeletesAttribute id name (volume_of a.content) (lists_with (facts_on w.attributes.file) w b.content)) (sym number) deletes) in (
-          settled_then (DropsAttribute (id_in entry.rec) name) flag halves v w a b settled was stands has entry there kind owned so.0,
-          tree_then (DropsAttribute (id_in entry.rec) name) flag halves v w a b settled was stands has entry there kind owned so.0 ∙ so.1,
-          subst (λ (l : VolumeState). DeletesAttribute (id_in entry.rec) name (volume_of a.content) l)
-              (sym (lists_now w b.content (settled_then (DropsAttribute (id_in entry.rec) name) flag halves v w a b settled was stands has entry there kind owned so.0) (subst (λ (h : VolumeHeader). IsTrue (has_attributes h)) (sym (header_same (DropsAttribute (id_in entry.rec) name) flag halves v w a b settled was stands has entry there kind owned)) has))) deletes,
-        )
-
--- ---- the same of a volume that was read before: its content and its tree are those that they were
-
-pub settled_inline : (v : Volume) (content : Content) → IsSettled v content → AreInline (lists_of v content).attribute_pairs
-settled_inline v content settled = subst AreInline (ap (λ (l : VolumeState). l.attribute_pairs) settled.lists)
-    (λ k d low. let it = settled.sound.attributes.each k d low in record { spelled = it.spelled; inline = it.inline; start = it.start; named = it.named })
+-- its records are each one of a value
+pub settled_valued : (v : Volume) (content : Content) → IsSettled v content → AreValued (lists_of v content).attribute_pairs
+settled_valued v content settled = subst AreValued (ap (λ (l : VolumeState). l.attribute_pairs) settled.lists)
+    (record { each = λ k d low. let it = settled.sound.attributes.each k d low in record { spelled = it.spelled; named = it.named }; values = settled.sound.attributes.values })
 
 -- a value that isn't too long can be set
-to_set_is : (tree : PlainTree) (path : List (List ℕ)) (value : List ℕ) (node : PlainNode) → length value ≤ 1700 → to_node tree path ≡ Ok node → to_set tree path value ≡ Ok node
+pub to_set_is : (tree : PlainTree) (path : List (List ℕ)) (value : List ℕ) (node : PlainNode) → length value ≤ most_attribute → to_node tree path ≡ Ok node → to_set tree path value ≡ Ok node
 to_set_is tree path value node long allowed =
     ap (λ r. then_ r (λ n. unless (nat_lt most_attribute (length value)) refusal.AttributeTooLarge n)) allowed
     ∙ ap (λ b. unless b refusal.AttributeTooLarge node) (le-ltb most_attribute (length value) long)
-
-pub value_set : (law : SetAttrDoes) → ((volume : VolumeState) → SoundIsBoth volume) → (v w : Volume) (a b : Space) → IsSettled v a.content → StandsOver v a → IsTrue a.tells → b.tells ≡ a.tells → IsTrue (has_attributes v.header) → (entry : Entry)
-    → value_at (lists_of v a.content).catalog_pairs entry.parent entry.name ≡ Some entry.rec → is_thread entry.rec ≡ false → (id : ℕ) → id_in entry.rec ≡ id → (name value : List ℕ) → length value ≤ 1700 → 1 ≤ length name
-    → (before : Content) → a.content ≡ before → (path : List (List ℕ)) (node : PlainNode) → to_node (tree_of before) path ≡ Ok node → node.id ≡ id_in entry.rec → StandsOver w b → ChangesOwned (SetsValue id name value) true entry v w a.content b.content
-    → IsSettled w b.content × (tree_of b.content ≡ (step (tree_of before) (command.SetAttr path name value)).1) × SetsAttribute id name value (volume_of before) (volume_of b.content)
-value_set law halves v w a b settled was tells same has entry there kind id is name value long named before content path node allowed number stands sets =
-    let does_it = set_does law halves v w a b settled (was.stands tells) (stands.stands (same ∙ tells)) has entry there kind name value true
-    (subst (λ n. ChangesOwned (SetsValue n name value) true entry v w a.content b.content) (sym is) sets) named path node
-    (ap (λ (c : Content). to_set (tree_of c) path value) content ∙ to_set_is (tree_of before) path value node long allowed) number in (
-      does_it.0,
-      does_it.1 ∙ ap (λ (c : Content). (step (tree_of c) (command.SetAttr path name value)).1) content,
-      subst (λ (k : ℕ × Content). SetsAttribute k.0 name value (volume_of k.1) (volume_of b.content)) {x = (id_in entry.rec, a.content)} {y = (id, before)} (λ i. (is i, content i)) does_it.2,
-    )
-
-pub value_deleted : (law : DelAttrDoes) → ((volume : VolumeState) → SoundIsBoth volume) → (v w : Volume) (a b : Space) → IsSettled v a.content → StandsOver v a → IsTrue a.tells → b.tells ≡ a.tells → IsTrue (has_attributes v.header) → (entry : Entry)
-    → value_at (lists_of v a.content).catalog_pairs entry.parent entry.name ≡ Some entry.rec → is_thread entry.rec ≡ false → (id : ℕ) → id_in entry.rec ≡ id → (name : List ℕ) (flag : Bool)
-    → (before : Content) → a.content ≡ before → (path : List (List ℕ)) (node : PlainNode) (attribute : PlainAttribute) → to_attribute (tree_of before) path name ≡ Ok (node, attribute) → node.id ≡ id_in entry.rec → StandsOver w b
-    → ChangesOwned (DropsAttribute id name) flag entry v w a.content b.content → IsSettled w b.content × (tree_of b.content ≡ (step (tree_of before) (command.DelAttr path name)).1) × DeletesAttribute id name (volume_of before) (volume_of b.content)
-value_deleted law halves v w a b settled was tells same has entry there kind id is name flag before content path node attribute allowed number stands deleted =
-    let does_it = delete_does law halves v w a b settled (was.stands tells) (stands.stands (same ∙ tells)) has entry there kind name flag
-    (subst (λ n. ChangesOwned (DropsAttribute n name) flag entry v w a.content b.content) (sym is) deleted) path node attribute (ap (λ (c : Content). to_attribute (tree_of c) path name) content ∙ allowed) number in (
-      does_it.0,
-      does_it.1 ∙ ap (λ (c : Content). (step (tree_of c) (command.DelAttr path name)).1) content,
-      subst (λ (k : ℕ × Content). DeletesAttribute k.0 name (volume_of k.1) (volume_of b.content)) {x = (id_in entry.rec, a.content)} {y = (id, before)} (λ i. (is i, content i)) does_it.2,
-    )

@@ -24,6 +24,9 @@ use Rattle.hfs_volume.specs.TreeOf.{tree_of}
 use Rattle.volume_header.specs.declared.header.VolumeHeader.{VolumeHeader}
 use Rattle.volume_base.specs.Attributing.{others_owned, set_answer}
 use Rattle.volume_base.specs.Lists.{lists_of}
+use Rattle.attributes.specs.declared.value.ValueAt.{ValueAt}
+use Rattle.jnl_format.specs.Recovery.{header_of_volume}
+use Rattle.volume_base.specs.Values.{bytes_of_value, size_of_value, value_told}
 use Rattle.volume_base.specs.Owning.{owner_in}
 use Rattle.volume_base.specs.Standing.{HoldsTrees, IsSettled}
 use Rattle.volume_base.specs.declared.volume.Volume.{Volume}
@@ -63,12 +66,12 @@ module _ (tree : PlainTree) (path : List (List ℕ)) (name value : List ℕ) whe
     pub set_tree : (step tree (command.SetAttr path name value)).1 ≡ (step_line tree (Ok (command.SetAttr path name value))).1
     set_tree = sym (ap (λ (s : Reply × PlainTree). s.1) set_line)
 
-    by_set : (r : Result PlainNode Refusal) → to_set tree path value ≡ r → step_line tree (Ok (command.SetAttr path name value)) ≡ set_step tree name value r
-    by_set r is = set_line ∙ ap (set_step tree name value) is
+    pub set_by : (r : Result PlainNode Refusal) → to_set tree path value ≡ r → step_line tree (Ok (command.SetAttr path name value)) ≡ set_step tree name value r
+    set_by r is = set_line ∙ ap (set_step tree name value) is
 
     set_why : (has : Bool) (why : Refusal) → to_set tree path value ≡ Err why
         → (reply.No why ≡ set_answer has (step_line tree (Ok (command.SetAttr path name value))).0) × (tree ≡ (step_line tree (Ok (command.SetAttr path name value))).1)
-    set_why has why is = (refuses has why ∙ sym (ap (λ (s : Reply × PlainTree). set_answer has s.0) (by_set (Err why) is)), sym (ap (λ (s : Reply × PlainTree). s.1) (by_set (Err why) is)))
+    set_why has why is = (refuses has why ∙ sym (ap (λ (s : Reply × PlainTree). set_answer has s.0) (set_by (Err why) is)), sym (ap (λ (s : Reply × PlainTree). s.1) (set_by (Err why) is)))
 
     pub set_refused : (has : Bool) (why : Refusal) → to_node tree path ≡ Err why
         → (reply.No why ≡ set_answer has (step_line tree (Ok (command.SetAttr path name value))).0) × (tree ≡ (step_line tree (Ok (command.SetAttr path name value))).1)
@@ -77,18 +80,18 @@ module _ (tree : PlainTree) (path : List (List ℕ)) (name value : List ℕ) whe
     to_set_by : (node : PlainNode) (b : Bool) → to_node tree path ≡ Ok node → nat_lt most_attribute (length value) ≡ b → to_set tree path value ≡ unless b refusal.AttributeTooLarge node
     to_set_by node b is long = ap (λ r. then_ r (λ n. unless (nat_lt most_attribute (length value)) refusal.AttributeTooLarge n)) is ∙ ap (λ t. unless t refusal.AttributeTooLarge node) long
 
-    pub set_too_large : (has : Bool) (node : PlainNode) → to_node tree path ≡ Ok node → 1700 < length value
+    pub set_too_large : (has : Bool) (node : PlainNode) → to_node tree path ≡ Ok node → most_attribute < length value
         → (reply.No refusal.AttributeTooLarge ≡ set_answer has (step_line tree (Ok (command.SetAttr path name value))).0) × (tree ≡ (step_line tree (Ok (command.SetAttr path name value))).1)
-    set_too_large has node is long = set_why has refusal.AttributeTooLarge (to_set_by node true is (lt-ltb 1700 (length value) long))
+    set_too_large has node is long = set_why has refusal.AttributeTooLarge (to_set_by node true is (lt-ltb most_attribute (length value) long))
 
-    pub set_allowed : (node : PlainNode) → to_node tree path ≡ Ok node → length value ≤ 1700 → to_set tree path value ≡ Ok node
-    set_allowed node is long = to_set_by node false is (le-ltb 1700 (length value) long)
+    pub set_allowed : (node : PlainNode) → to_node tree path ≡ Ok node → length value ≤ most_attribute → to_set tree path value ≡ Ok node
+    set_allowed node is long = to_set_by node false is (le-ltb most_attribute (length value) long)
 
-    pub set_lacks : (has : Bool) → has ≡ false → (node : PlainNode) → to_node tree path ≡ Ok node → length value ≤ 1700 → reply.No refusal.NoTree ≡ set_answer has (step_line tree (Ok (command.SetAttr path name value))).0
-    set_lacks has none node is long = sym (ap (λ b. set_answer b (step_line tree (Ok (command.SetAttr path name value))).0) none ∙ ap (λ (s : Reply × PlainTree). set_answer false s.0) (by_set (Ok node) (set_allowed node is long)))
+    pub set_lacks : (has : Bool) → has ≡ false → (node : PlainNode) → to_node tree path ≡ Ok node → length value ≤ most_attribute → reply.No refusal.NoTree ≡ set_answer has (step_line tree (Ok (command.SetAttr path name value))).0
+    set_lacks has none node is long = sym (ap (λ b. set_answer b (step_line tree (Ok (command.SetAttr path name value))).0) none ∙ ap (λ (s : Reply × PlainTree). set_answer false s.0) (set_by (Ok node) (set_allowed node is long)))
 
-    pub set_replied : (has : Bool) → has ≡ true → (node : PlainNode) → to_node tree path ≡ Ok node → length value ≤ 1700 → reply.Ok ≡ set_answer has (step_line tree (Ok (command.SetAttr path name value))).0
-    set_replied has some node is long = sym (ap (λ b. set_answer b (step_line tree (Ok (command.SetAttr path name value))).0) some ∙ ap (λ (s : Reply × PlainTree). s.0) (by_set (Ok node) (set_allowed node is long)))
+    pub set_replied : (has : Bool) → has ≡ true → (node : PlainNode) → to_node tree path ≡ Ok node → length value ≤ most_attribute → reply.Ok ≡ set_answer has (step_line tree (Ok (command.SetAttr path name value))).0
+    set_replied has some node is long = sym (ap (λ b. set_answer b (step_line tree (Ok (command.SetAttr path name value))).0) some ∙ ap (λ (s : Reply × PlainTree). s.0) (set_by (Ok node) (set_allowed node is long)))
 
 -- ---- `delattr`
 
@@ -128,17 +131,24 @@ module _ (tree : PlainTree) (path : List (List ℕ)) (name : List ℕ) where
     get_line = ap (λ b. if b || false then (reply.No refusal.Private, tree) else step tree (command.GetAttr path name)) not_own
 
     abbrev told_of : Result (PlainNode × PlainAttribute) Refusal → Reply
-    told_of r = (on tree r (λ pair. (reply.Content pair.1.value, tree))).0
+    told_of r = (on tree (then_ r (λ pair. unless (nat_lt most_attribute (length pair.1.value)) refusal.TooLarge pair)) (λ pair. (reply.Content pair.1.value, tree))).0
+
+    -- a value that is there is told, or is too large
+    not_missing : (node : PlainNode) (attribute : PlainAttribute) (b : Bool) → nat_lt most_attribute (length attribute.value) ≡ b → told_of (Ok (node, attribute)) ≡ reply.No refusal.NoAttribute → ⊥
+    not_missing node attribute true long is =
+        let no : reply.No refusal.TooLarge ≡ reply.No refusal.NoAttribute = sym (ap (λ b. (on {X = PlainNode × PlainAttribute} tree (unless b refusal.TooLarge (node, attribute)) (λ pair. (reply.Content pair.1.value, tree))).0) long) ∙ is in cc no
+    not_missing node attribute false long is =
+        let no : reply.Content attribute.value ≡ reply.No refusal.NoAttribute = sym (ap (λ b. (on {X = PlainNode × PlainAttribute} tree (unless b refusal.TooLarge (node, attribute)) (λ pair. (reply.Content pair.1.value, tree))).0) long) ∙ is in cc no
 
     module _ (node : PlainNode) (is : to_node tree path ≡ Ok node) where
       told_by : (o : Option PlainAttribute) → attribute_at node name ≡ o → (step_line tree (Ok (command.GetAttr path name))).0 ≡ told_of (then_ (ok_or o refusal.NoAttribute) (λ attribute. Ok (node, attribute)))
       told_by o found = ap (λ (s : Reply × PlainTree). s.0) get_line ∙ ap (λ r. told_of (found_in r)) is ∙ ap (λ p. told_of (then_ (ok_or p refusal.NoAttribute) (λ attribute. Ok (node, attribute)))) found
 
-      pub attribute_found : (value : List ℕ) → reply.Content value ≡ (step_line tree (Ok (command.GetAttr path name))).0 → (attribute : PlainAttribute) × (to_attribute tree path name ≡ Ok (node, attribute))
-      attribute_found value told = by (attribute_at node name) refl
+      pub attribute_found : (told : Reply) → (told ≡ reply.No refusal.NoAttribute → ⊥) → told ≡ (step_line tree (Ok (command.GetAttr path name))).0 → (attribute : PlainAttribute) × (to_attribute tree path name ≡ Ok (node, attribute))
+      attribute_found told there is_told = by (attribute_at node name) refl
         where
           by : (o : Option PlainAttribute) → attribute_at node name ≡ o → (attribute : PlainAttribute) × (to_attribute tree path name ≡ Ok (node, attribute))
-          by None found = absurd (let no : reply.Content value ≡ reply.No refusal.NoAttribute = told ∙ told_by None found in cc no)
+          by None found = absurd (there (is_told ∙ told_by None found))
           by (Some attribute) found = (attribute, ap found_in is ∙ ap (λ p. then_ (ok_or p refusal.NoAttribute) (λ a. Ok (node, a))) found)
 
       pub attribute_missing : reply.No refusal.NoAttribute ≡ (step_line tree (Ok (command.GetAttr path name))).0
@@ -147,7 +157,7 @@ module _ (tree : PlainTree) (path : List (List ℕ)) (name : List ℕ) where
         where
           by : (o : Option PlainAttribute) → attribute_at node name ≡ o → to_attribute tree path name ≡ Err refusal.NoAttribute
           by None found = ap found_in is ∙ ap (λ p. then_ (ok_or p refusal.NoAttribute) (λ a. Ok (node, a))) found
-          by (Some attribute) found = absurd (let no : reply.No refusal.NoAttribute ≡ reply.Content attribute.value = told ∙ told_by (Some attribute) found in cc no)
+          by (Some attribute) found = absurd (not_missing node attribute (nat_lt most_attribute (length attribute.value)) refl (sym (told ∙ told_by (Some attribute) found)))
 
 abbrev node_of : PlainNode → Result (PlainNode × PlainAttribute) Refusal → PlainNode
 node_of other (Ok pair) = pair.0
@@ -170,13 +180,21 @@ attribute_node tree path name node attribute is = node_there tree path node (att
 
 -- ---- by the records
 
-value_of_others : (found : Option (List ℕ)) (count : ℕ) (others : Bool) → Some others ≡ option_map (λ value. nat_lt 1 count) found → (value : List ℕ) × (found ≡ Some value)
+value_of_others : (found : Option ValueAt) (count : ℕ) (others : Bool) → Some others ≡ option_map (λ value. nat_lt 1 count) found → (value : ValueAt) × (found ≡ Some value)
 value_of_others None count others is = absurd (cc is)
 value_of_others (Some value) count others is = (value, refl)
 
-none_of_others : (found : Option (List ℕ)) (count : ℕ) → None ≡ option_map (λ value. nat_lt 1 count) found → found ≡ None
+none_of_others : (found : Option ValueAt) (count : ℕ) → None ≡ option_map (λ value. nat_lt 1 count) found → found ≡ None
 none_of_others None count is = refl
 none_of_others (Some value) count is = absurd (cc is)
+
+-- the reply about a value that is there isn't that there is none
+value_there : (content : Content) (block : ℕ) (value : ValueAt) → value_told content block (Some value) ≡ reply.No refusal.NoAttribute → ⊥
+value_there content block value = by (nat_lt most_attribute (size_of_value value))
+  where
+    by : (b : Bool) → (if b then reply.No refusal.TooLarge else reply.Content (bytes_of_value content block value)) ≡ reply.No refusal.NoAttribute → ⊥
+    by true is = let no : reply.No refusal.TooLarge ≡ reply.No refusal.NoAttribute = is in cc no
+    by false is = let no : reply.Content (bytes_of_value content block value) ≡ reply.No refusal.NoAttribute = is in cc no
 
 module _ (law : SoundHasPlainTree) (v : Volume) (content : Content) (holds : HoldsTrees v content) (settled : IsSettled v content) (path : List (List ℕ)) (name : List ℕ) (not_own : is_private_path path ≡ false) (fits : FitsPath path) (said : Result ℕ Refusal)
     (found : said ≡ owner_in (lists_of v content).catalog_pairs v.private path) (id : ℕ) (ok : said ≡ Ok id) (node : PlainNode) (is : to_node (tree_of content) path ≡ Ok node)
@@ -188,8 +206,8 @@ module _ (law : SoundHasPlainTree) (v : Volume) (content : Content) (holds : Hol
     pub attribute_told : (others : Bool) → Some others ≡ others_owned (lists_of v content).attribute_pairs id name → (attribute : PlainAttribute) × (to_attribute (tree_of content) path name ≡ Ok (node, attribute))
     attribute_told others there =
         let it = value_of_others (value_at (lists_of v content).attribute_pairs id name) (length (names_of id (lists_of v content).attribute_pairs)) others there in
-        attribute_found (tree_of content) path name not_own node is it.0
-        (told_value law v content holds settled path name not_own fits said found id (Some it.0) (reply.Content it.0) ok (sym it.1) refl)
+        attribute_found (tree_of content) path name not_own node is (value_told content (header_of_volume content).block_size (Some it.0)) (value_there content (header_of_volume content).block_size it.0)
+        (told_value law v content holds settled path name not_own fits said found id (value_told content (header_of_volume content).block_size (Some it.0)) ok (ap (value_told content (header_of_volume content).block_size) (sym it.1)))
 
     -- and one that wasn't is none of them
     pub attribute_untold : None ≡ others_owned (lists_of v content).attribute_pairs id name
@@ -197,10 +215,10 @@ module _ (law : SoundHasPlainTree) (v : Volume) (content : Content) (holds : Hol
     attribute_untold none =
         let it = none_of_others (value_at (lists_of v content).attribute_pairs id name) (length (names_of id (lists_of v content).attribute_pairs)) none in
         attribute_missing (tree_of content) path name not_own node is
-        (told_value law v content holds settled path name not_own fits said found id None (reply.No refusal.NoAttribute) ok (sym it) refl)
+        (told_value law v content holds settled path name not_own fits said found id (reply.No refusal.NoAttribute) ok (ap (value_told content (header_of_volume content).block_size) (sym it)))
 
 -- where there is one, the count of all tells of others
-pub others_are : (first later : List Pair) → later ≡ first → (id : ℕ) (name value : List ℕ) → Some value ≡ value_at first id name → {E : Type 0} (result : Result (Option Bool) E)
+pub others_are : (first later : List Pair) → later ≡ first → (id : ℕ) (name : List ℕ) (value : ValueAt) → Some value ≡ value_at first id name → {E : Type 0} (result : Result (Option Bool) E)
     → IfOk result (λ said. said ≡ Some (nat_lt 1 (length (names_of id later)))) → IfOk result (λ said. said ≡ others_owned first id name)
 others_are first later same id name value found (Ok said) counted =
     counted ∙ ap (λ (l : List Pair). Some (nat_lt 1 (length (names_of id l)))) same ∙ ap (option_map (λ v. nat_lt 1 (length (names_of id first)))) found

@@ -20,7 +20,7 @@ use Rattle.hfs_volume.specs.Laws.{IsShaped}
 use Rattle.hfs_volume.specs.Records.{Placed, Overflow, entries_of, id_of, is_empty, is_link, is_link_type, is_thread, placed_in, record_at, special_of}
 use Rattle.hfs_volume.specs.Reclaim.{blocks_at, blocks_found, is_fork}
 use Rattle.hfs_volume.specs.Sound.{IsSoundVolume}
-use Rattle.hfs_volume.specs.TreeOf.{is_hidden, is_linked, is_plain_file, is_plain_folder, is_seen, node_in, plain_node, tree_in}
+use Rattle.hfs_volume.specs.TreeOf.{is_hidden, is_linked, is_plain_file, is_plain_folder, is_seen, node_in, plain_node, tree_in, BytesOf, valued}
 use Rattle.hfs_volume.proofs.Marks.{link_is_seen, shared_hidden}
 use Rattle.hfs_volume.proofs.Members.{in_one}
 use Rattle.hfs_volume.proofs.NodesOf.{nodes_from}
@@ -30,13 +30,13 @@ use Rattle.hfs_volume.proofs.Swapping.{Splits, entries_split, found_swap}
 use Rattle.hfs_volume.proofs.Telling.{nodes_are}
 
 -- The file of a node.
-pub record IsFileOf (volume : VolumeState) (bytes_of : FileRecord → List ℕ) (node : PlainNode) : Type 0 where
+pub record IsFileOf (volume : VolumeState) (bytes_of : BytesOf) (node : PlainNode) : Type 0 where
   pub entry : Placed
   pub file : FileRecord
   pub stands : Contains (entries_of (records_of volume)) entry
   pub value : entry.value ≡ File file
   pub id : node.id ≡ file.fields.id
-  pub bytes : node.bytes ≡ bytes_of file
+  pub bytes : node.bytes ≡ bytes_of.file file
   pub no_link : is_link_type file.fields ≡ false
   pub plain : is_plain_file (records_of volume) entry ≡ true
 
@@ -74,27 +74,27 @@ module _ (volume : VolumeState) (sound : IsSoundVolume volume) (sorted : AreSort
       by_link false isnt = isnt
       by_link true link = absurd (by_linked link (is_linked (records_of volume) e) refl)
 
-  pub file_of_node : (bytes_of : FileRecord → List ℕ) (node : PlainNode) → Contains (tree_in volume bytes_of).nodes node → node.folder ≡ false → IsFileOf volume bytes_of node
+  pub file_of_node : (bytes_of : BytesOf) (node : PlainNode) → Contains (tree_in volume bytes_of).nodes node → node.folder ≡ false → IsFileOf volume bytes_of node
   file_of_node bytes_of node there no_folder =
-      let it = nodes_from (attributes_of volume) bytes_of (records_of volume) node (subst (λ l. Contains l node) (nodes_are volume bytes_of) there) in
+      let it = nodes_from (valued bytes_of (attributes_of volume)) bytes_of (records_of volume) node (subst (λ l. Contains l node) (nodes_are volume bytes_of) there) in
       of_value it.entry it.stands it.id it.entry.value refl it.has
     where
-      of_value : (e : Placed) → Contains (entries_of (records_of volume)) e → node.id ≡ id_of e → (v : CatRecord) → e.value ≡ v → Contains (node_in (attributes_of volume) (records_of volume) bytes_of e v) node → IsFileOf volume bytes_of node
+      of_value : (e : Placed) → Contains (entries_of (records_of volume)) e → node.id ≡ id_of e → (v : CatRecord) → e.value ≡ v → Contains (node_in (valued bytes_of (attributes_of volume)) (records_of volume) bytes_of e v) node → IsFileOf volume bytes_of node
       of_value e stands id (Folder f) is has = by_test (is_plain_folder (records_of volume) e) has
         where
-          by_test : (b : Bool) → Contains (if b then plain_node (attributes_of volume) f.fields true [] false ∷ [] else []) node → IsFileOf volume bytes_of node
-          by_test true one = absurd (true≢false (sym (ap (λ (n : PlainNode). n.folder) (in_one (plain_node (attributes_of volume) f.fields true [] false) node one)) ∙ no_folder))
+          by_test : (b : Bool) → Contains (if b then plain_node (valued bytes_of (attributes_of volume)) f.fields true [] false ∷ [] else []) node → IsFileOf volume bytes_of node
+          by_test true one = absurd (true≢false (sym (ap (λ (n : PlainNode). n.folder) (in_one (plain_node (valued bytes_of (attributes_of volume)) f.fields true [] false) node one)) ∙ no_folder))
           by_test false none = absurd (omega (arith, none.1))
       of_value e stands id (File f) is has = by_test (is_plain_file (records_of volume) e) refl has
         where
-          by_test : (b : Bool) → is_plain_file (records_of volume) e ≡ b → Contains (if b then plain_node (attributes_of volume) f.fields false (bytes_of f) (is_linked (records_of volume) e) ∷ [] else []) node → IsFileOf volume bytes_of node
+          by_test : (b : Bool) → is_plain_file (records_of volume) e ≡ b → Contains (if b then plain_node (valued bytes_of (attributes_of volume)) f.fields false (bytes_of.file f) (is_linked (records_of volume) e) ∷ [] else []) node → IsFileOf volume bytes_of node
           by_test true plain one = record {
             entry = e;
             file = f;
             stands = stands;
             value = is;
             id = id ∙ ap (λ (v : CatRecord). id_of (record e { value = v })) is;
-            bytes = ap (λ (n : PlainNode). n.bytes) (in_one (plain_node (attributes_of volume) f.fields false (bytes_of f) (is_linked (records_of volume) e)) node one);
+            bytes = ap (λ (n : PlainNode). n.bytes) (in_one (plain_node (valued bytes_of (attributes_of volume)) f.fields false (bytes_of.file f) (is_linked (records_of volume) e)) node one);
             no_link = sym (ap (λ (v : CatRecord). is_link (record e { value = v })) is) ∙ not_link e stands plain;
             plain = plain;
           }

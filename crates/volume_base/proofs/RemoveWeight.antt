@@ -1,6 +1,6 @@
 -- What the removal of a folder weighs.
-use Rattle.std.proofs.Common.{◌≡◌, ◌<◌, ◌≤◌, ℕ, Bool, true, false, List, [], ◌∷◌, length, refl, sym, ◌∙◌, ap, subst, arith}
-use Rattle.std.specs.Prelude.{◌==◌, IsTrue, map, None, Result, Ok, Err, if◌then◌else◌}
+use Rattle.std.proofs.Common.{◌≡◌, ◌<◌, ◌≤◌, ◌+◌, ℕ, Bool, true, false, List, [], ◌∷◌, length, refl, sym, ◌∙◌, ap, subst, arith}
+use Rattle.std.specs.Prelude.{◌==◌, IsTrue, None, Option, Some, Result, Ok, Err, if◌then◌else◌}
 use Rattle.std.proofs.lemmas.List.{length-map}
 use Rattle.attributes.specs.Owned.{count_of, names_of}
 use Rattle.btree_file.specs.Standing.{pairs_in}
@@ -19,37 +19,17 @@ use Rattle.hfs_model.specs.declared.plain.PlainTree.{PlainTree}
 use Rattle.hfs_volume.specs.Content.{VolumeState, has_attributes}
 use Rattle.hfs_volume.specs.Cost.{cost_of}
 use Rattle.hfs_volume.specs.Records.{Attribute, attribute_of}
-use Rattle.hfs_volume.specs.Weight.{attribute_count, edits, free_blocks, needs_for, rmdir_edits, room_with, weight, weight_with}
+use Rattle.hfs_volume.specs.Weight.{attribute_count, edits, free_blocks, needs_for, removed_values, rmdir_edits, room_with, values_of_node, weight, weight_with, with_values}
+use Rattle.hfs_volume.specs.declared.cost.ValueChange.{ValueChange}
 use Rattle.sector_disk.specs.Lists.{Content}
 use Rattle.volume_base.specs.Lists.{lists_of}
 use Rattle.volume_base.specs.Owning.{attributes_in, listed_name}
-use Rattle.volume_base.specs.Weighing.{edits_weighed, joined, refused_or, weighed}
+use Rattle.volume_base.specs.Weighing.{edits_weighed, joined, refused_or, values_weighed, weighed}
+use Rattle.volume_base.specs.declared.value_changes.OwnedValues.{OwnedValues}
+use Rattle.volume_base.specs.declared.weighing.Weight.{Weight}
 use Rattle.volume_base.specs.declared.volume.Volume.{Volume}
 use Rattle.volume_base.specs.declared.weighing.Weight.TheVariants as answer
-use Rattle.volume_base.proofs.BareLoads.{counted_map}
 use Rattle.volume_base.proofs.LeavingFound.{private_line, refused_line, removed_line, root_line}
-
--- ---- the attributes
-
--- as many as are listed
-pub listed_many : (id : ℕ) (pairs : List Pair) (list : List ListedName) → list ≡ attributes_in pairs id → length list ≡ count_of id pairs
-listed_many id pairs list listed =
-    ap (λ (l : List ListedName). length l) listed ∙ length-map (names_of id pairs) listed_name
-    ∙ length-map (kept (λ (a : Attribute). a.id == id) (map attribute_of pairs)) (λ (a : Attribute). a.name) ∙ counted_map id pairs
-
--- where some are listed there is an attributes file
-pub listed_has : (v : Volume) (content : Content) (id : ℕ) (list : List ListedName) → list ≡ attributes_in (lists_of v content).attribute_pairs id → 0 < length list → IsTrue (has_attributes v.header)
-listed_has v content id list listed some = by (has_attributes v.header) refl
-  where
-    by : (b : Bool) → has_attributes v.header ≡ b → has_attributes v.header ≡ true
-    by true is = is
-    by false is =
-        let none : list ≡ [] = listed ∙ ap (λ b. attributes_in (if b then pairs_in (sectors_of_tree v.attributes.file) content else []) id) is in
-        absurd (omega (arith, some, ap (λ (l : List ListedName). length l) none))
-
--- without an attributes file there are none
-pub none_counted : (v : Volume) (content : Content) (id : ℕ) → has_attributes v.header ≡ false → count_of id (lists_of v content).attribute_pairs ≡ 0
-none_counted v content id is = ap (λ b. count_of id (if b then pairs_in (sectors_of_tree v.attributes.file) content else [])) is
 
 -- the root isn't removed
 pub removed_some : (tree : PlainTree) (path : List (List ℕ)) (entry : PlainEntry) → length path ≡ 0 → to_rmdir tree path ≡ Ok entry → ⊥
@@ -74,13 +54,32 @@ module _ (capacity : ℕ) (takable : List Bool) (volume : VolumeState) (tree : P
     removal_refused why is = why_not why (refused_line tree path why not_own is).0
 
     module _ (at : PlainEntry) (allowed : to_rmdir tree path ≡ Ok at) where
-      costs : edits_weighed capacity takable volume (record { ids = 0; catalog = 2; attributes = attribute_count (node_at tree at.id); updates = 1 })
-          ≡ joined (weight capacity volume tree (command.Rmdir path)) (weight_with capacity takable volume tree (command.Rmdir path))
-      unfolding weight_with
-      costs = ap (λ (r : Result PlainEntry Refusal). joined (cost_of (needs_for (free_blocks volume) volume (rmdir_edits tree r) None) (room_with capacity (free_blocks volume) volume)) (cost_of (needs_for takable volume (rmdir_edits tree r) None) (room_with capacity takable volume))) (sym allowed)
+      abbrev removal_costs : Result PlainEntry Refusal → Weight
+      removal_costs found =
+          joined (cost_of (with_values (free_blocks volume) (removed_values volume tree found) (needs_for (free_blocks volume) volume (rmdir_edits tree found) None)) (room_with capacity (free_blocks volume) volume))
+          (cost_of (with_values takable (removed_values volume tree found) (needs_for takable volume (rmdir_edits tree found) None)) (room_with capacity takable volume))
 
-      pub removal_allowed : (many : ℕ) → attribute_count (node_at tree at.id) ≡ many
-          → edits_weighed capacity takable volume (record { ids = 0; catalog = 2; attributes = many; updates = 1 }) ≡ weighed capacity takable volume tree (command.Rmdir path)
-      removal_allowed many counted =
-          (λ i. edits_weighed capacity takable volume (record { ids = 0; catalog = 2; attributes = sym counted i; updates = 1 })) ∙ costs
+      removal_weighs : removal_costs (to_rmdir tree path) ≡ joined (weight capacity volume tree (command.Rmdir path)) (weight_with capacity takable volume tree (command.Rmdir path))
+      unfolding weight_with
+      removal_weighs = refl
+
+      -- of so many attributes, and of their values
+      abbrev owned_costs : ℕ → Option ValueChange → Weight
+      owned_costs many change =
+          joined (cost_of (with_values (free_blocks volume) change (needs_for (free_blocks volume) volume (edits 0 2 many 1) None)) (room_with capacity (free_blocks volume) volume))
+          (cost_of (with_values takable change (needs_for takable volume (edits 0 2 many 1) None)) (room_with capacity takable volume))
+
+      pub removal_allowed : (owned : OwnedValues) → attribute_count (node_at tree at.id) ≡ owned.count → values_of_node volume (node_at tree at.id) ≡ Some owned.change
+          → values_weighed capacity takable volume (record { ids = 0; catalog = 2; attributes = owned.count; updates = 1 }) owned.change ≡ weighed capacity takable volume tree (command.Rmdir path)
+      removal_allowed owned counted changed =
+          (λ i. owned_costs (sym counted i) (sym changed i)) ∙ sym (ap removal_costs allowed) ∙ removal_weighs
           ∙ ap (λ said. refused_or said (joined (weight capacity volume tree (command.Rmdir path)) (weight_with capacity takable volume tree (command.Rmdir path)))) (removed_line tree path at not_own allowed).0
+
+-- values of which none goes and none comes weigh nothing
+pub nothing_changed : (capacity : ℕ) (takable : List Bool) (volume : VolumeState) (many : ℕ)
+    → edits_weighed capacity takable volume (record { ids = 0; catalog = 2; attributes = many; updates = 1 })
+    ≡ values_weighed capacity takable volume (record { ids = 0; catalog = 2; attributes = many; updates = 1 }) (record { records = 0; freed = 0; blocks = 0 })
+nothing_changed capacity takable volume many =
+    let more : many ≡ many + 0 + 0 = omega arith in
+    λ i. joined (cost_of (record { ids = 0; edits = 0 ∷ 2 ∷ more i ∷ []; updates = 1; new_blocks = 0; old_blocks = 0; runs = 0 }) (room_with capacity (free_blocks volume) volume))
+    (cost_of (record { ids = 0; edits = 0 ∷ 2 ∷ more i ∷ []; updates = 1; new_blocks = 0; old_blocks = 0; runs = 0 }) (room_with capacity takable volume))

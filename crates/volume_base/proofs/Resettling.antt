@@ -56,6 +56,7 @@ other_tree lists other same sound = record {
       bad_goes_on = sound.blocks.forks.bad_goes_on;
       owned = sound.blocks.forks.owned;
       once = sound.blocks.forks.once;
+      values = sound.blocks.forks.values;
     };
     bits = record { bits = sound.blocks.bits.bits; free = sound.blocks.bits.free };
   };

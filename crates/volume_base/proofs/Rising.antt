@@ -1,6 +1,6 @@
 -- The pairs of a volume's trees stand in the order of their keys, so its lists have a plain tree.
 use Rattle.std.proofs.Common.{◌≡◌, ℕ, zero, suc, ◌<◌, Bool, true, false, List, [], ◌∷◌, length, map, refl, sym, ◌∙◌, ap, subst, arith}
-use Rattle.std.specs.Prelude.{slice_index_or, if◌then◌else◌}
+use Rattle.std.specs.Prelude.{IsTrue, slice_index_or, if◌then◌else◌}
 use Rattle.std.specs.List.{AllByRecursion}
 use Rattle.std.specs.Ordering.{is_lt}
 use Rattle.std.specs.declared.cmp.Ordering.{Ordering}
@@ -21,7 +21,7 @@ use Rattle.hfs_volume.specs.Books.{SoundHasPlainTree}
 use Rattle.hfs_volume.specs.Changes.{AreSorted, AreSortedAttributes, attribute_before}
 use Rattle.hfs_volume.specs.Content.{VolumeState, volume_of, has_attributes}
 use Rattle.hfs_volume.specs.Records.{Attribute, attribute_of}
-use Rattle.hfs_volume.specs.TreeOf.{tree_of, file_bytes}
+use Rattle.hfs_volume.specs.TreeOf.{tree_of, bytes_in}
 use Rattle.hfs_volume.proofs.Ascending.{tree_sorted}
 use Rattle.volume_base.specs.Standing.{HoldsTrees, IsSettled}
 use Rattle.volume_base.specs.declared.volume.Volume.{Volume}
@@ -62,15 +62,19 @@ pub settled_sorted : (v : Volume) (content : Content) → HoldsTrees v content �
 settled_sorted v content holds settled =
     subst AreSorted (sym (ap (λ (l : VolumeState). l.catalog_pairs) settled.lists)) (tree_sorted IsCatalogKey (store_of (file_in (sectors_of_tree v.catalog.file) content)) holds.catalog.file.rules)
 
--- the tree of a settled volume is a plain tree
-pub settled_is_plain : SoundHasPlainTree → (v : Volume) (content : Content) → HoldsTrees v content → IsSettled v content → IsPlainTree (tree_of content)
-unfolding tree_of
-settled_is_plain law v content holds settled =
-    (law (volume_of content) (file_bytes content)
-    (settled_sorted v content holds settled)
-    (subst AreSortedAttributes (sym (ap (λ (l : VolumeState). l.attribute_pairs) settled.lists)) (by_test (has_attributes v.header) refl))
-    settled.sound).plain
+-- so do those of its attributes file
+pub held_sorted : (v : Volume) (content : Content) → HoldsTrees v content → IsTrue (has_attributes v.header) → AreSortedAttributes (pairs_in (sectors_of_tree v.attributes.file) content)
+held_sorted v content holds has = attributes_in_order _ (tree_rises IsAttrKey attr_cmp _ (holds.attributes has).file.rules)
+
+-- and so do its attributes
+pub settled_attributes_sorted : (v : Volume) (content : Content) → HoldsTrees v content → IsSettled v content → AreSortedAttributes (volume_of content).attribute_pairs
+settled_attributes_sorted v content holds settled = subst AreSortedAttributes (sym (ap (λ (l : VolumeState). l.attribute_pairs) settled.lists)) (by_test (has_attributes v.header) refl)
   where
     by_test : (b : Bool) → has_attributes v.header ≡ b → AreSortedAttributes (if b then pairs_in (sectors_of_tree v.attributes.file) content else [])
     by_test true has = attributes_in_order _ (tree_rises IsAttrKey attr_cmp _ (holds.attributes has).file.rules)
     by_test false none = tt
+
+-- the tree of a settled volume is a plain tree
+pub settled_is_plain : SoundHasPlainTree → (v : Volume) (content : Content) → HoldsTrees v content → IsSettled v content → IsPlainTree (tree_of content)
+unfolding tree_of
+settled_is_plain law v content holds settled = (law (volume_of content) (bytes_in content) (settled_sorted v content holds settled) (settled_attributes_sorted v content holds settled) settled.sound).plain

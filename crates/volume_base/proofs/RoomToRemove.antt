@@ -61,28 +61,3 @@ module _ (v w : Volume) (a b : Space) (reads : ReadsVolume v w a b) where
         subst (λ (k : TreeFacts × VolumeHeader × ℕ). (1 + k.0.shape.node_size / 512 + tree_load catalog_key (cost_of_tree k.0 0) 2 0 ≤ k.2) × (is_too_deep catalog_key (cost_of_tree k.0 0) 2 ≡ false) × (growth k.1.block_size catalog_key (cost_of_tree k.0 0) 2 ≡ 0))
         {x = (facts_on v.catalog.file, v.header, a.spare)} {y = (facts_on w.catalog.file, w.header, b.spare)} (λ i. (sym (facts_read (sym reads.looks.same.tells ∙ tells)) i, sym reads.keeps.header i, sym reads.looks.spare i)) (was.told (sym reads.looks.same.tells ∙ tells));
   }
-
--- ---- a folder of whose attributes none is listed has none
-
-kept_whole : (id : ℕ) (pairs : List Pair) → names_of id pairs ≡ [] → pairs ≡ kept (λ pair. not ((attribute_of pair).id == id)) pairs
-kept_whole id [] none = refl
-kept_whole id (pair ∷ pairs) none = by ((attribute_of pair).id == id) (kept_whole id pairs) none
-  where
-    is_nil : List (List ℕ) → Bool
-    is_nil [] = true
-    is_nil (name ∷ names) = false
-
-    by : (b : Bool) → (names_of id pairs ≡ [] → pairs ≡ kept (λ p. not ((attribute_of p).id == id)) pairs) → map (λ (attribute : Attribute). attribute.name) ((if b then attribute_of pair ∷ [] else []) ++ kept (λ attribute. attribute.id == id) (map attribute_of pairs)) ≡ []
-        → pair ∷ pairs ≡ (if not b then pair ∷ [] else []) ++ kept (λ p. not ((attribute_of p).id == id)) pairs
-    by true others listed = absurd (true≢false (sym (ap is_nil listed)))
-    by false others listed = ap (λ (l : List Pair). pair ∷ l) (others listed)
-
-pub none_named : (v : Volume) (content : Content) → IsSettled v content → (id : ℕ) (owned : List (List ℕ)) → owned ≡ names_of id (lists_of v content).attribute_pairs → length owned ≡ 0 → HasNoAttributes id (volume_of content).attribute_pairs
-none_named v content settled id owned listed none =
-    let same = ap (λ (l : VolumeState). l.attribute_pairs) settled.lists in
-    subst (λ (l : List Pair). DropsAttributes id l l) (sym same)
-    (kept_whole id (lists_of v content).attribute_pairs (empty_list (names_of id (lists_of v content).attribute_pairs) (ap (λ (l : List (List ℕ)). length l) (sym listed) ∙ none)))
-  where
-    empty_list : (l : List (List ℕ)) → length l ≡ 0 → l ≡ []
-    empty_list [] is = refl
-    empty_list (x ∷ xs) is = absurd (omega (arith, is))

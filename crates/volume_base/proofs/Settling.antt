@@ -9,7 +9,7 @@ use Rattle.hfs_volume.specs.Content.{VolumeState, volume_of, has_attributes}
 use Rattle.hfs_volume.specs.Links.{private_id}
 use Rattle.hfs_volume.specs.Records.{placed_in}
 use Rattle.hfs_volume.specs.Sound.{IsSoundVolume}
-use Rattle.hfs_volume.specs.TreeOf.{tree_in, tree_of, file_bytes}
+use Rattle.hfs_volume.specs.TreeOf.{tree_in, tree_of, bytes_in}
 use Rattle.volume_base.specs.Changing.{ChangesCatalog}
 use Rattle.volume_base.specs.Lists.{lists_of, facts_on}
 use Rattle.volume_base.specs.Standing.{IsStanding, IsSettled}
@@ -44,7 +44,7 @@ module _ (v w : Volume) (a b : Space) (changes : ChangesCatalog v w a.content b.
     pub settles_private : (private : Option ℕ) → private ≡ private_id (placed_in (lists_of w b.content).catalog_pairs) → IsSettled (record w { private = private }) b.content
     settles_private private is = trees.settles_private v w a b in_trees settled was stands headed (volume_of a.content).attributes_tree attributes_same sound private is
 
-    pub tree_again : tree_of b.content ≡ tree_in (lists_then a.content w b.content) (file_bytes a.content)
+    pub tree_again : tree_of b.content ≡ tree_in (lists_then a.content w b.content) (bytes_in a.content)
     tree_again = trees.tree_again v w a b in_trees settled was stands headed (volume_of a.content).attributes_tree attributes_same sound
 
     -- the lists that the law speaks of

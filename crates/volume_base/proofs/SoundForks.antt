@@ -1,4 +1,5 @@
 -- Where the special files of a sound content lie: in its sectors, apart from each other, from the header and from the journal.
+use Rattle.hfs_volume.specs.Values.{blocks_of_values}
 use Rattle.std.proofs.Common.{◌≡◌, ◌≢◌, ◌⊎◌, ◌<◌, ◌≤◌, ℕ, zero, suc, ◌+◌, ◌-◌, ◌*◌, ◌/◌, ◌%◌, ◌==◌, ◌&&◌, ◌||◌, Bool, true, false, not, cond, List, [], ◌∷◌, ◌++◌, length, get_or, refl, sym, ◌∙◌, ap, subst, arith, inl, inr, ⊎_elim}
 use Rattle.std.specs.Prelude.{Contains, All, IsTrue, Option, Some, None, find, nat_le, if◌then◌else◌}
 use Rattle.std.specs.Int.{is_power_of_two}
@@ -28,7 +29,7 @@ use Rattle.hfs_model.specs.Sorted.{kept}
 use Rattle.hfs_model.specs.Step.{journal_name, journal_info_name}
 use Rattle.hfs_volume.specs.Records.{Placed, Overflow, entries_of, is_empty, is_placed_at}
 use Rattle.hfs_volume.specs.Forks.{Owned, per_block_of, parts_for, data_kind, resource_kind, extents_id, catalog_id, allocation_id, attributes_id, startup_id, extents_of, in_use, is_of, overflow_in, blocks_owned, forks_in, file_forks, all_forks, special_forks, reserved_blocks, bad_extents, used_blocks}
-use Rattle.hfs_volume.specs.Content.{VolumeState, volume_of, records_of, overflow_in_volume, overflow_of_content, block_limit, sectors_in, has_attributes}
+use Rattle.hfs_volume.specs.Content.{VolumeState, volume_of, records_of, overflow_in_volume, overflow_of_content, block_limit, sectors_in, has_attributes, attributes_of}
 use Rattle.hfs_volume.specs.Attributes.{IsOneExtent, journal_extent, info_extent}
 use Rattle.hfs_volume.specs.Aside.{IsJournalSector}
 use Rattle.hfs_volume.specs.Blocks.{forks_of, used_in, HasForks, HasSizes, LieInside}
@@ -298,6 +299,7 @@ module _ (content : Content) (sound : IsSound content) where
       omega (
         arith,
         sound.volume.blocks.forks.once b,
+        times-append b (reserved ++ in_forks ++ bad) (blocks_of_values (attributes_of (volume_of content))),
         times-append b (reserved ++ flat_map (blocks_owned (overflow_of_content content)) (special_forks (header_of_volume content) ++ file_forks (records_of (volume_of content)))) (blocks_of (bad_extents (overflow_of_content content))),
         times-append b reserved (flat_map (blocks_owned (overflow_of_content content)) (special_forks (header_of_volume content) ++ file_forks (records_of (volume_of content)))),
         flat_two (blocks_owned (overflow_of_content content)) (special_forks (header_of_volume content)) (file_forks (records_of (volume_of content))) b,

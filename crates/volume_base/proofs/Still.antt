@@ -20,7 +20,7 @@ use Rattle.btree_file.specs.Map.{bits_of}
 use Rattle.btree_file.specs.Standing.{HoldsTree, pairs_in}
 use Rattle.btree_file.specs.State.{sectors_of_tree}
 use Rattle.btree_file.specs.declared.tree.TreeFile.{TreeFile}
-use Rattle.attributes.specs.Values.{AreInline}
+use Rattle.attributes.specs.Values.{AreValued}
 use Rattle.hfs_volume.specs.Content.{VolumeState, volume_of, records_of, overflow_in_volume, has_attributes, journal_place}
 use Rattle.hfs_volume.specs.Entries.{AreSpelled}
 use Rattle.hfs_volume.specs.Forks.{per_block_of, extents_of, extents_id, catalog_id, allocation_id, attributes_id, data_kind}
@@ -212,8 +212,8 @@ attributes_over v space stands settled has = record {
       (attributes_own v has (get_or (sectors_of_tree v.attributes.file) k 0) (All-contains_itself (sectors_of_tree v.attributes.file) k 0 low));
   holds = λ told. (stands.stands told).trees.attributes has;
   whole = λ told. (stands.stands told).whole;
-  inline = λ told. subst AreInline (ap (λ (l : VolumeState). l.attribute_pairs) (settled told).lists ∙ ap (λ b. if b then pairs_in (sectors_of_tree v.attributes.file) space.content else []) has)
-      (λ k d low. let it = (settled told).sound.attributes.each k d low in record { spelled = it.spelled; inline = it.inline; start = it.start; named = it.named });
+  values = λ told. subst AreValued (ap (λ (l : VolumeState). l.attribute_pairs) (settled told).lists ∙ ap (λ b. if b then pairs_in (sectors_of_tree v.attributes.file) space.content else []) has)
+      (record { each = λ k d low. let it = (settled told).sound.attributes.each k d low in record { spelled = it.spelled; named = it.named }; values = (settled told).sound.attributes.values });
 }
 
 -- where only its attributes file was read, a volume was

@@ -17,8 +17,7 @@ use Rattle.volume_base.specs.Standing.{StandsOver}
 use Rattle.volume_base.specs.declared.volume.Tree.{Tree}
 use Rattle.volume_base.specs.declared.volume.Volume.{Volume}
 use Rattle.volume_base.proofs.Added.{own_edited}
-use Rattle.volume_base.proofs.AttributesEdited.{own_then, touches_attributes}
-use Rattle.volume_base.proofs.AttributesEdited.{serves_edited as serves_owned, stands_again as stands_owned}
+use Rattle.volume_base.proofs.AttributesEdited.{own_then, touches_attributes, serves_edited as serves_owned, stands_again as stands_owned}
 use Rattle.volume_base.proofs.Besides.{blocks_edit, blocks_owned}
 use Rattle.volume_base.proofs.CatalogEdited.{serves_edited, stands_again}
 use Rattle.volume_base.proofs.Touched.{touches_catalog}

@@ -18,7 +18,7 @@ use Rattle.hfs_volume.specs.Forks.{per_block_of}
 use Rattle.hfs_volume.specs.Links.{private_id}
 use Rattle.hfs_volume.specs.Records.{placed_in}
 use Rattle.hfs_volume.specs.Sound.{IsSoundVolume}
-use Rattle.hfs_volume.specs.TreeOf.{tree_in, tree_of, file_bytes}
+use Rattle.hfs_volume.specs.TreeOf.{tree_in, tree_of, bytes_in}
 use Rattle.hfs_volume.proofs.Rereading.{same_block_sector}
 use Rattle.volume_base.specs.Lists.{lists_of, facts_on, bits_on}
 use Rattle.volume_base.specs.Standing.{IsStanding, IsSettled, attribute_sectors, map_sectors, file_sectors}
@@ -173,12 +173,12 @@ module _ (v w : Volume) (a b : Space) (changes : ChangesTrees v w a.content b.co
           there) here))
           (changes.outside.each at)
 
-      pub tree_again : tree_of b.content ≡ tree_in (lists_with other w b.content) (file_bytes a.content)
+      pub tree_again : tree_of b.content ≡ tree_in (lists_with other w b.content) (bytes_in a.content)
       unfolding tree_of
       tree_again =
-          ap (λ (l : VolumeState). tree_in l (file_bytes b.content)) (lists_anew w b stands headed bits_now)
-          ∙ tree_without (lists_of w b.content) (volume_of b.content).attributes_tree (file_bytes b.content)
-          ∙ sym (tree_without (lists_of w b.content) other (file_bytes b.content))
+          ap (λ (l : VolumeState). tree_in l (bytes_in b.content)) (lists_anew w b stands headed bits_now)
+          ∙ tree_without (lists_of w b.content) (volume_of b.content).attributes_tree (bytes_in b.content)
+          ∙ sym (tree_without (lists_of w b.content) other (bytes_in b.content))
           ∙ tree_stays (lists_with other w b.content) sound a.content b.content
           (record {
             overflow = ap (λ (l : VolumeState). l.overflow_pairs) settled.lists ∙ sym (ap (λ (l : VolumeState). l.overflow_pairs) changes.lists);

@@ -1,6 +1,6 @@
 -- What a path reaches by the records of the catalog is what it reaches on the plain tree, and a folder has the same names on both.
 use Rattle.std.proofs.Common.{◌≡◌, ℕ, Bool, true, false, List, [], ◌∷◌, ◌++◌, inl, inr, refl, sym, ◌∙◌, ap, subst, arith}
-use Rattle.std.specs.Prelude.{⊤, Contains, ◌==◌, ◌&&◌, not, map, find, cond, Option, None, Some, Result, Ok, Err, if◌then◌else◌}
+use Rattle.std.specs.Prelude.{⊤, All, Contains, ◌==◌, ◌&&◌, length, nat_lt, not, map, take, find, cond, Option, None, Some, Result, Ok, Err, if◌then◌else◌}
 use Rattle.std.specs.Option.{ok_or, option_map}
 use Rattle.std.specs.Str.{bytes_eq}
 use Rattle.std.specs.List.{flat_map}
@@ -20,22 +20,31 @@ use Rattle.hfs_language.specs.declared.reply.ListedName.{ListedName}
 use Rattle.hfs_language.specs.declared.reply.Reply.TheVariants as reply
 use Rattle.hfs_model.specs.Plain.{IsPlainTree, entry_at, entries_in, node_at, attribute_at, is_at, is_node, is_named}
 use Rattle.hfs_model.specs.Sorted.{kept}
-use Rattle.hfs_model.specs.Step.{is_private_name, is_private_path, then_, unless, root_entry, child, walk, on, step, listed, listed_attribute}
+use Rattle.hfs_model.specs.Step.{is_private_name, is_private_path, then_, unless, root_entry, child, walk, on, step, listed, listed_attribute, most_attribute}
 use Rattle.hfs_model.specs.declared.plain.PlainAttribute.{PlainAttribute}
 use Rattle.hfs_model.specs.declared.plain.PlainEntry.{PlainEntry}
 use Rattle.hfs_model.specs.declared.plain.PlainNode.{PlainNode}
 use Rattle.hfs_model.specs.declared.plain.PlainTree.{PlainTree}
-use Rattle.hfs_volume.specs.Changes.{AreSorted, is_attribute_of}
+use Rattle.hfs_volume.specs.Changes.{AreSorted, AreSortedAttributes, is_attribute_of}
 use Rattle.hfs_volume.specs.Links.{AreGoodLinks, private_id}
 use Rattle.hfs_volume.specs.Entries.{AreThreaded, AreRooted, HaveIds, IsUserId}
 use Rattle.hfs_volume.specs.Records.{Placed, Overflow, Attribute, attribute_of, placed_in, entries_of, record_at, is_placed_at, id_of, is_empty, is_thread, inline_bytes}
-use Rattle.hfs_volume.specs.TreeOf.{is_hidden, is_seen, seen_entry, plain_entry, plain_attribute, threaded_node}
+use Rattle.hfs_volume.specs.TreeOf.{is_hidden, is_seen, seen_entry, plain_entry, plain_attribute, threaded_node, BytesOf, valued}
 use Rattle.hfs_volume.proofs.Fitting.{differs}
 use Rattle.hfs_volume.proofs.Flat.{found_some}
 use Rattle.hfs_volume.proofs.Members.{each_of, kept_stands}
 use Rattle.hfs_volume.proofs.Reaching.{IsFolder, Shows, seen_shows, shows_seen, seen_stands, seen_visible, seen_not_root, front_is}
 use Rattle.volume_base.specs.Listing.{is_shown, listed_child, shown_in, replied, names_in}
-use Rattle.volume_base.specs.Owning.{id_reached, listed_name, attributes_in, names_owned, value_told, value_owned}
+use Rattle.volume_base.specs.Owning.{id_reached, listed_name, attributes_in, names_owned}
+use Rattle.volume_base.specs.Values.{value_told, value_owned}
+use Rattle.attributes.specs.Values.{value_in, value_of_first}
+use Rattle.file_io.specs.Bytes.{fork_bytes as bytes_read}
+use Rattle.sector_disk.specs.Lists.{Content}
+use Rattle.hx_bytes.specs.declared.extents.ForkRecord.{ForkRecord}
+use Rattle.cat_records.specs.declared.attribute.AttrRecord.{AttrRecord}
+use Rattle.cat_records.specs.declared.attribute.AttrRecord.TheVariants as attribute
+use Rattle.hfs_volume.specs.Values.{IsValue, is_more, is_record_of, value_extents}
+use Rattle.hfs_volume.proofs.FoundValue.{first_is_own, in_record, valued_found, valued_names}
 use Rattle.volume_base.specs.Reaching.{named, folder_reached, child_in, walk_in}
 use Rattle.volume_base.specs.declared.reaching.Reached.{Reached}
 use Rattle.volume_base.specs.declared.reaching.Reached.TheVariants as reached
@@ -313,7 +322,7 @@ module _ (pairs : List Pair) (next : ℕ) (ids : HaveIds next (entries_of (place
     -- ---- the attributes of what a path stands for
 
     -- what `lsattr` answers
-    pub owned_same : (attributes : List Pair) (bytes_of : FileRecord → List ℕ) → tree.nodes ≡ flat_map (threaded_node (map attribute_of attributes) records bytes_of) records → (path : List (List ℕ)) → is_private_path path ≡ false → FitsPath path
+    pub owned_same : (attributes : List Pair) (bytes_of : BytesOf) → tree.nodes ≡ flat_map (threaded_node (valued bytes_of (map attribute_of attributes)) records bytes_of) records → (path : List (List ℕ)) → is_private_path path ≡ false → FitsPath path
         → names_owned pairs (private_id records) attributes path ≡ (step tree (command.LsAttr path)).0
     owned_same attributes bytes_of same_nodes path not_own fits = by_walk (walk_in pairs reached.Root path) (walk tree root_entry path) (path_same path not_own fits)
       where
@@ -332,22 +341,57 @@ module _ (pairs : List Pair) (next : ℕ) (ids : HaveIds next (entries_of (place
             let found = found_some (is_node e.id) tree.nodes node it.node.1 in
             let id_is : id_reached pairs (private_id records) at ≡ node.id = it.id ∙ sym (eqb-true node.id e.id found.1) in
             ap (λ n. reply.Listing (attributes_in attributes n)) id_is
-            ∙ ap reply.Listing (twice (kept (λ (a : Attribute). a.id == node.id) (map attribute_of attributes)) ∙ ap (map listed_attribute) (sym (node_attributes (map attribute_of attributes) records bytes_of node (subst (λ l. Contains l node) same_nodes found.0))))
+            ∙ ap (λ l. reply.Listing (map listed_name l)) (sym (valued_names bytes_of (map attribute_of attributes) node.id))
+            ∙ ap reply.Listing (twice (kept (λ (a : Attribute). a.id == node.id) (valued bytes_of (map attribute_of attributes)))
+            ∙ ap (map listed_attribute) (sym (node_attributes (valued bytes_of (map attribute_of attributes)) records bytes_of node (subst (λ l. Contains l node) same_nodes found.0))))
             ∙ sym (ap (λ o. (on tree (ok_or o refusal.NotFound) (λ n. (reply.Listing (map listed_attribute n.attributes), tree))).0) it.node.1)
 
+    -- the bytes of a value in blocks are read, and it is as long as it says
+    abbrev pub AreRead : List Pair → BytesOf → Content → ℕ → Type 0
+    AreRead attributes bytes_of content block =
+        (id : ℕ) (name : List ℕ) (a : Attribute) → Contains (map attribute_of attributes) a → is_record_of id name a ≡ true → (fork : ForkRecord) → a.value ≡ attribute.Fork fork
+        → (bytes_of.value fork.logical_size (value_extents (map attribute_of attributes) id name) ≡ take fork.logical_size (bytes_read content block (value_extents (map attribute_of attributes) id name)))
+        × (length (bytes_of.value fork.logical_size (value_extents (map attribute_of attributes) id name)) ≡ fork.logical_size)
+
     -- what `getattr` answers
-    pub value_same : (attributes : List Pair) (bytes_of : FileRecord → List ℕ) → tree.nodes ≡ flat_map (threaded_node (map attribute_of attributes) records bytes_of) records → (path : List (List ℕ)) (name : List ℕ) → is_private_path path ≡ false → FitsPath path
-        → value_owned pairs (private_id records) attributes path name ≡ (step tree (command.GetAttr path name)).0
-    value_same attributes bytes_of same_nodes path name not_own fits = by_walk (walk_in pairs reached.Root path) (walk tree root_entry path) (path_same path not_own fits)
+    pub value_same : (attributes : List Pair) (bytes_of : BytesOf) → tree.nodes ≡ flat_map (threaded_node (valued bytes_of (map attribute_of attributes)) records bytes_of) records
+        → (content : Content) (block : ℕ) → AreSortedAttributes attributes → All (IsValue (map attribute_of attributes)) (map attribute_of attributes) → AreRead attributes bytes_of content block
+        → (path : List (List ℕ)) (name : List ℕ) → is_private_path path ≡ false → FitsPath path
+        → value_owned content block pairs (private_id records) attributes path name ≡ (step tree (command.GetAttr path name)).0
+    value_same attributes bytes_of same_nodes content block sorted values are_read path name not_own fits = by_walk (walk_in pairs reached.Root path) (walk tree root_entry path) (path_same path not_own fits)
       where
-        by_attribute : (node : PlainNode) (o : Option Attribute) → value_told (option_map (λ (a : Attribute). inline_bytes a.value) o)
-            ≡ (on {X = PlainNode × PlainAttribute} tree (then_ (ok_or (option_map plain_attribute o) refusal.NoAttribute) (λ a. Ok (node, a))) (λ pair. (reply.Content pair.1.value, tree))).0
-        by_attribute node None = refl
-        by_attribute node (Some a) = refl
+        -- a value of these bytes
+        told_bytes : (node : PlainNode) (own : List ℕ) (bytes : List ℕ) (b : Bool) → nat_lt most_attribute (length bytes) ≡ b
+            → (if b then reply.No refusal.TooLarge else reply.Content bytes) ≡ (on {X = PlainNode × PlainAttribute} tree (then_ (then_ (Ok (record { name = own; value = bytes })) (λ a. Ok (node, a))) (λ pair. unless (nat_lt most_attribute (length pair.1.value)) refusal.TooLarge pair)) (λ pair. (reply.Content pair.1.value, tree))).0
+        told_bytes node own bytes true long = sym (ap (λ b. (on {X = PlainNode × PlainAttribute} tree (unless b refusal.TooLarge (node, record { name = own; value = bytes })) (λ pair. (reply.Content pair.1.value, tree))).0) long)
+        told_bytes node own bytes false long = sym (ap (λ b. (on {X = PlainNode × PlainAttribute} tree (unless b refusal.TooLarge (node, record { name = own; value = bytes })) (λ pair. (reply.Content pair.1.value, tree))).0) long)
+
+        of_value : (node : PlainNode) (id : ℕ) (a : Attribute) → Contains (map attribute_of attributes) a → is_record_of id name a ≡ true → is_more a.value ≡ false → (v : AttrRecord) → a.value ≡ v
+            → value_told content block (value_in (map attribute_of attributes) id name v)
+            ≡ (on {X = PlainNode × PlainAttribute} tree (then_ (then_ (Ok (plain_attribute (in_record bytes_of (map attribute_of attributes) a v))) (λ x. Ok (node, x))) (λ pair. unless (nat_lt most_attribute (length pair.1.value)) refusal.TooLarge pair)) (λ pair. (reply.Content pair.1.value, tree))).0
+        of_value node id a stands here own (attribute.Inline v) same =
+            told_bytes node a.name v (nat_lt most_attribute (length v)) refl
+            ∙ sym (ap (λ bytes. (on {X = PlainNode × PlainAttribute} tree (then_ (then_ (Ok (record { name = a.name; value = bytes })) (λ x. Ok (node, x))) (λ pair. unless (nat_lt most_attribute (length pair.1.value)) refusal.TooLarge pair)) (λ pair. (reply.Content pair.1.value, tree))).0) (ap inline_bytes same))
+        of_value node id a stands here own (attribute.Fork fork) same =
+            let it = are_read id name a stands here fork same in
+            let key = and_parts (a.id == id) (bytes_eq a.name name) here in
+            let extents_same : value_extents (map attribute_of attributes) a.id a.name ≡ value_extents (map attribute_of attributes) id name = λ i. value_extents (map attribute_of attributes) (eqb-true a.id id key.0 i) ((bytes_eq-Decides a.name name).0 key.1 i) in
+            ap (λ bytes. if nat_lt most_attribute fork.logical_size then reply.No refusal.TooLarge else reply.Content bytes) (sym it.0)
+            ∙ told_bytes node a.name (bytes_of.value fork.logical_size (value_extents (map attribute_of attributes) id name)) (nat_lt most_attribute fork.logical_size) (ap (nat_lt most_attribute) it.1)
+            ∙ sym (ap (λ extents. (on {X = PlainNode × PlainAttribute} tree (then_ (then_ (Ok (record { name = a.name; value = bytes_of.value fork.logical_size extents })) (λ x. Ok (node, x))) (λ pair. unless (nat_lt most_attribute (length pair.1.value)) refusal.TooLarge pair)) (λ pair. (reply.Content pair.1.value, tree))).0) extents_same)
+        of_value node id a stands here own (attribute.More e) same = absurd (true≢false (sym (ap is_more same) ∙ own))
+
+        by_attribute : (node : PlainNode) (id : ℕ) (o : Option Attribute) → find (is_record_of id name) (map attribute_of attributes) ≡ o
+            → value_told content block (value_of_first (map attribute_of attributes) id name o)
+            ≡ (on {X = PlainNode × PlainAttribute} tree (then_ (then_ (ok_or (option_map plain_attribute (option_map (λ (a : Attribute). in_record bytes_of (map attribute_of attributes) a a.value) o)) refusal.NoAttribute) (λ x. Ok (node, x))) (λ pair. unless (nat_lt most_attribute (length pair.1.value)) refusal.TooLarge pair)) (λ pair. (reply.Content pair.1.value, tree))).0
+        by_attribute node id None found = refl
+        by_attribute node id (Some a) found =
+            let it = found_some (is_record_of id name) (map attribute_of attributes) a found in
+            of_value node id a it.0 it.1 (first_is_own (map attribute_of attributes) sorted values id name a found) a.value refl
 
         by_walk : (r : Result Reached Refusal) (s : Result PlainEntry Refusal) → Agree IsReached r s
-            → replied (then_ r (λ at. Ok (id_reached pairs (private_id records) at))) (λ id. value_told (option_map (λ (a : Attribute). inline_bytes a.value) (find (is_attribute_of id name) (map attribute_of attributes))))
-            ≡ (on {X = PlainNode × PlainAttribute} tree (then_ (then_ s (λ at. ok_or (node_at tree at.id) refusal.NotFound)) (λ node. then_ (ok_or (attribute_at node name) refusal.NoAttribute) (λ a. Ok (node, a)))) (λ pair. (reply.Content pair.1.value, tree))).0
+            → replied (then_ r (λ at. Ok (id_reached pairs (private_id records) at))) (λ id. value_told content block (value_of_first (map attribute_of attributes) id name (find (is_record_of id name) (map attribute_of attributes))))
+            ≡ (on {X = PlainNode × PlainAttribute} tree (then_ (then_ (then_ s (λ at. ok_or (node_at tree at.id) refusal.NotFound)) (λ node. then_ (ok_or (attribute_at node name) refusal.NoAttribute) (λ a. Ok (node, a)))) (λ pair. unless (nat_lt most_attribute (length pair.1.value)) refusal.TooLarge pair)) (λ pair. (reply.Content pair.1.value, tree))).0
         by_walk (Err why) (Err other) same = ap reply.No same
         by_walk (Ok at) (Err other) never = absurd never
         by_walk (Err why) (Ok e) never = absurd never
@@ -355,9 +399,10 @@ module _ (pairs : List Pair) (next : ℕ) (ids : HaveIds next (entries_of (place
             let node = it.node.0 in
             let found = found_some (is_node e.id) tree.nodes node it.node.1 in
             let id_is : id_reached pairs (private_id records) at ≡ node.id = it.id ∙ sym (eqb-true node.id e.id found.1) in
-            let attribute_is : attribute_at node name ≡ option_map plain_attribute (find (is_attribute_of node.id name) (map attribute_of attributes)) =
-            ap (find (is_named name)) (node_attributes (map attribute_of attributes) records bytes_of node (subst (λ l. Contains l node) same_nodes found.0)) ∙ find_owned node.id name (map attribute_of attributes) in
-            ap (λ n. value_told (option_map (λ (a : Attribute). inline_bytes a.value) (find (is_attribute_of n name) (map attribute_of attributes)))) id_is
-            ∙ by_attribute node (find (is_attribute_of node.id name) (map attribute_of attributes))
-            ∙ sym (ap (λ o. (on {X = PlainNode × PlainAttribute} tree (then_ (ok_or o refusal.NotFound) (λ n. then_ (ok_or (attribute_at n name) refusal.NoAttribute) (λ a. Ok (n, a)))) (λ pair. (reply.Content pair.1.value, tree))).0) it.node.1
-            ∙ ap (λ q. (on {X = PlainNode × PlainAttribute} tree (then_ (ok_or q refusal.NoAttribute) (λ a. Ok (node, a))) (λ pair. (reply.Content pair.1.value, tree))).0) attribute_is)
+            let attribute_is : attribute_at node name ≡ option_map plain_attribute (option_map (λ (a : Attribute). in_record bytes_of (map attribute_of attributes) a a.value) (find (is_record_of node.id name) (map attribute_of attributes))) =
+            ap (find (is_named name)) (node_attributes (valued bytes_of (map attribute_of attributes)) records bytes_of node (subst (λ l. Contains l node) same_nodes found.0)) ∙ find_owned node.id name (valued bytes_of (map attribute_of attributes))
+            ∙ ap (option_map plain_attribute) (valued_found bytes_of (map attribute_of attributes) node.id name sorted values) in
+            ap (λ n. value_told content block (value_of_first (map attribute_of attributes) n name (find (is_record_of n name) (map attribute_of attributes)))) id_is
+            ∙ by_attribute node node.id (find (is_record_of node.id name) (map attribute_of attributes)) refl
+            ∙ sym (ap (λ o. (on {X = PlainNode × PlainAttribute} tree (then_ (then_ (ok_or o refusal.NotFound) (λ n. then_ (ok_or (attribute_at n name) refusal.NoAttribute) (λ a. Ok (n, a)))) (λ pair. unless (nat_lt most_attribute (length pair.1.value)) refusal.TooLarge pair)) (λ pair. (reply.Content pair.1.value, tree))).0) it.node.1
+            ∙ ap (λ q. (on {X = PlainNode × PlainAttribute} tree (then_ (then_ (ok_or q refusal.NoAttribute) (λ a. Ok (node, a))) (λ pair. unless (nat_lt most_attribute (length pair.1.value)) refusal.TooLarge pair)) (λ pair. (reply.Content pair.1.value, tree))).0) attribute_is)

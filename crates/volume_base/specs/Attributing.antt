@@ -1,5 +1,5 @@
 -- What `setattr` and `delattr` do to a volume: its attributes, the mark on their owner, and the room for both.
-use Rattle.std.specs.Prelude.{◌≡◌, ◌≤◌, ℕ, ◌+◌, ◌*◌, ◌/◌, ◌%◌, nat_lt, length, Bool, true, false, IsTrue, List, Option, None, Some, if◌then◌else◌}
+use Rattle.std.specs.Prelude.{◌≡◌, ◌≤◌, ℕ, ◌+◌, ◌*◌, ◌/◌, ◌%◌, ◌==◌, ◌&&◌, min, nat_lt, length, Bool, true, false, IsTrue, List, Option, None, Some, if◌then◌else◌}
 use Rattle.std.specs.Option.{option_map}
 use Rattle.attributes.specs.Owned.{names_of}
 use Rattle.attributes.specs.Values.{value_at as owned_value}
@@ -13,8 +13,11 @@ use Rattle.hfs_language.specs.declared.reply.Reply.TheVariants as reply
 use Rattle.hfs_model.specs.Step.{is_refusal}
 use Rattle.hfs_volume.specs.Changes.{AreSortedAttributes}
 use Rattle.hfs_volume.specs.Content.{has_attributes}
-use Rattle.hfs_volume.specs.Cost.{attributes_key, growth, is_too_deep, tree_load}
-use Rattle.hfs_volume.specs.Weight.{cost_of_tree}
+use Rattle.alloc_bitmap.specs.Map.{free_of}
+use Rattle.flag_rows.specs.Bits.{count_set, sectors_for}
+use Rattle.hfs_volume.specs.Cost.{attributes_key, growth, is_too_deep, overflow_records, tree_load}
+use Rattle.hfs_volume.specs.Weight.{cost_of_tree, runs_for}
+use Rattle.hfs_volume.specs.declared.cost.ValueChange.{ValueChange}
 use Rattle.hfs_volume.specs.declared.cost.TreeCost.{TreeCost}
 use Rattle.jnl_format.specs.Recovery.{header_of_volume}
 use Rattle.sector_disk.specs.Lists.{Content}
@@ -77,12 +80,32 @@ attributes_cost volume = cost_of_tree (facts_on volume.attributes.file) 0
 abbrev pub mark_load : ℕ → Volume → ℕ
 mark_load edits volume = catalog_node volume + tree_load attributes_key (attributes_cost volume) edits 0
 
--- Where the space tells, there is room to mark a folder or file; and where there is an attributes file, for so many edits of it before, which needn't grow
--- for them.
-pub record HasRoomToMark (edits : ℕ) (volume : Volume) (space : Space) : Type 0 where
+-- the sectors of the bitmap, and the header, that a change of values puts at most whose blocks are of so many runs; none where it takes no block and
+-- gives none back
+abbrev pub blocks_load : Volume → ValueChange → ℕ → ℕ
+blocks_load volume change runs = if (change.blocks == 0) && (change.freed == 0) then 0 else 1 + min (sectors_for (length volume.map.used)) (change.blocks / 4096 + 2 * runs + change.freed)
+
+-- how many edits of the attributes file a change of values makes at most beside so many, where its blocks are of so many runs
+abbrev pub value_edits : ℕ → ValueChange → ℕ → ℕ
+value_edits edits change runs = edits + change.records + overflow_records runs
+
+-- the runs of free blocks that a change of values takes
+abbrev pub runs_taken : Volume → ValueChange → ℕ
+runs_taken volume change = runs_for change.blocks (free_of volume.map)
+
+-- the sectors that a change of values puts at most with so many edits beside it, and a node for their owner
+abbrev pub value_load : ℕ → ValueChange → Volume → ℕ
+value_load edits change volume = mark_load (value_edits edits change (runs_taken volume change)) volume + blocks_load volume change (runs_taken volume change)
+
+-- Where the space tells, there is room to mark a folder or file; and where there is an attributes file, for so many edits of it before with this change
+-- of values, for which it needn't grow, and there are the blocks.
+pub record HasRoomForValue (edits : ℕ) (change : ValueChange) (volume : Volume) (space : Space) : Type 0 where
   pub update : HasRoomToUpdate volume space
   pub told : IsTrue space.tells → IsTrue (has_attributes volume.header)
-      → (mark_load edits volume ≤ space.spare) × (is_too_deep attributes_key (attributes_cost volume) edits ≡ false) × (growth volume.header.block_size attributes_key (attributes_cost volume) edits ≡ 0)
+      → (value_load edits change volume ≤ space.spare)
+      × (is_too_deep attributes_key (attributes_cost volume) (value_edits edits change (runs_taken volume change)) ≡ false)
+      × (growth volume.header.block_size attributes_key (attributes_cost volume) (value_edits edits change (runs_taken volume change)) ≡ 0)
+      × (change.blocks ≤ count_set (free_of volume.map))
 
 -- ---- what is answered
 -- the step's reply to `setattr`; a volume without an attributes file refuses for want of one what its step doesn't refuse

@@ -5,6 +5,8 @@ pub mod DataWeighing
 pub mod Entering
 pub mod Fitting
 pub mod Frame
+pub mod Giving
+pub mod Holding
 pub mod Keeping
 pub mod Linking
 pub mod Listing
@@ -12,6 +14,7 @@ pub mod Lists
 pub mod Looking
 pub mod Losing
 pub mod Making
+pub mod Mapping
 pub mod Moving
 pub mod Nodes
 pub mod Opening
@@ -30,5 +33,6 @@ pub mod Stating
 pub mod Touching
 pub mod Trees
 pub mod Unlinking
+pub mod Values
 pub mod Watching
 pub mod Weighing

@@ -2,7 +2,7 @@
 use Rattle.std.specs.Prelude.{◌≡◌, Bool, IsTrue}
 use Rattle.std.specs.List.{Contains}
 use Rattle.sector_disk.specs.Space.{Space}
-use Rattle.attributes.specs.Values.{AreInline}
+use Rattle.attributes.specs.Values.{AreValued}
 use Rattle.btree_node.specs.Keys.{IsCatalogKey, IsAttrKey, catalog_cmp, attr_cmp, anything}
 use Rattle.btree_node.specs.TreeFile.{catalog_form, attributes_form}
 use Rattle.btree_edit.specs.Desk.{IsDeskOf}
@@ -26,14 +26,14 @@ pub record IsCatalogOver (tree : TreeFile) (desk : Desk) (space : Space) : Type 
   pub whole : IsTrue space.tells → AreWhole space.content
   pub spelled : IsTrue space.tells → AreSpelled (pairs_in (sectors_of_tree tree) space.content)
 
--- The attributes file can be read over a space, as the catalog can; its values each stand in their record.
+-- The attributes file can be read over a space, as the catalog can; its records each are one of a value.
 pub record IsAttributesOver (tree : TreeFile) (desk : Desk) (space : Space) : Type 0 where
   pub fits : IsDeskOf (numbers_of tree).node_size desk
   pub inside : LiesInside tree space
   pub unclosed : LiesOpen tree space
   pub holds : IsTrue space.tells → HoldsTree attributes_form IsAttrKey anything attr_cmp tree space.content
   pub whole : IsTrue space.tells → AreWhole space.content
-  pub inline : IsTrue space.tells → AreInline (pairs_in (sectors_of_tree tree) space.content)
+  pub values : IsTrue space.tells → AreValued (pairs_in (sectors_of_tree tree) space.content)
 
 -- A tree was read over a space: its file is as it was, and so is the content.
 pub record ReadsTree (old new : TreeFile) (before after : Space) : Type 0 where

@@ -1,12 +1,10 @@
 -- Which folder or file a path stands for, and its attributes.
 use Rattle.std.specs.Prelude.{ℕ, false, List, map, Option, None, Some, Result, Ok}
 use Rattle.attributes.specs.Owned.{names_of}
-use Rattle.attributes.specs.Values.{value_at}
 use Rattle.btree_node.specs.Levels.{Pair}
 use Rattle.cat_records.specs.declared.record.FileRecord.{FileRecord}
 use Rattle.hard_links.specs.Identity.{identity_of}
 use Rattle.hfs_language.specs.declared.refusal.Refusal.{Refusal}
-use Rattle.hfs_language.specs.declared.refusal.Refusal.TheVariants as refusal
 use Rattle.hfs_language.specs.declared.reply.ListedName.{ListedName}
 use Rattle.hfs_language.specs.declared.reply.Reply.{Reply}
 use Rattle.hfs_language.specs.declared.reply.Reply.TheVariants as reply
@@ -42,12 +40,3 @@ attributes_in attributes id = map listed_name (names_of id attributes)
 -- those of what a path stands for, by the pairs of the catalog's tree and of the attributes'
 abbrev pub names_owned : List Pair → Option ℕ → List Pair → List (List ℕ) → Reply
 names_owned pairs private attributes path = replied (owner_in pairs private path) (λ id. reply.Listing (attributes_in attributes id))
-
--- the reply about an attribute's value
-abbrev pub value_told : Option (List ℕ) → Reply
-value_told None = reply.No refusal.NoAttribute
-value_told (Some value) = reply.Content value
-
--- the value of an attribute of what a path stands for
-abbrev pub value_owned : List Pair → Option ℕ → List Pair → List (List ℕ) → List ℕ → Reply
-value_owned pairs private attributes path name = replied (owner_in pairs private path) (λ id. value_told (value_at attributes id name))

@@ -10,7 +10,8 @@ ghost use Rattle.volume_base.specs.Frame.{Looked, Serves};
 ghost use Rattle.volume_base.specs.Lists.{lists_of};
 ghost use Rattle.volume_base.specs.Looking.{IsAttributesOver, ReadsTree};
 
-use crate::owning::{find_value, list_owned};
+use crate::owning::list_owned;
+use crate::values::find_value;
 use crate::volume::Volume;
 use btree_edit::Desk;
 use btree_file::TreeFile;

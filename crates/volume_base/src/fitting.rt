@@ -3,20 +3,20 @@ ghost use Rattle.std.specs.Prelude.{◌≡◌, ◌<◌, ◌≤◌, ◌/◌, ◌=
 ghost use Rattle.hfs_volume.specs.Content.{volume_of, has_attributes};
 ghost use Rattle.hfs_volume.specs.Cost.{cost_of};
 ghost use Rattle.hfs_volume.specs.Weight.{room_with};
-ghost use Rattle.volume_base.specs.Attributing.{HasRoomToMark};
+ghost use Rattle.volume_base.specs.Attributing.{HasRoomForValue};
 ghost use Rattle.volume_base.specs.Changing.{HasRoomToUpdate};
-ghost use Rattle.volume_base.specs.Fitting.{AreMet, is_met, wants};
+ghost use Rattle.volume_base.specs.Fitting.{AreMet, AreMetValued, is_met, takable_of, wants};
 ghost use Rattle.volume_base.specs.Frame.{Serves};
 ghost use Rattle.volume_base.specs.Removing.{HasRoomToRemove};
 ghost use Rattle.volume_base.specs.Room.{capacity_of, free_in};
 ghost use Rattle.volume_base.specs.declared.room.FreeBlocks.TheVariants as blocks;
-ghost use Rattle.volume_base.specs.Weighing.{needs_asked};
+ghost use Rattle.volume_base.specs.Weighing.{AreUsual, needs_asked, needs_valued};
 
 use crate::room::FreeBlocks;
 use crate::volume::Volume;
 use crate::weighing::Edits;
 use btree_node::TreeShape;
-use hfs_volume::Cost;
+use hfs_volume::{Cost, ValueChange};
 use sector_disk::SectorSpace;
 use tree_weights::{a_load_is_of_parts, a_load_says_enough};
 
@@ -93,11 +93,29 @@ impl Volume {
         self.can_edit(space, edits)
     }
 
-    /// Whether there is room to delete an attribute and to mark its owner.
-    pub fn fits_delattr<P: SectorSpace>(&self, space: &P) -> bool
+    /// Whether edits that also change values can be made now, by what they cost.
+    pub fn can_change_values<P: SectorSpace>(
+        &self,
+        space: &P,
+        edits: Edits,
+        change: ValueChange,
+    ) -> bool
         requires serves { Serves self.now (P.SectorView.space space.now) }
-        ensures room { IsTrue result → HasRoomToMark 1 self.now (P.SectorView.space space.now) }
-        ensures met { IsTrue (P.SectorView.space space.now).tells → AreMet (wants 0 0 1 1) self.now (P.SectorView.space space.now) → IsTrue result }
+        requires tree { IsTrue (P.SectorView.space space.now).tells → IsTrue (has_attributes self.now.header) }
+        requires small { IsTrue (P.SectorView.space space.now).tells → AreUsual edits.attributes change }
+        ensures { IsTrue (P.SectorView.space space.now).tells
+            → result ≡ is_met (cost_of (needs_valued (takable_of self.now) edits change) (room_with (capacity_of self.now) (takable_of self.now) (volume_of (P.SectorView.space space.now).content))) (P.SectorView.space space.now).spare }
+    {
+        let cost = self.cost_of_values(space, FreeBlocks::Takable, edits, change);
+        is_met(cost, space.spare())
+    }
+
+    /// Whether there is room for so many edits that set or delete an attribute with this change of its value, and to mark its owner.
+    pub fn fits_value<P: SectorSpace>(&self, space: &P, edits: u32, change: ValueChange) -> bool
+        requires serves { Serves self.now (P.SectorView.space space.now) }
+        requires small { IsTrue (P.SectorView.space space.now).tells → AreUsual edits change }
+        ensures room { IsTrue result → HasRoomForValue edits change self.now (P.SectorView.space space.now) }
+        ensures met { IsTrue (P.SectorView.space space.now).tells → IsTrue (has_attributes self.now.header) → AreMetValued (wants 0 0 edits 1) change self.now (P.SectorView.space space.now) → IsTrue result }
     {
         a_load_says_enough();
         a_load_is_of_parts();
@@ -107,9 +125,9 @@ impl Volume {
         let edits = Edits {
             ids: 0,
             catalog: 0,
-            attributes: 1,
+            attributes: edits,
             updates: 1,
         };
-        self.can_edit(space, edits)
+        self.can_change_values(space, edits, change)
     }
 }

@@ -105,7 +105,7 @@ pub fn size_held(fork: &ExtentList, per_block: u32, size: u64) -> u64
 }
 
 /// Bytes of a file that has so many in the blocks of a fork. Where these lie outside, or hold less, there are none.
-fn read_fork<P: SectorSpace>(
+pub(crate) fn read_fork<P: SectorSpace>(
     alloc: Global,
     space: &mut P,
     fork: ExtentList,

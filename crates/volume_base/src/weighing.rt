@@ -1,20 +1,21 @@
 //! What the edits of a command cost a volume.
-ghost use Rattle.std.specs.Prelude.{◌≡◌, ◌<◌, ◌≤◌, false, true, IsTrue};
+ghost use Rattle.std.specs.Prelude.{◌≡◌, ◌<◌, ◌≤◌, ◌+◌, ◌^◌, false, true, IsTrue};
 ghost use Rattle.hfs_volume.specs.Content.{volume_of, has_attributes};
-ghost use Rattle.hfs_volume.specs.Cost.{cost_of};
-ghost use Rattle.hfs_volume.specs.Weight.{room_with};
+ghost use Rattle.hfs_volume.specs.Cost.{cost_of, overflow_records};
+ghost use Rattle.flag_rows.specs.Runs.{fewest_of};
+ghost use Rattle.hfs_volume.specs.Weight.{free_runs, room_with, runs_for};
 ghost use Rattle.volume_cost.specs.Sizes.{AreSmall};
 ghost use Rattle.volume_base.specs.Frame.{Serves};
 ghost use Rattle.volume_base.specs.Room.{capacity_of, free_in};
-ghost use Rattle.volume_base.specs.Weighing.{are_within, is_block, is_measured, needs_asked};
+ghost use Rattle.volume_base.specs.Weighing.{AreUsual, are_within, is_block, is_measured, needs_asked, needs_of_change, needs_valued};
 
 use crate::room::FreeBlocks;
 use crate::volume::Volume;
 use hfs_language::Refusal;
-use hfs_volume::{Cost, Needs, Room, TreeCost};
+use hfs_volume::{Cost, Needs, Room, TreeCost, ValueChange};
 use sector_disk::SectorSpace;
 use tree_weights::trees_grow_by_enough;
-use volume_cost::cost;
+use volume_cost::{cost, count_overflow};
 
 /// The ids, the edits of the catalog and of the attributes, and the records updated in place that a command takes.
 #[derive(Clone, Copy)]
@@ -49,6 +50,44 @@ fn needs_of(edits: Edits) -> Needs
         old_blocks: 0,
         runs: 0,
     }
+}
+
+/// What edits need that also change values, where the blocks of a new one are of so many runs.
+fn needs_with_values(edits: Edits, change: ValueChange, runs: u32) -> Needs
+    requires few { edits.attributes + change.records + overflow_records runs < 2 ^ 32 }
+    requires new { change.blocks < 2 ^ 32 }
+    requires old { change.freed < 2 ^ 32 }
+    ensures same { result ≡ needs_of_change edits change runs }
+    ensures small { AreSmall result }
+{
+    let attributes = u64::from(edits.attributes) + change.records + count_overflow(u64::from(runs));
+    Needs {
+        ids: edits.ids,
+        edits: [0, edits.catalog as u64, attributes],
+        updates: edits.updates as u64,
+        new_blocks: change.blocks,
+        old_blocks: change.freed,
+        runs: runs as u64,
+    }
+}
+
+/// Whether a change of values with so many edits beside it, and blocks of so many runs, is such as a volume has.
+fn are_usual(edits: u32, change: ValueChange, runs: u32) -> bool
+    ensures few { IsTrue result → edits + change.records + overflow_records runs < 2 ^ 32 }
+    ensures new { IsTrue result → change.blocks < 2 ^ 32 }
+    ensures old { IsTrue result → change.freed < 2 ^ 32 }
+    ensures exact { edits + change.records + overflow_records runs < 2 ^ 32 → change.blocks < 2 ^ 32 → change.freed < 2 ^ 32 → IsTrue result }
+{
+    if change.records > 0xFFFF_FFFF {
+        return false;
+    }
+    if change.blocks > 0xFFFF_FFFF {
+        return false;
+    }
+    if change.freed > 0xFFFF_FFFF {
+        return false;
+    }
+    u64::from(edits) + change.records + count_overflow(u64::from(runs)) <= 0xFFFF_FFFF
 }
 
 /// Whether blocks have a size that volumes have (TN1150, "Volume Header").
@@ -105,5 +144,64 @@ impl Volume {
             return Cost::Refused(Refusal::NoSpace(0, 0));
         }
         cost(&needs_of(edits), &room)
+    }
+
+    /// How few of the runs of free blocks have so many blocks together.
+    pub fn fewest(&self, free: FreeBlocks, count: u32) -> u32
+        ensures { result ≡ fewest_of count (free_runs (free_in free self.now.map)) }
+    {
+        match free {
+            FreeBlocks::All => self.map.fewest_all(count),
+            FreeBlocks::Takable => self.map.fewest(count),
+        }
+    }
+
+    /// The same of the blocks of a value; none have no block.
+    fn fewest_runs(&self, free: FreeBlocks, count: u64) -> u32
+        requires few { count < 2 ^ 32 }
+        ensures { result ≡ runs_for count (free_in free self.now.map) }
+    {
+        if count == 0 {
+            return 0;
+        }
+        self.fewest(free, count as u32)
+    }
+
+    /// What edits cost that also change values, where these blocks count as free.
+    pub fn cost_of_values<P: SectorSpace>(
+        &self,
+        _space: &P,
+        free: FreeBlocks,
+        edits: Edits,
+        change: ValueChange,
+    ) -> Cost
+        requires serves { Serves self.now (P.SectorView.space _space.now) }
+        // Values are changed only where there is an attributes file.
+        requires tree { IsTrue (P.SectorView.space _space.now).tells → IsTrue (has_attributes self.now.header) }
+        // The numbers are those of a volume: no more records than its attributes file may have, and no more blocks than there may be.
+        requires small { IsTrue (P.SectorView.space _space.now).tells → AreUsual edits.attributes change }
+        // Told, it is what they cost a volume of this content with these free blocks.
+        ensures exact { IsTrue (P.SectorView.space _space.now).tells → result ≡ cost_of (needs_valued (free_in free self.now.map) edits change) (room_with (capacity_of self.now) (free_in free self.now.map) (volume_of (P.SectorView.space _space.now).content)) }
+    {
+        trees_grow_by_enough();
+        let room = self.room(free);
+        // A space that tells its sectors has a volume with usual numbers.
+        if !is_measured(&room) {
+            return Cost::Refused(Refusal::NoSpace(0, 0));
+        }
+        if is_narrow(edits.catalog, &room.trees[1]) {
+            return Cost::Refused(Refusal::NoSpace(0, 0));
+        }
+        if is_narrow(1, &room.trees[2]) {
+            return Cost::Refused(Refusal::NoSpace(0, 0));
+        }
+        if change.blocks > 0xFFFF_FFFF {
+            return Cost::Refused(Refusal::NoSpace(0, 0));
+        }
+        let runs = self.fewest_runs(free, change.blocks);
+        if !are_usual(edits.attributes, change, runs) {
+            return Cost::Refused(Refusal::NoSpace(0, 0));
+        }
+        cost(&needs_with_values(edits, change, runs), &room)
     }
 }

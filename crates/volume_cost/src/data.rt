@@ -57,7 +57,7 @@ pub fn count_extents_edits(extents: u32, runs: u64, blocks: u64) -> u64
 }
 
 /// How many overflow records a fork of so many extents has.
-fn count_overflow(extents: u64) -> u64
+pub fn count_overflow(extents: u64) -> u64
     requires { extents ≤ 2 ^ 34 }
     ensures count { result ≡ overflow_records extents }
     ensures bound { result ≤ extents }

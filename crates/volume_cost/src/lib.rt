@@ -11,7 +11,7 @@ mod room;
 
 pub use costing::cost;
 pub use cutting::cut_cost;
-pub use data::{count_blocks, count_extents_edits};
+pub use data::{count_blocks, count_extents_edits, count_overflow};
 pub use hfs_volume::{Cost, Needs, Room, TreeCost};
 
 /// The places of the three trees.

@@ -29,7 +29,7 @@ use Rattle.hfs_volume.specs.Links.{private_id}
 use Rattle.hfs_volume.specs.Naming.{RemovesFile, RmDoes, orphan_name, private_ids}
 use Rattle.hfs_volume.specs.Records.{Placed, entries_of, id_of, is_empty, is_folder, is_link, is_placed_at, is_thread, placed_in, record_at, valence_in}
 use Rattle.hfs_volume.specs.Sound.{IsSoundVolume}
-use Rattle.hfs_volume.specs.TreeOf.{file_bytes, tree_in, tree_of}
+use Rattle.hfs_volume.specs.TreeOf.{bytes_in, tree_in, tree_of}
 use Rattle.hfs_volume.proofs.Ascending.{tree_sorted}
 use Rattle.hfs_volume.proofs.Bytes.{file_bytes_are}
 use Rattle.hfs_volume.proofs.Flat.{found_some}
@@ -116,7 +116,7 @@ module _ (v : Volume) (a : Space) (settled : IsSettled v a.content) (was : IsSta
     head_is : (volume_of a.content).head ≡ v.header
     head_is = ap (λ (l : VolumeState). l.head) settled.lists
 
-    allowed : to_rm (tree_in (volume_of a.content) (file_bytes a.content)) path ≡ Ok at
+    allowed : to_rm (tree_in (volume_of a.content) (bytes_in a.content)) path ≡ Ok at
     unfolding tree_of
     allowed = loss.allowed
 
@@ -131,14 +131,14 @@ module _ (v : Volume) (a : Space) (settled : IsSettled v a.content) (was : IsSta
     from_folder : IsFolderId (entries_of (records_of (volume_of a.content))) loss.above.id
     unfolding tree_of
     from_folder =
-        (front_is (records_of (volume_of a.content)) (volume_of a.content).head.next_catalog_id settled.sound.entries.ids settled.sound.entries.rooted (tree_in (volume_of a.content) (file_bytes a.content)) (tree_entries (volume_of a.content) (file_bytes a.content))
+        (front_is (records_of (volume_of a.content)) (volume_of a.content).head.next_catalog_id settled.sound.entries.ids settled.sound.entries.rooted (tree_in (volume_of a.content) (bytes_in a.content)) (tree_entries (volume_of a.content) (bytes_in a.content))
         path loss.above loss.not_root loss.not_own loss.reaches loss.above_is.0).0.folder
 
     from_not_own : ((place.parent == 2) && is_private_name place.name) ≡ false
     unfolding tree_of
     from_not_own =
         (λ i. (sym loss.above_is.1 i == 2) && is_private_name (sym loss.last i))
-        ∙ (front_is (records_of (volume_of a.content)) (volume_of a.content).head.next_catalog_id settled.sound.entries.ids settled.sound.entries.rooted (tree_in (volume_of a.content) (file_bytes a.content)) (tree_entries (volume_of a.content) (file_bytes a.content))
+        ∙ (front_is (records_of (volume_of a.content)) (volume_of a.content).head.next_catalog_id settled.sound.entries.ids settled.sound.entries.rooted (tree_in (volume_of a.content) (bytes_in a.content)) (tree_entries (volume_of a.content) (bytes_in a.content))
         path loss.above loss.not_root loss.not_own loss.reaches loss.above_is.0).1
 
     -- each folder counts less than there are CNIDs
@@ -298,8 +298,8 @@ module _ (v : Volume) (a : Space) (settled : IsSettled v a.content) (was : IsSta
             loses = lost_at;
           }
 
-          does : IsSoundVolume (lists_then a.content u e.content) × (tree_in (lists_then a.content u e.content) (file_bytes a.content) ≡ (step (tree_in (volume_of a.content) (file_bytes a.content)) (command.Rm path)).1)
-          does = law path at (volume_of a.content) (lists_then a.content u e.content) (file_bytes a.content) (file_bytes_are a.content) settled.sound allowed (inl removes_file)
+          does : IsSoundVolume (lists_then a.content u e.content) × (tree_in (lists_then a.content u e.content) (bytes_in a.content) ≡ (step (tree_in (volume_of a.content) (bytes_in a.content)) (command.Rm path)).1)
+          does = law path at (volume_of a.content) (lists_then a.content u e.content) (bytes_in a.content) (file_bytes_are a.content) settled.sound allowed (inl removes_file)
 
           changes : ChangesCatalog v u a.content e.content
           changes = changes_both v x u a.content c e.content (changes_both v w x a.content b c aside.changes first.changes) loses.changes

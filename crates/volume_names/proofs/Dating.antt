@@ -9,7 +9,7 @@ use Rattle.hfs_volume.specs.Content.{VolumeState, volume_of}
 use Rattle.hfs_volume.specs.Links.{private_id}
 use Rattle.hfs_volume.specs.Records.{placed_in}
 use Rattle.hfs_volume.specs.Sound.{IsSoundVolume}
-use Rattle.hfs_volume.specs.TreeOf.{tree_in, tree_of, file_bytes}
+use Rattle.hfs_volume.specs.TreeOf.{bytes_in, tree_in, tree_of}
 use Rattle.volume_base.specs.Changing.{ChangesCatalog, PutsHeader}
 use Rattle.volume_base.specs.Standing.{IsStanding, IsSettled}
 use Rattle.volume_base.specs.declared.volume.Volume.{Volume}
@@ -25,8 +25,8 @@ module _ (law : AtDoes) (moment : ℕ) (v : Volume) (a b : Space) (settled : IsS
   told : lists_then a.content (dated moment v) b.content ≡ at_moment moment (volume_of a.content)
   told = (λ i. record (put.lists i) { attributes_tree = (volume_of a.content).attributes_tree }) ∙ sym (λ i. record (settled.lists i) { head = record (settled.lists i).head { modify_date = moment } })
 
-  does : IsSoundVolume (at_moment moment (volume_of a.content)) × (tree_in (at_moment moment (volume_of a.content)) (file_bytes a.content) ≡ (step_line (tree_in (volume_of a.content) (file_bytes a.content)) (Ok (command.At moment))).1)
-  does = law moment (volume_of a.content) (file_bytes a.content) settled.sound
+  does : IsSoundVolume (at_moment moment (volume_of a.content)) × (tree_in (at_moment moment (volume_of a.content)) (bytes_in a.content) ≡ (step_line (tree_in (volume_of a.content) (bytes_in a.content)) (Ok (command.At moment))).1)
+  does = law moment (volume_of a.content) (bytes_in a.content) settled.sound
 
   sound : IsSoundVolume (lists_then a.content (dated moment v) b.content)
   sound = subst IsSoundVolume (sym told) does.0
@@ -40,4 +40,4 @@ module _ (law : AtDoes) (moment : ℕ) (v : Volume) (a b : Space) (settled : IsS
 
   pub dated_tree : tree_of b.content ≡ (step_line (tree_of a.content) (Ok (command.At moment))).1
   unfolding tree_of
-  dated_tree = tree_again v (dated moment v) a b changes settled was stands put.headed sound ∙ ap (λ (l : VolumeState). tree_in l (file_bytes a.content)) told ∙ does.1
+  dated_tree = tree_again v (dated moment v) a b changes settled was stands put.headed sound ∙ ap (λ (l : VolumeState). tree_in l (bytes_in a.content)) told ∙ does.1

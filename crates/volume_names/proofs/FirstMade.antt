@@ -31,7 +31,7 @@ use Rattle.hfs_volume.specs.Links.{folder_id, node_name, private_id}
 use Rattle.hfs_volume.specs.Naming.{LinksFirst, LnDoes, private_ids}
 use Rattle.hfs_volume.specs.Records.{Placed, entries_of, id_of, is_empty, is_file, is_folder, is_link, is_placed_at, is_thread, placed_in, record_at, special_of, valence_in}
 use Rattle.hfs_volume.specs.Sound.{IsSoundVolume}
-use Rattle.hfs_volume.specs.TreeOf.{file_bytes, id_or_0, is_hidden, shared_file, tree_in, tree_of}
+use Rattle.hfs_volume.specs.TreeOf.{bytes_in, id_or_0, is_hidden, shared_file, tree_in, tree_of}
 use Rattle.hfs_volume.proofs.Ascending.{tree_sorted}
 use Rattle.hfs_volume.proofs.Bytes.{file_bytes_are}
 use Rattle.hfs_volume.proofs.Fields.{id_of_fields}
@@ -201,8 +201,8 @@ module _ (v : Volume) (a : Space) (settled : IsSettled v a.content) (was : IsSta
         entry_stands : Contains (entries_of (records_of (volume_of a.content))) shared.entry
         entry_stands = is_entry_of (records_of (volume_of a.content)) shared.entry there.0 named
 
-        it : IsSeenName (volume_of a.content) (file_bytes a.content) settled.sound at shared.entry
-        it = named_entry (volume_of a.content) (file_bytes a.content) settled.sound at shared.entry (settled_sorted v a.content was.trees settled) (pair v a settled was from to at parent old id folder name linking).0.seen entry_stands
+        it : IsSeenName (volume_of a.content) (bytes_in a.content) settled.sound at shared.entry
+        it = named_entry (volume_of a.content) (bytes_in a.content) settled.sound at shared.entry (settled_sorted v a.content was.trees settled) (pair v a settled was from to at parent old id folder name linking).0.seen entry_stands
             (place_is.0 ∙ sym linking.place.0) (place_is.1 ∙ sym linking.place.1)
 
         file_id : id_of shared.entry ≡ id
@@ -457,8 +457,8 @@ module _ (v : Volume) (a : Space) (settled : IsSettled v a.content) (was : IsSta
                     gains = gained_at;
                   }
 
-                  does : IsSoundVolume (lists_then a.content u g.content) × (tree_in (lists_then a.content u g.content) (file_bytes a.content) ≡ (step (tree_in (volume_of a.content) (file_bytes a.content)) (command.Ln from to)).1)
-                  does = law from to at (free_place folder name) (volume_of a.content) (lists_then a.content u g.content) (file_bytes a.content) (file_bytes_are a.content) settled.sound linking.goal_not_own linking.goal_named
+                  does : IsSoundVolume (lists_then a.content u g.content) × (tree_in (lists_then a.content u g.content) (bytes_in a.content) ≡ (step (tree_in (volume_of a.content) (bytes_in a.content)) (command.Ln from to)).1)
+                  does = law from to at (free_place folder name) (volume_of a.content) (lists_then a.content u g.content) (bytes_in a.content) (file_bytes_are a.content) settled.sound linking.goal_not_own linking.goal_named
                       (allowed v a settled was from to at parent old id folder name linking) (inl links_first)
 
                   changes : ChangesCatalog v u a.content g.content

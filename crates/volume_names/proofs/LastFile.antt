@@ -16,7 +16,7 @@ use Rattle.hfs_volume.specs.Content.{overflow_in_volume, records_of, volume_of}
 use Rattle.hfs_volume.specs.Entries.{AreThreaded, LiesIn, is_it}
 use Rattle.hfs_volume.specs.Links.{IsGoodLink, private_id}
 use Rattle.hfs_volume.specs.Records.{Placed, entries_of, id_in, id_of, is_empty, is_link, is_placed_at, placed_in, record_at, special_of}
-use Rattle.hfs_volume.specs.TreeOf.{file_bytes, id_or_0, shared_file, tree_of}
+use Rattle.hfs_volume.specs.TreeOf.{bytes_in, id_or_0, shared_file, tree_of}
 use Rattle.hfs_volume.proofs.Flat.{found_some}
 use Rattle.hfs_volume.proofs.Hiding.{same_entry}
 use Rattle.hfs_volume.proofs.Named.{IsSeenName, named_entry}
@@ -73,8 +73,8 @@ module _ (v : Volume) (a : Space) (settled : IsSettled v a.content) (was : IsSta
     shared : IsShared (private_id (records_of (volume_of a.content))) (special_of link.entry) good.node.0
     shared = shared_is (private_id (records_of (volume_of a.content))) (special_of link.entry) good.node.0 good.node.2
 
-    it : IsSeenName (volume_of a.content) (file_bytes a.content) settled.sound at link.entry
-    it = named_entry (volume_of a.content) (file_bytes a.content) settled.sound at link.entry (settled_sorted v a.content was.trees settled) (seen v a settled was path at place loss link id same_id next_fits) stands (parent_is ∙ sym loss.is_place.0) (name_is ∙ sym loss.is_place.1)
+    it : IsSeenName (volume_of a.content) (bytes_in a.content) settled.sound at link.entry
+    it = named_entry (volume_of a.content) (bytes_in a.content) settled.sound at link.entry (settled_sorted v a.content was.trees settled) (seen v a settled was path at place loss link id same_id next_fits) stands (parent_is ∙ sym loss.is_place.0) (name_is ∙ sym loss.is_place.1)
 
     number : id_of good.node.0 ≡ id
     number =

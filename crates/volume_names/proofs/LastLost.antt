@@ -30,7 +30,7 @@ use Rattle.hfs_volume.specs.Links.{is_link_to, private_id}
 use Rattle.hfs_volume.specs.Naming.{RemovesLastLink, RmDoes, one_file_less, orphan_name}
 use Rattle.hfs_volume.specs.Records.{Placed, entries_of, id_of, is_empty, is_file, is_folder, is_placed_at, is_thread, placed_in, record_at, special_of}
 use Rattle.hfs_volume.specs.Sound.{IsSoundVolume}
-use Rattle.hfs_volume.specs.TreeOf.{file_bytes, tree_in, tree_of}
+use Rattle.hfs_volume.specs.TreeOf.{bytes_in, tree_in, tree_of}
 use Rattle.hfs_volume.proofs.Ascending.{tree_sorted}
 use Rattle.hfs_volume.proofs.Bytes.{file_bytes_are}
 use Rattle.hfs_volume.proofs.Counting.{length_kept}
@@ -282,8 +282,8 @@ module _ (v : Volume) (a : Space) (settled : IsSettled v a.content) (was : IsSta
           loses = loses_at;
         }
 
-        does : IsSoundVolume (lists_then a.content u e.content) × (tree_in (lists_then a.content u e.content) (file_bytes a.content) ≡ (step (tree_in (volume_of a.content) (file_bytes a.content)) (command.Rm path)).1)
-        does = law path at (volume_of a.content) (lists_then a.content u e.content) (file_bytes a.content) (file_bytes_are a.content) settled.sound (one.allowed v a settled was path at place loss link id same_id next_fits) (inr (inr removes_last))
+        does : IsSoundVolume (lists_then a.content u e.content) × (tree_in (lists_then a.content u e.content) (bytes_in a.content) ≡ (step (tree_in (volume_of a.content) (bytes_in a.content)) (command.Rm path)).1)
+        does = law path at (volume_of a.content) (lists_then a.content u e.content) (bytes_in a.content) (file_bytes_are a.content) settled.sound (one.allowed v a settled was path at place loss link id same_id next_fits) (inr (inr removes_last))
 
         changes : ChangesCatalog v u a.content e.content
         changes = changes_both v x u a.content c e.content (changes_both v w x a.content b c drops.changes aside.changes) loses.changes

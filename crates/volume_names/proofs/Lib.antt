@@ -22,7 +22,6 @@ pub mod LinkLost
 pub mod LinkMade
 pub mod LinkWeight
 pub mod Made
-pub mod MarkLoads
 pub mod Mounted
 pub mod MoveRoom
 pub mod Moved
@@ -34,7 +33,7 @@ pub mod PrivateSound
 pub mod Redating
 pub mod ReplaceLoads
 pub mod Righting
-pub mod RoomAfter
 pub mod Shared
 pub mod Taken
 pub mod Unlinked
+pub mod Owned

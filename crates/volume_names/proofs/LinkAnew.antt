@@ -22,7 +22,7 @@ use Rattle.hfs_volume.specs.Content.{VolumeState, records_of, volume_of}
 use Rattle.hfs_volume.specs.Laws.{HeaderChanged}
 use Rattle.hfs_volume.specs.Naming.{LinksFirst}
 use Rattle.hfs_volume.specs.Records.{Placed, is_empty, is_placed_at, is_thread, placed_in, record_at}
-use Rattle.hfs_volume.specs.TreeOf.{file_bytes, tree_of}
+use Rattle.hfs_volume.specs.TreeOf.{bytes_in, tree_of}
 use Rattle.hfs_volume.proofs.Flat.{found_some}
 use Rattle.hfs_volume.proofs.Members.{each_of}
 use Rattle.hfs_volume.proofs.Named.{IsSeenName, named_entry}
@@ -139,8 +139,8 @@ module _ (law : HeaderChanged) (v : Volume) (a : Space) (settled : IsSettled v a
     named : is_empty only.names.entry.name ≡ false
     named = sym (each_of (λ (p : Placed). is_thread p.value ≡ is_empty p.name) (records_of (volume_of a.content)) settled.sound.entries.threads.kinds only.names.entry there.0) ∙ file_no_thread only.names.entry.value only.names.file
 
-    it : IsSeenName (volume_of a.content) (file_bytes a.content) settled.sound at only.names.entry
-    it = named_entry (volume_of a.content) (file_bytes a.content) settled.sound at only.names.entry (settled_sorted v a.content was.trees settled) (pair v a settled was from to at parent old id folder name linking).0.seen
+    it : IsSeenName (volume_of a.content) (bytes_in a.content) settled.sound at only.names.entry
+    it = named_entry (volume_of a.content) (bytes_in a.content) settled.sound at only.names.entry (settled_sorted v a.content was.trees settled) (pair v a settled was from to at parent old id folder name linking).0.seen
         (is_entry_of (records_of (volume_of a.content)) only.names.entry there.0 named) (parent_is ∙ sym linking.place.0) (name_is ∙ sym linking.place.1)
 
     not_one : parent ≡ 1 → ⊥

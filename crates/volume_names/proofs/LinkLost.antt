@@ -25,7 +25,7 @@ use Rattle.hfs_volume.specs.Links.{IsGoodLink, private_id}
 use Rattle.hfs_volume.specs.Naming.{RemovesLink, RmDoes, one_file_less}
 use Rattle.hfs_volume.specs.Records.{Placed, entries_of, id_of, is_empty, is_folder, is_link, is_placed_at, placed_in, record_at, special_of, valence_in}
 use Rattle.hfs_volume.specs.Sound.{IsSoundVolume}
-use Rattle.hfs_volume.specs.TreeOf.{file_bytes, id_or_0, shared_file, tree_in, tree_of}
+use Rattle.hfs_volume.specs.TreeOf.{bytes_in, id_or_0, shared_file, tree_in, tree_of}
 use Rattle.hfs_volume.proofs.Bytes.{file_bytes_are}
 use Rattle.hfs_volume.proofs.Flat.{found_some, some_same}
 use Rattle.hfs_volume.proofs.Hiding.{one_there}
@@ -70,28 +70,28 @@ module _ (v : Volume) (a : Space) (settled : IsSettled v a.content) (was : IsSta
     pub head_is : (volume_of a.content).head ≡ v.header
     head_is = ap (λ (l : VolumeState). l.head) settled.lists
 
-    pub allowed : to_rm (tree_in (volume_of a.content) (file_bytes a.content)) path ≡ Ok at
+    pub allowed : to_rm (tree_in (volume_of a.content) (bytes_in a.content)) path ≡ Ok at
     unfolding tree_of
     allowed = loss.allowed
 
     pub from_folder : IsFolderId (entries_of (records_of (volume_of a.content))) loss.above.id
     unfolding tree_of
     from_folder =
-        (front_is (records_of (volume_of a.content)) (volume_of a.content).head.next_catalog_id settled.sound.entries.ids settled.sound.entries.rooted (tree_in (volume_of a.content) (file_bytes a.content)) (tree_entries (volume_of a.content) (file_bytes a.content))
+        (front_is (records_of (volume_of a.content)) (volume_of a.content).head.next_catalog_id settled.sound.entries.ids settled.sound.entries.rooted (tree_in (volume_of a.content) (bytes_in a.content)) (tree_entries (volume_of a.content) (bytes_in a.content))
         path loss.above loss.not_root loss.not_own loss.reaches loss.above_is.0).0.folder
 
     pub not_own : ((place.parent == 2) && is_private_name place.name) ≡ false
     unfolding tree_of
     not_own =
         (λ i. (sym loss.above_is.1 i == 2) && is_private_name (sym loss.last i))
-        ∙ (front_is (records_of (volume_of a.content)) (volume_of a.content).head.next_catalog_id settled.sound.entries.ids settled.sound.entries.rooted (tree_in (volume_of a.content) (file_bytes a.content)) (tree_entries (volume_of a.content) (file_bytes a.content))
+        ∙ (front_is (records_of (volume_of a.content)) (volume_of a.content).head.next_catalog_id settled.sound.entries.ids settled.sound.entries.rooted (tree_in (volume_of a.content) (bytes_in a.content)) (tree_entries (volume_of a.content) (bytes_in a.content))
         path loss.above loss.not_root loss.not_own loss.reaches loss.above_is.0).1
 
     -- what is removed is seen
-    reach_seen : (steps : List (List ℕ)) → is_root steps ≡ false → reached (tree_in (volume_of a.content) (file_bytes a.content)) steps ≡ Ok at → IsSeen (records_of (volume_of a.content)) at
+    reach_seen : (steps : List (List ℕ)) → is_root steps ≡ false → reached (tree_in (volume_of a.content) (bytes_in a.content)) steps ≡ Ok at → IsSeen (records_of (volume_of a.content)) at
     reach_seen [] some is = absurd (true≢false some)
     reach_seen (name ∷ steps) some is =
-        walked (records_of (volume_of a.content)) (volume_of a.content).head.next_catalog_id settled.sound.entries.ids settled.sound.entries.rooted (tree_in (volume_of a.content) (file_bytes a.content)) (tree_entries (volume_of a.content) (file_bytes a.content)) steps name root_entry at is
+        walked (records_of (volume_of a.content)) (volume_of a.content).head.next_catalog_id settled.sound.entries.ids settled.sound.entries.rooted (tree_in (volume_of a.content) (bytes_in a.content)) (tree_entries (volume_of a.content) (bytes_in a.content)) steps name root_entry at is
 
     pub seen : IsSeen (records_of (volume_of a.content)) at
     unfolding tree_of
@@ -161,8 +161,8 @@ module _ (v : Volume) (a : Space) (settled : IsSettled v a.content) (was : IsSta
       pub shared : IsShared (private_id (records_of (volume_of a.content))) (special_of drops.removes.entry) good.node.0
       shared = shared_is (private_id (records_of (volume_of a.content))) (special_of drops.removes.entry) good.node.0 good.node.2
 
-      it : IsSeenName (volume_of a.content) (file_bytes a.content) settled.sound at drops.removes.entry
-      it = named_entry (volume_of a.content) (file_bytes a.content) settled.sound at drops.removes.entry (settled_sorted v a.content was.trees settled) seen entry_stands (parent_is ∙ sym loss.is_place.0) (name_is ∙ sym loss.is_place.1)
+      it : IsSeenName (volume_of a.content) (bytes_in a.content) settled.sound at drops.removes.entry
+      it = named_entry (volume_of a.content) (bytes_in a.content) settled.sound at drops.removes.entry (settled_sorted v a.content was.trees settled) seen entry_stands (parent_is ∙ sym loss.is_place.0) (name_is ∙ sym loss.is_place.1)
 
       pub file_id : id_of good.node.0 ≡ id
       file_id =
@@ -284,8 +284,8 @@ module _ (v : Volume) (a : Space) (settled : IsSettled v a.content) (was : IsSta
             loses = loses_at;
           }
 
-          does : IsSoundVolume (lists_then a.content u e.content) × (tree_in (lists_then a.content u e.content) (file_bytes a.content) ≡ (step (tree_in (volume_of a.content) (file_bytes a.content)) (command.Rm path)).1)
-          does = law path at (volume_of a.content) (lists_then a.content u e.content) (file_bytes a.content) (file_bytes_are a.content) settled.sound allowed (inr (inl removes_link))
+          does : IsSoundVolume (lists_then a.content u e.content) × (tree_in (lists_then a.content u e.content) (bytes_in a.content) ≡ (step (tree_in (volume_of a.content) (bytes_in a.content)) (command.Rm path)).1)
+          does = law path at (volume_of a.content) (lists_then a.content u e.content) (bytes_in a.content) (file_bytes_are a.content) settled.sound allowed (inr (inl removes_link))
 
           changes : ChangesCatalog v u a.content e.content
           changes = changes_both v x u a.content c e.content (changes_both v w x a.content b c drops.changes counts.changes) loses.changes

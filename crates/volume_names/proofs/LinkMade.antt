@@ -28,7 +28,7 @@ use Rattle.hfs_volume.specs.Links.{IsGoodLink, private_id}
 use Rattle.hfs_volume.specs.Naming.{IsLinkValue, LinksMore, LnDoes}
 use Rattle.hfs_volume.specs.Records.{Placed, entries_of, id_of, is_empty, is_folder, is_link, is_placed_at, is_thread, placed_in, record_at, special_of, valence_in}
 use Rattle.hfs_volume.specs.Sound.{IsSoundVolume}
-use Rattle.hfs_volume.specs.TreeOf.{file_bytes, id_or_0, shared_file, tree_in, tree_of}
+use Rattle.hfs_volume.specs.TreeOf.{bytes_in, id_or_0, shared_file, tree_in, tree_of}
 use Rattle.hfs_volume.proofs.Ascending.{tree_sorted}
 use Rattle.hfs_volume.proofs.Bytes.{file_bytes_are}
 use Rattle.hfs_volume.proofs.Flat.{found_some}
@@ -78,12 +78,12 @@ module _ (v : Volume) (a : Space) (settled : IsSettled v a.content) (was : IsSta
     pub head_is : (volume_of a.content).head ≡ v.header
     head_is = ap (λ (l : VolumeState). l.head) settled.lists
 
-    pub allowed : to_ln (tree_in (volume_of a.content) (file_bytes a.content)) from to ≡ Ok (at, free_place folder name)
+    pub allowed : to_ln (tree_in (volume_of a.content) (bytes_in a.content)) from to ≡ Ok (at, free_place folder name)
     unfolding tree_of
     allowed = linking.allowed
 
-    pub pair : IsPair (volume_of a.content) (file_bytes a.content) settled.sound from to at (free_place folder name) × (at.folder ≡ false)
-    pair = to_ln_is (volume_of a.content) (file_bytes a.content) settled.sound from to at (free_place folder name) allowed linking.goal_not_own
+    pub pair : IsPair (volume_of a.content) (bytes_in a.content) settled.sound from to at (free_place folder name) × (at.folder ≡ false)
+    pair = to_ln_is (volume_of a.content) (bytes_in a.content) settled.sound from to at (free_place folder name) allowed linking.goal_not_own
 
     pub above : IsFolderId (entries_of (records_of (volume_of a.content))) folder
     above = pair.0.folder.folder
@@ -129,8 +129,8 @@ module _ (v : Volume) (a : Space) (settled : IsSettled v a.content) (was : IsSta
       pub shared : IsShared (private_id (records_of (volume_of a.content))) (special_of link.entry) good.node.0
       shared = shared_is (private_id (records_of (volume_of a.content))) (special_of link.entry) good.node.0 good.node.2
 
-      it : IsSeenName (volume_of a.content) (file_bytes a.content) settled.sound at link.entry
-      it = named_entry (volume_of a.content) (file_bytes a.content) settled.sound at link.entry (settled_sorted v a.content was.trees settled) pair.0.seen entry_stands (parent_is ∙ sym linking.place.0) (name_is ∙ sym linking.place.1)
+      it : IsSeenName (volume_of a.content) (bytes_in a.content) settled.sound at link.entry
+      it = named_entry (volume_of a.content) (bytes_in a.content) settled.sound at link.entry (settled_sorted v a.content was.trees settled) pair.0.seen entry_stands (parent_is ∙ sym linking.place.0) (name_is ∙ sym linking.place.1)
 
       pub file_id : id_of good.node.0 ≡ id
       file_id =
@@ -264,8 +264,8 @@ module _ (v : Volume) (a : Space) (settled : IsSettled v a.content) (was : IsSta
               gains = gains_at;
             }
 
-            does : IsSoundVolume (lists_then a.content u e.content) × (tree_in (lists_then a.content u e.content) (file_bytes a.content) ≡ (step (tree_in (volume_of a.content) (file_bytes a.content)) (command.Ln from to)).1)
-            does = law from to at (free_place folder name) (volume_of a.content) (lists_then a.content u e.content) (file_bytes a.content) (file_bytes_are a.content) settled.sound linking.goal_not_own linking.goal_named allowed (inr links_more)
+            does : IsSoundVolume (lists_then a.content u e.content) × (tree_in (lists_then a.content u e.content) (bytes_in a.content) ≡ (step (tree_in (volume_of a.content) (bytes_in a.content)) (command.Ln from to)).1)
+            does = law from to at (free_place folder name) (volume_of a.content) (lists_then a.content u e.content) (bytes_in a.content) (file_bytes_are a.content) settled.sound linking.goal_not_own linking.goal_named allowed (inr links_more)
 
             changes : ChangesCatalog v u a.content e.content
             changes = changes_both v x u a.content c e.content (changes_both v w x a.content b.content c adds.changes counts.changes) gains.changes

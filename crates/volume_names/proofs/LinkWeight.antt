@@ -23,7 +23,7 @@ use Rattle.hfs_volume.specs.Content.{VolumeState, attributes_of, records_of, vol
 use Rattle.hfs_volume.specs.Entries.{HasThread, is_it}
 use Rattle.hfs_volume.specs.Links.{private_id}
 use Rattle.hfs_volume.specs.Records.{Placed, entries_of, id_in, id_of, is_empty, is_file, is_link, is_placed_at, is_thread, placed_in, record_at, special_of}
-use Rattle.hfs_volume.specs.TreeOf.{file_bytes, id_or_0, is_hidden, is_linked, is_seen, node_in, plain_node, shared_file, tree_in, tree_of}
+use Rattle.hfs_volume.specs.TreeOf.{BytesOf, bytes_in, file_bytes, id_or_0, is_hidden, is_linked, is_seen, node_in, plain_node, shared_file, tree_in, tree_of, valued}
 use Rattle.hfs_volume.specs.Weight.{Edits, edits, edits_of, ln_edits}
 use Rattle.hfs_volume.proofs.Flat.{found_none, found_some}
 use Rattle.hfs_volume.proofs.Hiding.{hidden_is_computed, same_entry}
@@ -69,18 +69,18 @@ edits_found tree from to at goal allowed linked it =
     ap (λ r. ln_edits tree (then_ r (file_of tree))) allowed ∙ ap (λ o. ln_edits tree (then_ (ok_or o refusal.NotFound) (with_place goal))) it.found ∙ ap (edits_for tree.has_private) it.kind
 
 -- the node of a file that is there on its own, or that links go to
-its_node : (volume : VolumeState) (bytes_of : FileRecord → List ℕ) (file : Placed) (linked : Bool) → is_file file.value ≡ true → is_linked (records_of volume) file ≡ linked → ((is_seen (records_of volume) file && not (is_link file)) || linked) ≡ true
-    → (f : FileRecord) × (file.value ≡ File f) × (node_in (attributes_of volume) (records_of volume) bytes_of file file.value ≡ plain_node (attributes_of volume) f.fields false (bytes_of f) linked ∷ [])
+its_node : (volume : VolumeState) (bytes_of : BytesOf) (file : Placed) (linked : Bool) → is_file file.value ≡ true → is_linked (records_of volume) file ≡ linked → ((is_seen (records_of volume) file && not (is_link file)) || linked) ≡ true
+    → (f : FileRecord) × (file.value ≡ File f) × (node_in (valued bytes_of (attributes_of volume)) (records_of volume) bytes_of file file.value ≡ plain_node (valued bytes_of (attributes_of volume)) f.fields false (bytes_of.file f) linked ∷ [])
 its_node volume bytes_of file linked a_file is plain = of_value file.value refl a_file
   where
     of_value : (value : CatRecord) → file.value ≡ value → is_file value ≡ true
-        → (f : FileRecord) × (file.value ≡ File f) × (node_in (attributes_of volume) (records_of volume) bytes_of file value ≡ plain_node (attributes_of volume) f.fields false (bytes_of f) linked ∷ [])
+        → (f : FileRecord) × (file.value ≡ File f) × (node_in (valued bytes_of (attributes_of volume)) (records_of volume) bytes_of file value ≡ plain_node (valued bytes_of (attributes_of volume)) f.fields false (bytes_of.file f) linked ∷ [])
     of_value (Folder f) same is_a = absurd (true≢false (sym is_a))
     of_value (File f) same is_a = (
       f,
       same,
-      (λ i. if (is_seen (records_of volume) file && not (is_link file)) || is i then plain_node (attributes_of volume) f.fields false (bytes_of f) (is i) ∷ [] else [])
-          ∙ ap (λ b. if b then plain_node (attributes_of volume) f.fields false (bytes_of f) linked ∷ [] else []) plain,
+      (λ i. if (is_seen (records_of volume) file && not (is_link file)) || is i then plain_node (valued bytes_of (attributes_of volume)) f.fields false (bytes_of.file f) (is i) ∷ [] else [])
+          ∙ ap (λ b. if b then plain_node (valued bytes_of (attributes_of volume)) f.fields false (bytes_of.file f) linked ∷ [] else []) plain,
     )
     of_value (Thread f) same is_a = absurd (true≢false (sym is_a))
 
@@ -106,11 +106,11 @@ module _ (v : Volume) (a : Space) (settled : IsSettled v a.content) (was : IsSta
         → ((is_seen (records_of (volume_of a.content)) e && not (is_link e)) || linked) ≡ true → HasNode (tree_of a.content) (id_of e) linked
     node_found e stands linked a_file kind plain = by_case (find (is_node (id_of e)) (tree_of a.content).nodes) refl
       where
-        its : (f : FileRecord) × (e.value ≡ File f) × (node_in (attributes_of (volume_of a.content)) (records_of (volume_of a.content)) (file_bytes a.content) e e.value ≡ plain_node (attributes_of (volume_of a.content)) f.fields false (file_bytes a.content f) linked ∷ [])
-        its = its_node (volume_of a.content) (file_bytes a.content) e linked a_file kind plain
+        its : (f : FileRecord) × (e.value ≡ File f) × (node_in (valued (bytes_in a.content) (attributes_of (volume_of a.content))) (records_of (volume_of a.content)) (bytes_in a.content) e e.value ≡ plain_node (valued (bytes_in a.content) (attributes_of (volume_of a.content))) f.fields false (file_bytes a.content f) linked ∷ [])
+        its = its_node (volume_of a.content) (bytes_in a.content) e linked a_file kind plain
 
         its_plain : PlainNode
-        its_plain = plain_node (attributes_of (volume_of a.content)) its.0.fields false (file_bytes a.content its.0) linked
+        its_plain = plain_node (valued (bytes_in a.content) (attributes_of (volume_of a.content))) its.0.fields false (file_bytes a.content its.0) linked
 
         number : its_plain.id ≡ id_of e
         number = sym (ap id_in its.1)
@@ -118,19 +118,19 @@ module _ (v : Volume) (a : Space) (settled : IsSettled v a.content) (was : IsSta
         there : Contains (tree_of a.content).nodes its_plain
         there =
             subst (λ l. Contains l its_plain) (sym (nodes_are a.content))
-            (node_stands (attributes_of (volume_of a.content)) (file_bytes a.content) (records_of (volume_of a.content)) (volume_of a.content).head.next_catalog_id settled.sound.entries.ids e stands
+            (node_stands (valued (bytes_in a.content) (attributes_of (volume_of a.content))) (bytes_in a.content) (records_of (volume_of a.content)) (volume_of a.content).head.next_catalog_id settled.sound.entries.ids e stands
             (each_of (HasThread (records_of (volume_of a.content))) (entries_of (records_of (volume_of a.content))) settled.sound.entries.threads.threaded e stands) its_plain (subst (λ l. Contains l its_plain) (sym its.2) (at_front its_plain [])))
 
-        kind_of : (n : PlainNode) → Contains (node_in (attributes_of (volume_of a.content)) (records_of (volume_of a.content)) (file_bytes a.content) e e.value) n → n.linked ≡ linked
+        kind_of : (n : PlainNode) → Contains (node_in (valued (bytes_in a.content) (attributes_of (volume_of a.content))) (records_of (volume_of a.content)) (bytes_in a.content) e e.value) n → n.linked ≡ linked
         kind_of n has = ap (λ (x : PlainNode). x.linked) (in_one its_plain n (subst (λ l. Contains l n) its.2 has))
 
         by_case : (o : Option PlainNode) → find (is_node (id_of e)) (tree_of a.content).nodes ≡ o → HasNode (tree_of a.content) (id_of e) linked
         by_case None none = absurd (true≢false (sym (ap (λ n. n == id_of e) number ∙ same_number (id_of e)) ∙ found_none (is_node (id_of e)) (tree_of a.content).nodes none its_plain there))
         by_case (Some n) found =
             let it = found_some (is_node (id_of e)) (tree_of a.content).nodes n found in
-            let whose = nodes_from (attributes_of (volume_of a.content)) (file_bytes a.content) (records_of (volume_of a.content)) n (subst (λ l. Contains l n) (nodes_are a.content) it.0) in
+            let whose = nodes_from (valued (bytes_in a.content) (attributes_of (volume_of a.content))) (bytes_in a.content) (records_of (volume_of a.content)) n (subst (λ l. Contains l n) (nodes_are a.content) it.0) in
             let same : whose.entry ≡ e = same_entry (volume_of a.content).head.next_catalog_id (entries_of (records_of (volume_of a.content))) settled.sound.entries.ids whose.entry e whose.stands stands (sym whose.id ∙ eqb-true n.id (id_of e) it.1) in
-            record { node = n; found = found; kind = kind_of n (subst (λ (p : Placed). Contains (node_in (attributes_of (volume_of a.content)) (records_of (volume_of a.content)) (file_bytes a.content) p p.value) n) same whose.has) }
+            record { node = n; found = found; kind = kind_of n (subst (λ (p : Placed). Contains (node_in (valued (bytes_in a.content) (attributes_of (volume_of a.content))) (records_of (volume_of a.content)) (bytes_in a.content) p p.value) n) same whose.has) }
 
     weighs : (linked : Bool) → HasNode (tree_of a.content) at.id linked → edits_of (tree_of a.content) (command.Ln from to) ≡ edits_for (is_some v.private) linked
     weighs linked it =
@@ -185,9 +185,9 @@ module _ (v : Volume) (a : Space) (settled : IsSettled v a.content) (was : IsSta
       entry_stands : Contains (entries_of (records_of (volume_of a.content))) only.names.entry
       entry_stands = is_entry_of (records_of (volume_of a.content)) only.names.entry there.0 named
 
-      it : IsSeenName (volume_of a.content) (file_bytes a.content) settled.sound at only.names.entry
+      it : IsSeenName (volume_of a.content) (bytes_in a.content) settled.sound at only.names.entry
       it =
-          named_entry (volume_of a.content) (file_bytes a.content) settled.sound at only.names.entry (settled_sorted v a.content was.trees settled) (more.pair v a settled was from to at parent old id folder name linking).0.seen entry_stands
+          named_entry (volume_of a.content) (bytes_in a.content) settled.sound at only.names.entry (settled_sorted v a.content was.trees settled) (more.pair v a settled was from to at parent old id folder name linking).0.seen entry_stands
           (parent_is ∙ sym linking.place.0) (name_is ∙ sym linking.place.1)
 
       its_id : id_of only.names.entry ≡ at.id

@@ -28,7 +28,7 @@ use Rattle.hfs_volume.specs.Cost.{catalog_key, cost_of, growth, tree_load}
 use Rattle.hfs_volume.specs.Forks.{catalog_id}
 use Rattle.hfs_volume.specs.Links.{node_name, private_id}
 use Rattle.hfs_volume.specs.Records.{Placed, entries_of, id_in, id_of, is_link_type}
-use Rattle.hfs_volume.specs.TreeOf.{file_bytes, tree_in, tree_of}
+use Rattle.hfs_volume.specs.TreeOf.{bytes_in, tree_in, tree_of, valued}
 use Rattle.hfs_volume.specs.Weight.{Edits, cost_of_tree, edits, edits_of, extents_in_use, free_blocks, needs_for, rm_edits, rm_edits_at, room_with, weight, weight_with}
 use Rattle.hfs_volume.specs.declared.cost.Cost.TheVariants as cost
 use Rattle.hfs_volume.proofs.Flat.{found_some}
@@ -211,7 +211,7 @@ module _ (law : SoundHasPlainTree) (v : Volume) (a : Space) (was : IsStanding v 
     plain = settled_is_plain law v a.content was.trees settled
 
     abbrev IsIt : Node → PlainNode → Type 0
-    IsIt = IsNode (volume_of a.content) settled.sound (settled_sorted v a.content was.trees settled) tree (entries_are a.content) plain (attributes_of (volume_of a.content)) (file_bytes a.content) (nodes_are a.content)
+    IsIt = IsNode (volume_of a.content) settled.sound (settled_sorted v a.content was.trees settled) tree (entries_are a.content) plain (valued (bytes_in a.content) (attributes_of (volume_of a.content))) (bytes_in a.content) (nodes_are a.content)
 
     there : (n : PlainNode) × (node_at tree entry.id ≡ Some n)
     there = let kind = reached_kind tree plain path entry loss.reaches_it in (kind.0, kind.1)
@@ -228,7 +228,7 @@ module _ (law : SoundHasPlainTree) (v : Volume) (a : Space) (was : IsStanding v 
     agrees : Agree IsIt (node_in pairs v.private path) (to_node tree path)
     agrees =
         subst (λ (r : Result Node Refusal). Agree IsIt r (to_node tree path)) (sym (λ i. node_in (sym (ap (λ (l : VolumeState). l.catalog_pairs) settled.lists) i) (settled.private i) path))
-        (node_same (volume_of a.content) settled.sound (settled_sorted v a.content was.trees settled) tree (entries_are a.content) plain (attributes_of (volume_of a.content)) (file_bytes a.content) (nodes_are a.content) path not_own fits)
+        (node_same (volume_of a.content) settled.sound (settled_sorted v a.content was.trees settled) tree (entries_are a.content) plain (valued (bytes_in a.content) (attributes_of (volume_of a.content))) (bytes_in a.content) (nodes_are a.content) path not_own fits)
 
     here : (f : Node) → file_node pairs v.private walk.file ≡ f → IsIt f there.0
     here f same =

@@ -18,7 +18,6 @@ use Rattle.hx_bytes.specs.Field.{number_at}
 use Rattle.catalog.specs.Pairs.{value_at}
 use Rattle.cat_records.specs.declared.record.CatRecord.{CatRecord}
 use Rattle.cat_records.specs.declared.record.CatRecord.TheVariants.{Folder, File, Thread}
-use Rattle.cat_records.specs.declared.record.FileRecord.{FileRecord}
 use Rattle.cat_records.specs.declared.record.ThreadRecord.{ThreadRecord}
 use Rattle.hfs_language.specs.declared.reply.Reply.TheVariants as reply
 use Rattle.hfs_model.specs.Step.{Place, is_private_name, is_private_path, journal_info_name, journal_name, last_name, made, on, private_name, to_make}
@@ -31,7 +30,7 @@ use Rattle.hfs_volume.specs.Laws.{IsFolderId}
 use Rattle.hfs_volume.specs.Links.{private_id}
 use Rattle.hfs_volume.specs.Records.{Placed, entries_of, id_in, id_of, is_empty, is_file, is_folder, is_placed_at, is_thread, placed_in, placed_of, record_at, valence_in}
 use Rattle.hfs_volume.specs.Sound.{IsSoundVolume}
-use Rattle.hfs_volume.specs.TreeOf.{file_bytes, tree_in, tree_of}
+use Rattle.hfs_volume.specs.TreeOf.{BytesOf, bytes_in, tree_in, tree_of}
 use Rattle.hfs_volume.proofs.Ascending.{tree_sorted}
 use Rattle.hfs_volume.proofs.Bytes.{file_bytes_are}
 use Rattle.hfs_volume.proofs.Counting.{map_insert}
@@ -60,7 +59,7 @@ use Rattle.volume_base.proofs.Settling.{lists_then, settles_again, tree_again}
 
 abbrev pub MakeDoes : Bool → Type 0
 MakeDoes folder =
-    (path : List (List ℕ)) (at : Place) (old new : VolumeState) (bytes_of : FileRecord → List ℕ) → AreBytesOf bytes_of → IsSoundVolume old → is_private_path path ≡ false → is_empty (last_name path) ≡ false
+    (path : List (List ℕ)) (at : Place) (old new : VolumeState) (bytes_of : BytesOf) → AreBytesOf bytes_of → IsSoundVolume old → is_private_path path ≡ false → is_empty (last_name path) ≡ false
     → to_make (tree_in old bytes_of) path ≡ Ok at → MakesEntry folder at old new → IsSoundVolume new × (tree_in new bytes_of ≡ made folder at (tree_in old bytes_of))
 
 pub makes_both : MkdirDoes → CreateDoes → (folder : Bool) → MakeDoes folder
@@ -169,25 +168,25 @@ module _ (v : Volume) (a : Space) (settled : IsSettled v a.content) where
       )
 
   module _ (id : ℕ) (name : List ℕ) (site : IsSite (tree_of a.content) id name) where
-    allowed : to_make (tree_in (volume_of a.content) (file_bytes a.content)) site.path ≡ Ok (free_place id name)
+    allowed : to_make (tree_in (volume_of a.content) (bytes_in a.content)) site.path ≡ Ok (free_place id name)
     unfolding tree_of
     allowed = site.allowed
 
     -- what the place is, by the records
     above : IsFolderId (entries_of (records_of (volume_of a.content))) id
-    above = (new_place_is (records_of (volume_of a.content)) (volume_of a.content).head.next_catalog_id settled.sound.entries.ids settled.sound.entries.rooted (tree_in (volume_of a.content) (file_bytes a.content)) (tree_entries (volume_of a.content) (file_bytes a.content))
+    above = (new_place_is (records_of (volume_of a.content)) (volume_of a.content).head.next_catalog_id settled.sound.entries.ids settled.sound.entries.rooted (tree_in (volume_of a.content) (bytes_in a.content)) (tree_entries (volume_of a.content) (bytes_in a.content))
         site.path (free_place id name) allowed site.not_own site.named).0.is_folder.folder
 
     has_name : is_empty name ≡ false
-    has_name = (new_place_is (records_of (volume_of a.content)) (volume_of a.content).head.next_catalog_id settled.sound.entries.ids settled.sound.entries.rooted (tree_in (volume_of a.content) (file_bytes a.content)) (tree_entries (volume_of a.content) (file_bytes a.content))
+    has_name = (new_place_is (records_of (volume_of a.content)) (volume_of a.content).head.next_catalog_id settled.sound.entries.ids settled.sound.entries.rooted (tree_in (volume_of a.content) (bytes_in a.content)) (tree_entries (volume_of a.content) (bytes_in a.content))
         site.path (free_place id name) allowed site.not_own site.named).1
 
     is_new : record_at (records_of (volume_of a.content)) id name ≡ None
-    is_new = (new_place_is (records_of (volume_of a.content)) (volume_of a.content).head.next_catalog_id settled.sound.entries.ids settled.sound.entries.rooted (tree_in (volume_of a.content) (file_bytes a.content)) (tree_entries (volume_of a.content) (file_bytes a.content))
+    is_new = (new_place_is (records_of (volume_of a.content)) (volume_of a.content).head.next_catalog_id settled.sound.entries.ids settled.sound.entries.rooted (tree_in (volume_of a.content) (bytes_in a.content)) (tree_entries (volume_of a.content) (bytes_in a.content))
         site.path (free_place id name) allowed site.not_own site.named).0.is_new
 
     not_own : ((id == 2) && is_private_name name) ≡ false
-    not_own = (new_place_is (records_of (volume_of a.content)) (volume_of a.content).head.next_catalog_id settled.sound.entries.ids settled.sound.entries.rooted (tree_in (volume_of a.content) (file_bytes a.content)) (tree_entries (volume_of a.content) (file_bytes a.content))
+    not_own = (new_place_is (records_of (volume_of a.content)) (volume_of a.content).head.next_catalog_id settled.sound.entries.ids settled.sound.entries.rooted (tree_in (volume_of a.content) (bytes_in a.content)) (tree_entries (volume_of a.content) (bytes_in a.content))
         site.path (free_place id name) allowed site.not_own site.named).0.not_own
 
     -- nothing stands at the place
@@ -284,8 +283,8 @@ module _ (v : Volume) (a : Space) (settled : IsSettled v a.content) where
           counts = counts;
         }
 
-        does : IsSoundVolume (lists_then a.content u c.content) × (tree_in (lists_then a.content u c.content) (file_bytes a.content) ≡ made folder (free_place id name) (tree_in (volume_of a.content) (file_bytes a.content)))
-        does = law site.path (free_place id name) (volume_of a.content) (lists_then a.content u c.content) (file_bytes a.content) (file_bytes_are a.content) settled.sound site.not_own site.named allowed makes
+        does : IsSoundVolume (lists_then a.content u c.content) × (tree_in (lists_then a.content u c.content) (bytes_in a.content) ≡ made folder (free_place id name) (tree_in (volume_of a.content) (bytes_in a.content)))
+        does = law site.path (free_place id name) (volume_of a.content) (lists_then a.content u c.content) (bytes_in a.content) (file_bytes_are a.content) settled.sound site.not_own site.named allowed makes
 
         changes : ChangesCatalog v u a.content c.content
         changes = changes_both v w u a.content b.content c.content adds.changes t.changes

@@ -18,7 +18,7 @@ use Rattle.hfs_volume.specs.Laws.{SoundIsBoth}
 use Rattle.hfs_volume.specs.Links.{private_id}
 use Rattle.hfs_volume.specs.Records.{placed_in, id_in}
 use Rattle.hfs_volume.specs.Sound.{IsSoundVolume}
-use Rattle.hfs_volume.specs.TreeOf.{tree_in, tree_of, file_bytes}
+use Rattle.hfs_volume.specs.TreeOf.{bytes_in, tree_in, tree_of}
 use Rattle.hfs_volume.proofs.Bytes.{file_bytes_are}
 use Rattle.hfs_volume.proofs.Telling.{private_after_fields}
 use Rattle.volume_names.specs.Changing.{SetsRights}
@@ -69,9 +69,9 @@ module _ (law : ChmodDoes) (halves : (volume : VolumeState) → SoundIsBoth volu
         (ap (λ (l : List Pair). value_at l entry.parent entry.name) pairs_are ∙ there) (ap (λ (h : VolumeHeader). with_mode h.modify_date rights entry.rec) head_is ∙ sets.made) refl
 
     module _ (path : List (List ℕ)) (node : PlainNode) (allowed : to_node (tree_of a.content) path ≡ Ok node) (number : node.id ≡ id_in entry.rec) where
-      does : IsSoundVolume (lists_then a.content w b.content) × (tree_in (lists_then a.content w b.content) (file_bytes a.content) ≡ (step (tree_in (volume_of a.content) (file_bytes a.content)) (command.Chmod path rights)).1)
+      does : IsSoundVolume (lists_then a.content w b.content) × (tree_in (lists_then a.content w b.content) (bytes_in a.content) ≡ (step (tree_in (volume_of a.content) (bytes_in a.content)) (command.Chmod path rights)).1)
       unfolding tree_of
-      does = law path rights node (volume_of a.content) (lists_then a.content w b.content) (file_bytes a.content) (file_bytes_are a.content) settled.sound allowed
+      does = law path rights node (volume_of a.content) (lists_then a.content w b.content) (bytes_in a.content) (file_bytes_are a.content) settled.sound allowed
           (subst (λ id. ChangesMode id rights (volume_of a.content) (lists_then a.content w b.content)) (sym number) changes)
 
       headed : header_of_volume b.content ≡ w.header

@@ -17,7 +17,7 @@ use Rattle.hfs_volume.specs.Links.{private_id}
 use Rattle.hfs_volume.specs.Reclaim.{mounted_header}
 use Rattle.hfs_volume.specs.Records.{placed_in}
 use Rattle.hfs_volume.specs.Sound.{IsSoundVolume}
-use Rattle.hfs_volume.specs.TreeOf.{tree_in, tree_of, file_bytes}
+use Rattle.hfs_volume.specs.TreeOf.{bytes_in, tree_in, tree_of}
 use Rattle.volume_base.specs.Changing.{ChangesCatalog, PutsHeader}
 use Rattle.volume_names.specs.Mounting.{marked_header, unmounted_header}
 use Rattle.volume_base.specs.Standing.{IsStanding, IsSettled}
@@ -41,8 +41,8 @@ module _ (law : RemountKeeps) (other : VolumeHeader) (v : Volume) (a b : Space) 
     told : lists_then a.content (numbered other v) b.content ≡ with_header_numbers other (volume_of a.content)
     told = (λ i. record (put.lists i) { attributes_tree = (volume_of a.content).attributes_tree }) ∙ sym (λ i. record (settled.lists i) { head = with_numbers (settled.lists i).head other })
 
-    does : IsSoundVolume (with_header_numbers other (volume_of a.content)) × (tree_in (with_header_numbers other (volume_of a.content)) (file_bytes a.content) ≡ tree_in (volume_of a.content) (file_bytes a.content))
-    does = law other (volume_of a.content) (file_bytes a.content) settled.sound good remounted
+    does : IsSoundVolume (with_header_numbers other (volume_of a.content)) × (tree_in (with_header_numbers other (volume_of a.content)) (bytes_in a.content) ≡ tree_in (volume_of a.content) (bytes_in a.content))
+    does = law other (volume_of a.content) (bytes_in a.content) settled.sound good remounted
 
     sound : IsSoundVolume (lists_then a.content (numbered other v) b.content)
     sound = subst IsSoundVolume (sym told) does.0
@@ -55,7 +55,7 @@ module _ (law : RemountKeeps) (other : VolumeHeader) (v : Volume) (a b : Space) 
 
     pub numbered_tree : tree_of b.content ≡ tree_of a.content
     unfolding tree_of
-    numbered_tree = tree_again v (numbered other v) a b changes settled was stands put.headed sound ∙ ap (λ (l : VolumeState). tree_in l (file_bytes a.content)) told ∙ does.1
+    numbered_tree = tree_again v (numbered other v) a b changes settled was stands put.headed sound ∙ ap (λ (l : VolumeState). tree_in l (bytes_in a.content)) told ∙ does.1
 
 -- ---- the mark
 

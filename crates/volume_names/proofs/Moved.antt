@@ -31,7 +31,7 @@ use Rattle.hfs_volume.specs.Links.{private_id}
 use Rattle.hfs_volume.specs.Naming.{MovesName, MvDoes}
 use Rattle.hfs_volume.specs.Records.{Placed, entries_of, id_of, is_empty, is_folder, is_placed_at, is_thread, placed_in, record_at, valence_in}
 use Rattle.hfs_volume.specs.Sound.{IsSoundVolume}
-use Rattle.hfs_volume.specs.TreeOf.{file_bytes, tree_in, tree_of}
+use Rattle.hfs_volume.specs.TreeOf.{bytes_in, tree_in, tree_of, valued}
 use Rattle.hfs_volume.proofs.Ascending.{tree_sorted}
 use Rattle.hfs_volume.proofs.Bytes.{file_bytes_are}
 use Rattle.hfs_volume.proofs.Flat.{found_none, found_some}
@@ -92,11 +92,11 @@ module _ (v : Volume) (a : Space) (settled : IsSettled v a.content) (was : IsSta
   head_is : (volume_of a.content).head ≡ v.header
   head_is = ap (λ (l : VolumeState). l.head) settled.lists
 
-  allowed : to_mv (tree_in (volume_of a.content) (file_bytes a.content)) from to ≡ Ok (at, free_place folder name)
+  allowed : to_mv (tree_in (volume_of a.content) (bytes_in a.content)) from to ≡ Ok (at, free_place folder name)
   unfolding tree_of
   allowed = move.allowed
 
-  can_make : to_make (tree_in (volume_of a.content) (file_bytes a.content)) to ≡ Ok (free_place folder name)
+  can_make : to_make (tree_in (volume_of a.content) (bytes_in a.content)) to ≡ Ok (free_place folder name)
   unfolding tree_of
   can_make = move.can_make
 
@@ -104,32 +104,32 @@ module _ (v : Volume) (a : Space) (settled : IsSettled v a.content) (was : IsSta
 
   goal_folder : IsFolderId (entries_of (records_of (volume_of a.content))) folder
   goal_folder =
-      (new_place_is (records_of (volume_of a.content)) (volume_of a.content).head.next_catalog_id settled.sound.entries.ids settled.sound.entries.rooted (tree_in (volume_of a.content) (file_bytes a.content)) (tree_entries (volume_of a.content) (file_bytes a.content))
+      (new_place_is (records_of (volume_of a.content)) (volume_of a.content).head.next_catalog_id settled.sound.entries.ids settled.sound.entries.rooted (tree_in (volume_of a.content) (bytes_in a.content)) (tree_entries (volume_of a.content) (bytes_in a.content))
       to (free_place folder name) can_make move.goal_not_own move.goal_named).0.is_folder.folder
 
   goal_named : is_empty name ≡ false
   goal_named =
-      (new_place_is (records_of (volume_of a.content)) (volume_of a.content).head.next_catalog_id settled.sound.entries.ids settled.sound.entries.rooted (tree_in (volume_of a.content) (file_bytes a.content)) (tree_entries (volume_of a.content) (file_bytes a.content))
+      (new_place_is (records_of (volume_of a.content)) (volume_of a.content).head.next_catalog_id settled.sound.entries.ids settled.sound.entries.rooted (tree_in (volume_of a.content) (bytes_in a.content)) (tree_entries (volume_of a.content) (bytes_in a.content))
       to (free_place folder name) can_make move.goal_not_own move.goal_named).1
 
   goal_not_own : ((folder == 2) && is_private_name name) ≡ false
   goal_not_own =
-      (new_place_is (records_of (volume_of a.content)) (volume_of a.content).head.next_catalog_id settled.sound.entries.ids settled.sound.entries.rooted (tree_in (volume_of a.content) (file_bytes a.content)) (tree_entries (volume_of a.content) (file_bytes a.content))
+      (new_place_is (records_of (volume_of a.content)) (volume_of a.content).head.next_catalog_id settled.sound.entries.ids settled.sound.entries.rooted (tree_in (volume_of a.content) (bytes_in a.content)) (tree_entries (volume_of a.content) (bytes_in a.content))
       to (free_place folder name) can_make move.goal_not_own move.goal_named).0.not_own
 
   pub goal_free : record_at (placed_in (lists_of v a.content).catalog_pairs) folder name ≡ None
   goal_free = ap (λ (l : List Pair). record_at (placed_in l) folder name) (sym pairs_are)
-      ∙ (new_place_is (records_of (volume_of a.content)) (volume_of a.content).head.next_catalog_id settled.sound.entries.ids settled.sound.entries.rooted (tree_in (volume_of a.content) (file_bytes a.content)) (tree_entries (volume_of a.content) (file_bytes a.content))
+      ∙ (new_place_is (records_of (volume_of a.content)) (volume_of a.content).head.next_catalog_id settled.sound.entries.ids settled.sound.entries.rooted (tree_in (volume_of a.content) (bytes_in a.content)) (tree_entries (volume_of a.content) (bytes_in a.content))
       to (free_place folder name) can_make move.goal_not_own move.goal_named).0.is_new
 
   -- what is moved stands there
-  source : (from : List (List ℕ)) → is_root from ≡ false → reached (tree_in (volume_of a.content) (file_bytes a.content)) from ≡ Ok at
+  source : (from : List (List ℕ)) → is_root from ≡ false → reached (tree_in (volume_of a.content) (bytes_in a.content)) from ≡ Ok at
       → (p : Placed) × Contains (entries_of (records_of (volume_of a.content))) p × (p.parent ≡ at.parent) × (p.name ≡ at.name)
   source [] some is = absurd (true≢false some)
   source (first ∷ path) some is =
-      let seen = walked (records_of (volume_of a.content)) (volume_of a.content).head.next_catalog_id settled.sound.entries.ids settled.sound.entries.rooted (tree_in (volume_of a.content) (file_bytes a.content)) (tree_entries (volume_of a.content) (file_bytes a.content))
+      let seen = walked (records_of (volume_of a.content)) (volume_of a.content).head.next_catalog_id settled.sound.entries.ids settled.sound.entries.rooted (tree_in (volume_of a.content) (bytes_in a.content)) (tree_entries (volume_of a.content) (bytes_in a.content))
       path first root_entry at is in
-      let stands = seen_entry_of (records_of (volume_of a.content)) (volume_of a.content).head.next_catalog_id settled.sound.entries.ids settled.sound.entries.rooted (tree_in (volume_of a.content) (file_bytes a.content)) (tree_entries (volume_of a.content) (file_bytes a.content)) at seen in
+      let stands = seen_entry_of (records_of (volume_of a.content)) (volume_of a.content).head.next_catalog_id settled.sound.entries.ids settled.sound.entries.rooted (tree_in (volume_of a.content) (bytes_in a.content)) (tree_entries (volume_of a.content) (bytes_in a.content)) at seen in
       (seen.placed, stands, ap (λ (e : PlainEntry). e.parent) seen.is, ap (λ (e : PlainEntry). e.name) seen.is)
 
   source_here : (p : Placed) × Contains (entries_of (records_of (volume_of a.content))) p × (p.parent ≡ at.parent) × (p.name ≡ at.name)
@@ -145,18 +145,18 @@ module _ (v : Volume) (a : Space) (settled : IsSettled v a.content) (was : IsSta
   from_folder : IsFolderId (entries_of (records_of (volume_of a.content))) move.above.id
   unfolding tree_of
   from_folder =
-      (front_is (records_of (volume_of a.content)) (volume_of a.content).head.next_catalog_id settled.sound.entries.ids settled.sound.entries.rooted (tree_in (volume_of a.content) (file_bytes a.content)) (tree_entries (volume_of a.content) (file_bytes a.content))
+      (front_is (records_of (volume_of a.content)) (volume_of a.content).head.next_catalog_id settled.sound.entries.ids settled.sound.entries.rooted (tree_in (volume_of a.content) (bytes_in a.content)) (tree_entries (volume_of a.content) (bytes_in a.content))
       from move.above move.not_root move.not_own move.reaches move.above_is.0).0.folder
 
   from_not_own : ((parent == 2) && is_private_name old) ≡ false
   unfolding tree_of
   from_not_own =
       (λ i. (sym move.above_is.1 i == 2) && is_private_name (sym move.last i))
-      ∙ (front_is (records_of (volume_of a.content)) (volume_of a.content).head.next_catalog_id settled.sound.entries.ids settled.sound.entries.rooted (tree_in (volume_of a.content) (file_bytes a.content)) (tree_entries (volume_of a.content) (file_bytes a.content))
+      ∙ (front_is (records_of (volume_of a.content)) (volume_of a.content).head.next_catalog_id settled.sound.entries.ids settled.sound.entries.rooted (tree_in (volume_of a.content) (bytes_in a.content)) (tree_entries (volume_of a.content) (bytes_in a.content))
       from move.above move.not_root move.not_own move.reaches move.above_is.0).1
 
-  node_of : IsNodeOf (attributes_of (volume_of a.content)) (file_bytes a.content) (records_of (volume_of a.content)) move.node
-  node_of = nodes_from (attributes_of (volume_of a.content)) (file_bytes a.content) (records_of (volume_of a.content)) move.node
+  node_of : IsNodeOf (valued (bytes_in a.content) (attributes_of (volume_of a.content))) (bytes_in a.content) (records_of (volume_of a.content)) move.node
+  node_of = nodes_from (valued (bytes_in a.content) (attributes_of (volume_of a.content))) (bytes_in a.content) (records_of (volume_of a.content)) move.node
       (subst (λ (l : List PlainNode). Contains l move.node) (nodes_are a.content) (node_there (tree_of a.content) from move.node move.stands))
 
   -- each folder counts less than there are CNIDs
@@ -323,8 +323,8 @@ module _ (v : Volume) (a : Space) (settled : IsSettled v a.content) (was : IsSta
             marks = marked_at;
           }
 
-          does : IsSoundVolume (lists_then a.content u e.content) × (tree_in (lists_then a.content u e.content) (file_bytes a.content) ≡ (step (tree_in (volume_of a.content) (file_bytes a.content)) (command.Mv from to)).1)
-          does = law from to at (free_place folder name) (volume_of a.content) (lists_then a.content u e.content) (file_bytes a.content) (file_bytes_are a.content) settled.sound move.goal_not_own move.goal_named allowed (inl (refl, moves_name))
+          does : IsSoundVolume (lists_then a.content u e.content) × (tree_in (lists_then a.content u e.content) (bytes_in a.content) ≡ (step (tree_in (volume_of a.content) (bytes_in a.content)) (command.Mv from to)).1)
+          does = law from to at (free_place folder name) (volume_of a.content) (lists_then a.content u e.content) (bytes_in a.content) (file_bytes_are a.content) settled.sound move.goal_not_own move.goal_named allowed (inl (refl, moves_name))
 
           changes : ChangesCatalog v u a.content e.content
           changes = changes_both v y u a.content d e.content (changes_both v x y a.content c d (changes_both v w x a.content b c moves.changes first.changes) second.changes) dates.changes

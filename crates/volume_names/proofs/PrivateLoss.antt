@@ -23,7 +23,7 @@ use Rattle.hfs_volume.specs.Links.{private_id}
 use Rattle.hfs_volume.specs.Naming.{MakesPrivate, RemovesFile, RmDoes, private_ids}
 use Rattle.hfs_volume.specs.Records.{Placed, entries_of, id_of, is_empty, is_placed_at, placed_in, record_at}
 use Rattle.hfs_volume.specs.Sound.{IsSoundVolume}
-use Rattle.hfs_volume.specs.TreeOf.{file_bytes, tree_in, tree_of}
+use Rattle.hfs_volume.specs.TreeOf.{bytes_in, tree_in, tree_of}
 use Rattle.hfs_volume.proofs.Bytes.{file_bytes_are}
 use Rattle.hfs_volume.proofs.Flat.{found_some, none_or_some, some_same}
 use Rattle.hfs_volume.proofs.Making.{tree_entries}
@@ -127,14 +127,14 @@ module _ (law : HeaderChanged) (v : Volume) (a : Space) (settled : IsSettled v a
     from_folder : IsFolderId (entries_of (records_of (volume_of a.content))) loss.above.id
     unfolding tree_of
     from_folder =
-        (front_is (records_of (volume_of a.content)) (volume_of a.content).head.next_catalog_id settled.sound.entries.ids settled.sound.entries.rooted (tree_in (volume_of a.content) (file_bytes a.content)) (tree_entries (volume_of a.content) (file_bytes a.content))
+        (front_is (records_of (volume_of a.content)) (volume_of a.content).head.next_catalog_id settled.sound.entries.ids settled.sound.entries.rooted (tree_in (volume_of a.content) (bytes_in a.content)) (tree_entries (volume_of a.content) (bytes_in a.content))
         path loss.above loss.not_root loss.not_own loss.reaches loss.above_is.0).0.folder
 
     not_own : ((place.parent == 2) && is_private_name place.name) ≡ false
     unfolding tree_of
     not_own =
         (λ i. (sym loss.above_is.1 i == 2) && is_private_name (sym loss.last i))
-        ∙ (front_is (records_of (volume_of a.content)) (volume_of a.content).head.next_catalog_id settled.sound.entries.ids settled.sound.entries.rooted (tree_in (volume_of a.content) (file_bytes a.content)) (tree_entries (volume_of a.content) (file_bytes a.content))
+        ∙ (front_is (records_of (volume_of a.content)) (volume_of a.content).head.next_catalog_id settled.sound.entries.ids settled.sound.entries.rooted (tree_in (volume_of a.content) (bytes_in a.content)) (tree_entries (volume_of a.content) (bytes_in a.content))
         path loss.above loss.not_root loss.not_own loss.reaches loss.above_is.0).1
 
     not_one : place.parent ≡ 1 → ⊥
@@ -190,25 +190,25 @@ module _ (law : HeaderChanged) (v : Volume) (a : Space) (settled : IsSettled v a
       both : RemovesFile at (volume_of a.content) (volume_of e)
       both = removes_both law (volume_of a.content) (volume_of b) (volume_of e) settled.sound (settled_sorted v a.content holds settled) opened.opens at lost.2.removes entry_was
 
-      allowed : to_rm (tree_in (volume_of a.content) (file_bytes a.content)) path ≡ Ok at
+      allowed : to_rm (tree_in (volume_of a.content) (bytes_in a.content)) path ≡ Ok at
       unfolding tree_of
       allowed = loss.allowed
 
-      tree_is : tree_of a.content ≡ tree_in (volume_of a.content) (file_bytes a.content)
+      tree_is : tree_of a.content ≡ tree_in (volume_of a.content) (bytes_in a.content)
       unfolding tree_of
       tree_is = refl
 
       -- the tree in between, with the bytes from before
-      tree_between : tree_in (volume_of b) (file_bytes a.content) ≡ with_private (tree_in (volume_of a.content) (file_bytes a.content))
-      tree_between = tree_opened law (volume_of a.content) (volume_of b) settled.sound opened.opens (file_bytes a.content) (file_bytes_are a.content).by_fork
+      tree_between : tree_in (volume_of b) (bytes_in a.content) ≡ with_private (tree_in (volume_of a.content) (bytes_in a.content))
+      tree_between = tree_opened law (volume_of a.content) (volume_of b) settled.sound opened.opens (bytes_in a.content) (file_bytes_are a.content).by_fork
 
       -- the private folder by itself is no other step
-      steps_same : (step (with_private (tree_in (volume_of a.content) (file_bytes a.content))) (command.Rm path)).1 ≡ (step (tree_in (volume_of a.content) (file_bytes a.content)) (command.Rm path)).1
+      steps_same : (step (with_private (tree_in (volume_of a.content) (bytes_in a.content))) (command.Rm path)).1 ≡ (step (tree_in (volume_of a.content) (bytes_in a.content)) (command.Rm path)).1
       steps_same =
-          sym ((rm path at (volume_of b) (volume_of e) (file_bytes a.content) (file_bytes_are a.content) opened.settled.sound
-          (ap (λ (t : PlainTree). to_rm t path) tree_between ∙ rm_same (tree_in (volume_of a.content) (file_bytes a.content)) path ∙ allowed) (inl lost.2.removes)).1
+          sym ((rm path at (volume_of b) (volume_of e) (bytes_in a.content) (file_bytes_are a.content) opened.settled.sound
+          (ap (λ (t : PlainTree). to_rm t path) tree_between ∙ rm_same (tree_in (volume_of a.content) (bytes_in a.content)) path ∙ allowed) (inl lost.2.removes)).1
           ∙ ap (λ (t : PlainTree). (step t (command.Rm path)).1) tree_between)
-          ∙ (rm path at (volume_of a.content) (volume_of e) (file_bytes a.content) (file_bytes_are a.content) settled.sound allowed (inl both)).1
+          ∙ (rm path at (volume_of a.content) (volume_of e) (bytes_in a.content) (file_bytes_are a.content) settled.sound allowed (inl both)).1
 
       pub lost_both : IsSettled u e × (tree_of e ≡ (step (tree_of a.content) (command.Rm path)).1) × Loses at a.content e
       lost_both = (

@@ -19,7 +19,7 @@ use Rattle.hfs_volume.specs.Laws.{HeaderChanged}
 use Rattle.hfs_volume.specs.Links.{private_id}
 use Rattle.hfs_volume.specs.Records.{Placed, entries_of, id_of, is_folder, placed_in, record_at, valence_in}
 use Rattle.hfs_volume.specs.Sound.{IsSoundVolume}
-use Rattle.hfs_volume.specs.TreeOf.{file_bytes, tree_of}
+use Rattle.hfs_volume.specs.TreeOf.{bytes_in, tree_of}
 use Rattle.hfs_volume.proofs.Ascending.{tree_sorted}
 use Rattle.hfs_volume.proofs.Bytes.{file_bytes_are}
 use Rattle.hfs_volume.proofs.Members.{each_of}
@@ -147,5 +147,5 @@ module _ (v : Volume) (a : Space) (settled : IsSettled v a.content) (absent : v.
       private_opened = record {
         settled = settled_now;
         opens = subst (λ (l : VolumeState). OpensPrivate (volume_of a.content) l) (sym (lists_told_again v u a c changes settled was settled_now.lists)) opens;
-        tree = tree_again v u a c changes settled was stands headed sound ∙ tree_opened law (volume_of a.content) (lists_then a.content u c.content) settled.sound opens (file_bytes a.content) (file_bytes_are a.content).by_fork;
+        tree = tree_again v u a c changes settled was stands headed sound ∙ tree_opened law (volume_of a.content) (lists_then a.content u c.content) settled.sound opens (bytes_in a.content) (file_bytes_are a.content).by_fork;
       }

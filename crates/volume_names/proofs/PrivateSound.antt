@@ -7,7 +7,6 @@ use Rattle.std.specs.List.{range_with_len}
 use Rattle.std.specs.Str.{bytes_eq}
 use Rattle.volume_header.specs.declared.header.VolumeHeader.{VolumeHeader}
 use Rattle.cat_records.specs.declared.record.EntryFields.{EntryFields}
-use Rattle.cat_records.specs.declared.record.FileRecord.{FileRecord}
 use Rattle.cat_records.specs.declared.record.CatRecord.{CatRecord}
 use Rattle.cat_records.specs.declared.record.CatRecord.TheVariants.{Folder, File, Thread}
 use Rattle.hfs_model.specs.Step.{private_name, with_private}
@@ -21,7 +20,7 @@ use Rattle.hfs_volume.specs.Laws.{AreEmptyForks, HeaderChanged, IsFirstPrivate, 
 use Rattle.hfs_volume.specs.Links.{HaveLinkCounts, folder_id, private_id}
 use Rattle.hfs_volume.specs.Records.{Overflow, Placed, entries_of, id_of, is_empty, is_file, is_folder, is_placed_at, is_thread, record_at, valence_in}
 use Rattle.hfs_volume.specs.Sound.{IsSoundVolume}
-use Rattle.hfs_volume.specs.TreeOf.{plain_attributes, plain_node, tree_in}
+use Rattle.hfs_volume.specs.TreeOf.{BytesOf, plain_attributes, plain_node, tree_in}
 use Rattle.hfs_volume.proofs.Adding.{added_count, added_shaped, added_side, added_used, first_private, no_child_yet}
 use Rattle.hfs_volume.proofs.AddingSeen.{tree_private}
 use Rattle.hfs_volume.proofs.Fields.{BytesBy, Views, id_of_fields, not_thread, valence_now}
@@ -86,8 +85,12 @@ module _ (law : HeaderChanged) (old new : VolumeState) (sound : IsSoundVolume ol
   abbrev folder : Placed
   folder = record { parent = 2; name = private_name; value = made.value }
 
-  facts : NewFacts true old.head.next_catalog_id old.head.modify_date (λ _. []) made.value
-  facts = new_facts true old.head.next_catalog_id old.head.modify_date (λ _. []) made.value (λ file none. refl) made.is_new
+  -- no file has a byte, nor has a value
+  abbrev no_bytes : BytesOf
+  no_bytes = record { file = λ _. []; value = λ size extents. [] }
+
+  facts : NewFacts true old.head.next_catalog_id old.head.modify_date no_bytes made.value
+  facts = new_facts true old.head.next_catalog_id old.head.modify_date no_bytes made.value (λ file none. refl) made.is_new
 
   number : id_of folder ≡ old.head.next_catalog_id
   number = facts.id
@@ -289,7 +292,7 @@ module _ (law : HeaderChanged) (old new : VolumeState) (sound : IsSoundVolume ol
 
   -- ---- the tree
 
-  pub tree_opened : (bytes_of : FileRecord → List ℕ) → BytesBy bytes_of → tree_in new bytes_of ≡ with_private (tree_in old bytes_of)
+  pub tree_opened : (bytes_of : BytesOf) → BytesBy bytes_of → tree_in new bytes_of ≡ with_private (tree_in old bytes_of)
   tree_opened bytes_of by_fork =
       fields_tree 2 made.added new made.counts bytes_of by_fork (λ n. n) (alone_views 1 0 made.counts.before made.counts.after made.counts.fields) made.counts.fields.recounted.id shaped_added
       ∙ changed_none 2 (λ n. n) (tree_in made.added bytes_of) (λ n stands same. refl)

@@ -1,5 +1,4 @@
 pub mod Changing
-pub mod Dropping
 pub mod EditsLeft
 pub mod Entering
 pub mod LinkLoads

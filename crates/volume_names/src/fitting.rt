@@ -6,8 +6,8 @@ ghost use Rattle.hfs_model.specs.Step.{is_private_path, reached};
 ghost use Rattle.hfs_model.specs.declared.plain.PlainEntry.{PlainEntry};
 ghost use Rattle.hfs_volume.specs.Content.{has_attributes};
 ghost use Rattle.hfs_volume.specs.TreeOf.{tree_of};
-ghost use Rattle.volume_base.specs.Attributing.{HasRoomToMark};
-ghost use Rattle.volume_base.specs.Fitting.{AreMet, wants};
+ghost use Rattle.volume_base.specs.Fitting.{AreMet, AreMetValued, wants};
+ghost use Rattle.volume_base.specs.Weighing.{AreUsual};
 ghost use Rattle.volume_base.specs.Frame.{Looked, Serves};
 ghost use Rattle.volume_base.specs.Losing.{HasRoomToLose};
 ghost use Rattle.volume_base.specs.Making.{HasRoomToMake, path_to};
@@ -26,7 +26,7 @@ use hx_bytes::{Trouble, Units};
 use sector_disk::SectorSpace;
 use std::alloc::Global;
 use tree_weights::{a_load_is_of_parts, a_load_says_enough, edits_have_room};
-use volume_base::{Edits, Volume, has_sector, has_tree};
+use volume_base::{Edits, OwnedValues, Volume, has_sector, has_tree};
 
 /// Whether there is a CNID behind this one.
 fn leaves_id(next: u32) -> bool
@@ -59,39 +59,41 @@ pub fn fits_make<P: SectorSpace>(volume: &Volume, space: &P) -> bool
     volume.can_edit(space, edits)
 }
 
-/// Whether there is room to remove a folder with so many attributes, by what it costs.
-pub fn fits_bare<P: SectorSpace>(volume: &Volume, space: &P, many: u32) -> bool
+/// Whether there is room to remove a folder with these attributes, by what it costs.
+pub fn fits_bare<P: SectorSpace>(volume: &Volume, space: &P, owned: OwnedValues) -> bool
     requires serves { Serves volume.now (P.SectorView.space space.now) }
-    ensures room { IsTrue result → HasRoomToBare many volume.now (P.SectorView.space space.now) }
-    ensures met { IsTrue (P.SectorView.space space.now).tells → (has_attributes volume.now.header ≡ false → many ≡ 0) → AreMet (wants 0 2 many 1) volume.now (P.SectorView.space space.now) → IsTrue result }
+    requires small { IsTrue (P.SectorView.space space.now).tells → AreUsual owned.count owned.change }
+    // They go, and none comes.
+    requires gone { owned.change.blocks ≡ 0 }
+    ensures room { IsTrue result → HasRoomToBare owned volume.now (P.SectorView.space space.now) }
+    ensures met { IsTrue (P.SectorView.space space.now).tells → (has_attributes volume.now.header ≡ false → owned.count ≡ 0) → AreMetValued (wants 0 2 owned.count 1) owned.change volume.now (P.SectorView.space space.now) → IsTrue result }
 {
     a_load_says_enough();
     a_load_is_of_parts();
     if !has_tree(volume.header.attributes_fork.logical_size) {
-        return many == 0;
+        return owned.count == 0;
     }
     let edits = Edits {
         ids: 0,
         catalog: 2,
-        attributes: many,
+        attributes: owned.count,
         updates: 1,
     };
-    volume.can_edit(space, edits)
+    volume.can_change_values(space, edits, owned.change)
 }
 
 /// The same of a folder that has some.
-pub(crate) fn fits_owner<P: SectorSpace>(volume: &Volume, space: &P, many: usize) -> bool
+pub(crate) fn fits_owner<P: SectorSpace>(volume: &Volume, space: &P, owned: OwnedValues) -> bool
     requires serves { Serves volume.now (P.SectorView.space space.now) }
-    ensures some { IsTrue result → 0 < many }
-    ensures room { IsTrue result → HasRoomToBare many volume.now (P.SectorView.space space.now) }
+    requires small { IsTrue (P.SectorView.space space.now).tells → AreUsual owned.count owned.change }
+    requires gone { owned.change.blocks ≡ 0 }
+    ensures some { IsTrue result → 0 < owned.count }
+    ensures room { IsTrue result → HasRoomToBare owned volume.now (P.SectorView.space space.now) }
 {
-    if many == 0 {
+    if owned.count == 0 {
         return false;
     }
-    if many > 0xFFFF_FFFF {
-        return false;
-    }
-    fits_bare(volume, space, many as u32)
+    fits_bare(volume, space, owned)
 }
 
 /// Whether there is room to move a folder or file.
@@ -211,26 +213,6 @@ pub fn fits_lose<P: SectorSpace>(volume: &Volume, space: &P) -> bool
         Some(_private) => true,
         None => fits_open(volume, space),
     }
-}
-
-/// Whether there is room to set an attribute and to mark its owner.
-pub fn fits_setattr<P: SectorSpace>(volume: &Volume, space: &P) -> bool
-    requires serves { Serves volume.now (P.SectorView.space space.now) }
-    ensures room { IsTrue result → HasRoomToMark 2 volume.now (P.SectorView.space space.now) }
-    ensures met { IsTrue (P.SectorView.space space.now).tells → AreMet (wants 0 0 2 1) volume.now (P.SectorView.space space.now) → IsTrue result }
-{
-    a_load_says_enough();
-    a_load_is_of_parts();
-    if !has_tree(volume.header.attributes_fork.logical_size) {
-        return volume.fits_update(space);
-    }
-    let edits = Edits {
-        ids: 0,
-        catalog: 0,
-        attributes: 2,
-        updates: 1,
-    };
-    volume.can_edit(space, edits)
 }
 
 /// The edits of a `mv` over a file with so many names, where the name that goes is a link or isn't: those by which it goes, and those of

@@ -1,9 +1,6 @@
-//! Commands that change names, links, dates and attributes of a volume in service.
+//! Commands that change names, links and dates of a volume in service.
 #![tactic(auto)]
 
-mod attribute_change;
-mod attribute_removal;
-mod attributing;
 mod baring;
 mod changing;
 mod editing;
@@ -14,7 +11,6 @@ mod heading;
 mod linking;
 mod losing;
 mod making;
-mod marking;
 mod mounting;
 mod moving;
 mod new_entries;
@@ -30,17 +26,14 @@ mod sharing;
 mod stamping;
 mod touching;
 mod unlinking;
-mod valuing;
 
-pub use attribute_change::setattr;
-pub use attribute_removal::delattr;
-pub use fitting::{fits_bare, fits_lose, fits_make, fits_move, fits_setattr};
+pub use fitting::{fits_bare, fits_lose, fits_make, fits_move};
 pub use heading::at;
 pub use linking::ln;
 pub use losing::rm;
 pub use making::{create, mkdir};
 pub use mounting::mark;
 pub use moving::mv;
-pub use remove_room::bare_count;
+pub use remove_room::values_to_remove;
 pub use removing::rmdir;
 pub use setting::chmod;

@@ -1,6 +1,7 @@
 //! `rmdir`: a folder is removed.
 ghost use Rattle.std.specs.Prelude.{◌≡◌, ◌≤◌, ◌+◌, ◌∷◌, ℕ, List, [], Ok, false, true, IsTrue, IfOk, length, OnOk};
-ghost use Rattle.attributes.specs.Owned.{count_of, names_of};
+ghost use Rattle.alloc_bitmap.specs.Map.{none};
+ghost use Rattle.attributes.specs.Owned.{names_of};
 ghost use Rattle.btree_file.specs.Frame.{PutsWithin};
 ghost use Rattle.btree_file.specs.Standing.{numbers_of};
 ghost use Rattle.hfs_language.specs.Written.{FitsPath};
@@ -15,13 +16,18 @@ ghost use Rattle.hfs_volume.specs.TreeOf.{tree_of};
 ghost use Rattle.hfs_volume.specs.Weight.{weight};
 ghost use Rattle.hfs_volume.specs.declared.cost.Cost.TheVariants as cost;
 ghost use Rattle.volume_base.specs.Changing.{HasRoomToUpdate, PutsHeader};
-ghost use Rattle.volume_base.specs.Frame.{Edits, Serves};
+ghost use Rattle.flag_rows.specs.Bits.{sectors_for};
+ghost use Rattle.std.specs.List.{Contains};
+ghost use Rattle.volume_base.specs.Frame.{Edits, Frees, Ran, Serves};
+ghost use Rattle.volume_base.specs.Holding.{KeepsUsed};
 ghost use Rattle.volume_base.specs.Lists.{lists_of};
 ghost use Rattle.volume_base.specs.Making.{entry_load, path_to};
-ghost use Rattle.volume_base.specs.Removing.{DropsFolder, HasNoAttributes, HasRoomToRemove, IsLeaving, TakesFolder, bare_load, folder_at, remove_load};
-ghost use Rattle.volume_names.specs.Removing.{HasRemoved};
+ghost use Rattle.volume_base.specs.Removing.{DropsFolder, HasNoAttributes, HasRoomToRemove, IsLeaving, TakesFolder, bare_load, folder_at, owned_at, records_owned, remove_load};
+ghost use Rattle.volume_names.specs.Removing.{HasRemoved, counting_header};
 ghost use Rattle.volume_base.specs.Room.{capacity_of};
-ghost use Rattle.volume_base.specs.Standing.{IsSettled, StandsOver};
+ghost use Rattle.volume_base.specs.Standing.{IsSettled, StandsOver, own_sectors};
+ghost use Rattle.volume_base.specs.Values.{values_owned};
+ghost use Rattle.volume_base.specs.Weighing.{AreUsual};
 
 use crate::baring::bare;
 use crate::fitting::fits_owner;
@@ -31,7 +37,7 @@ use hx_bytes::{Trouble, Units};
 use sector_disk::SectorSpace;
 use std::alloc::Global;
 use tree_weights::{edits_have_room, edits_take_their_load};
-use volume_base::{Leaving, Volume, is_private_path};
+use volume_base::{Leaving, OwnedValues, Volume, is_private_path};
 use volume_header::VolumeHeader;
 
 /// The header after a folder was removed.
@@ -47,13 +53,14 @@ fn with_folder_removed(head: &VolumeHeader) -> VolumeHeader
 /// Counts a folder less in the header, and puts it.
 fn count_off<P: SectorSpace>(volume: &mut Volume, space: &mut P)
     requires stands { StandsOver volume.old (P.SectorView.space space.old) }
-    requires some { 1 ≤ (P.SectorView.space space.old).spare }
+    requires some { 1 ≤ (counting_header (P.SectorView.space space.old)).spare }
     ensures stands { StandsOver volume.new (P.SectorView.space space.new) }
     ensures rest { volume.new ≡ record volume.old { header = with_numbers volume.old.header volume.new.header } }
     ensures header { volume.new.header ≡ with_folder_removed volume.old.header }
     ensures put { IsTrue (P.SectorView.space space.old).tells → PutsHeader volume.new (P.SectorView.space space.old).content (P.SectorView.space space.new).content }
     ensures within { PutsWithin (2 ∷ []) (P.SectorView.space space.old) (P.SectorView.space space.new) }
-    ensures spent { (P.SectorView.space space.old).spare ≤ (P.SectorView.space space.new).spare + 1 }
+    // Where it was put before, it takes no room.
+    ensures spent { (counting_header (P.SectorView.space space.old)).spare ≤ (P.SectorView.space space.new).spare + 1 }
     ensures faults { (P.SectorView.space space.new).faults ≡ (P.SectorView.space space.old).faults }
     ensures below { P.SectorView.follows space.old space.new }
 {
@@ -74,10 +81,11 @@ fn take_off<P: SectorSpace>(
     requires some { 1 ≤ length name.now }
     requires name { length name.now ≤ 255 }
     requires leaving { IsTrue (P.SectorView.space space.old).tells → IsLeaving (tree_of (P.SectorView.space space.old).content) at name.now }
-    requires room { HasRoomToRemove volume.old (P.SectorView.space space.old) }
+    requires room { HasRoomToRemove volume.old (counting_header (P.SectorView.space space.old)) }
     ensures drops { IsTrue (P.SectorView.space space.old).tells → OnOk result (DropsFolder at.parent name.now volume.old volume.new (P.SectorView.space space.old).content (P.SectorView.space space.new).content) }
     ensures room { OnOk result (HasRoomToUpdate volume.new (P.SectorView.space space.new)) }
     ensures edits { Edits P.SectorView.space P.SectorView.follows (1 + entry_load volume.old) volume.old volume.new space.old space.new result }
+    ensures counted { IsTrue (P.SectorView.space space.old).tells → (counting_header (P.SectorView.space space.old)).spare ≤ (P.SectorView.space space.new).spare + (1 + entry_load volume.old) }
 {
     edits_have_room();
     edits_take_their_load();
@@ -100,11 +108,12 @@ fn remove_folder<P: SectorSpace>(
     requires name { length name.now ≤ 255 }
     requires leaving { IsTrue (P.SectorView.space space.old).tells → IsLeaving (tree_of (P.SectorView.space space.old).content) at name.now }
     requires bare { IsTrue (P.SectorView.space space.old).tells → HasNoAttributes at.id (volume_of (P.SectorView.space space.old).content).attribute_pairs }
-    requires room { HasRoomToRemove volume.old (P.SectorView.space space.old) }
+    requires room { HasRoomToRemove volume.old (counting_header (P.SectorView.space space.old)) }
     ensures takes { IsTrue (P.SectorView.space space.old).tells → OnOk result (TakesFolder at.id (volume_of (P.SectorView.space space.old).content) (volume_of (P.SectorView.space space.new).content)) }
     ensures does { IsTrue (P.SectorView.space space.old).tells
         → OnOk result (IsSettled volume.new (P.SectorView.space space.new).content × (tree_of (P.SectorView.space space.new).content ≡ removed_folder (folder_at at name.now) (tree_of (P.SectorView.space space.old).content))) }
     ensures edits { Edits P.SectorView.space P.SectorView.follows (remove_load volume.old) volume.old volume.new space.old space.new result }
+    ensures counted { IsTrue (P.SectorView.space space.old).tells → (counting_header (P.SectorView.space space.old)).spare ≤ (P.SectorView.space space.new).spare + remove_load volume.old }
 {
     rmdir_does_its_step();
     sound_has_plain_tree();
@@ -116,29 +125,43 @@ fn remove_folder<P: SectorSpace>(
     volume.touch(alloc, space, at.parent, 0, 1)
 }
 
-/// Removes a folder without entries, after its attributes, whose names these are. `Memory` is answered too where the room that
-/// there is doesn't suffice for all of this, by what it costs.
+/// How many records these attributes have.
+fn count_records(owned: OwnedValues) -> u32
+    requires usual { AreUsual owned.count owned.change }
+    ensures { result ≡ records_owned owned }
+{
+    owned.count + owned.change.records as u32
+}
+
+/// Removes a folder without entries, after its attributes, whose values' blocks are given back. `Memory` is answered too where the room that there is
+/// doesn't suffice for all of this, by what it costs.
 fn remove_owner<P: SectorSpace>(
     volume: &mut Volume,
     alloc: Global,
     space: &mut P,
     at: Leaving,
     name: &Units,
-    owned: &[Units],
+    owned: OwnedValues,
 ) -> Result<(), Trouble>
     requires serves { Serves volume.old (P.SectorView.space space.old) }
+    requires unchanged { volume.old.map.changed ≡ none (sectors_for (length volume.old.map.used)) }
     requires some { 1 ≤ length name.now }
     requires name { length name.now ≤ 255 }
     requires leaving { IsTrue (P.SectorView.space space.old).tells → IsLeaving (tree_of (P.SectorView.space space.old).content) at name.now }
-    requires listed { IsTrue (P.SectorView.space space.old).tells → owned.now ≡ names_of at.id (lists_of volume.old (P.SectorView.space space.old).content).attribute_pairs }
+    requires counted { IsTrue (P.SectorView.space space.old).tells → owned.count ≡ length (names_of at.id (lists_of volume.old (P.SectorView.space space.old).content).attribute_pairs) }
+    requires change { IsTrue (P.SectorView.space space.old).tells → owned.change ≡ values_owned (volume_of (P.SectorView.space space.old).content) at.id }
+    requires usual { AreUsual owned.count owned.change }
+    requires gone { owned.change.blocks ≡ 0 }
     requires room { HasRoomToRemove volume.old (P.SectorView.space space.old) }
     ensures takes { IsTrue (P.SectorView.space space.old).tells → OnOk result (TakesFolder at.id (volume_of (P.SectorView.space space.old).content) (volume_of (P.SectorView.space space.new).content)) }
     ensures does { IsTrue (P.SectorView.space space.old).tells
         → OnOk result (IsSettled volume.new (P.SectorView.space space.new).content × (tree_of (P.SectorView.space space.new).content ≡ removed_folder (folder_at at name.now) (tree_of (P.SectorView.space space.old).content))) }
-    ensures edits { Edits P.SectorView.space P.SectorView.follows (remove_load volume.old + bare_load volume.old (length owned.now)) volume.old volume.new space.old space.new result }
+    ensures ran { Ran P.SectorView.space P.SectorView.follows (λ s. Contains (own_sectors volume.old) s) (bare_load owned volume.old + remove_load volume.old) volume.new space.old space.new result }
+    ensures used { KeepsUsed volume.old volume.new }
 {
     edits_have_room();
     edits_take_their_load();
+    rmdir_does_its_step();
     if volume.header.attributes_fork.logical_size == 0 {
         return Err(Trouble::Memory);
     }
@@ -146,10 +169,11 @@ fn remove_owner<P: SectorSpace>(
     if volume.attributes.file.shape().node_size < 4096 {
         return Err(Trouble::Memory);
     }
-    if !fits_owner(volume, space, owned.len()) {
+    if !fits_owner(volume, space, owned) {
         return Err(Trouble::Memory);
     }
-    bare(volume, alloc, space, at.id, owned)?;
+    let old = bare(volume, alloc, space, at.id, count_records(owned))?;
+    volume.trade_blocks(alloc, space, &old, 0)?;
     if space.spare() == 0 {
         return Err(Trouble::Memory);
     }
@@ -172,13 +196,15 @@ fn remove_bare<P: SectorSpace>(
     ensures takes { IsTrue (P.SectorView.space space.old).tells → OnOk result (TakesFolder at.id (volume_of (P.SectorView.space space.old).content) (volume_of (P.SectorView.space space.new).content)) }
     ensures does { IsTrue (P.SectorView.space space.old).tells
         → OnOk result (IsSettled volume.new (P.SectorView.space space.new).content × (tree_of (P.SectorView.space space.new).content ≡ removed_folder (folder_at at name.now) (tree_of (P.SectorView.space space.old).content))) }
-    ensures edits { Edits P.SectorView.space P.SectorView.follows (remove_load volume.old + bare_load volume.old (count_of at.id (lists_of volume.old (P.SectorView.space space.old).content).attribute_pairs)) volume.old volume.new space.old space.new result }
+    ensures spent { IsTrue (P.SectorView.space space.old).tells → (P.SectorView.space space.old).spare ≤ (P.SectorView.space space.new).spare + (bare_load (owned_at at.id (volume_of (P.SectorView.space space.old).content)) volume.old + remove_load volume.old) }
+    ensures frees { Frees P.SectorView.space P.SectorView.follows volume.old volume.new space.old space.new result }
 {
-    let owned = volume.list_attributes(alloc, space, at.id)?;
-    if owned.is_empty() {
+    let owned = volume.owned_values(alloc, space, at.id)?;
+    if owned.count == 0 {
         return remove_folder(volume, alloc, space, at, name);
     }
-    remove_owner(volume, alloc, space, at, name, owned.as_slice())
+    volume.keep();
+    remove_owner(volume, alloc, space, at, name, owned)
 }
 
 /// Removes the folder of a name under a path, or tells the first reason against it.
@@ -198,11 +224,12 @@ fn rmdir_under<P: SectorSpace>(
     ensures refused { IsTrue (P.SectorView.space space.old).tells → IfOk result (λ reply. is_refusal reply ≡ true → (P.SectorView.space space.new).content ≡ (P.SectorView.space space.old).content) }
     ensures lists { IsTrue (P.SectorView.space space.old).tells → IfOk result (λ said. said ≡ reply.Ok → HasRemoved (path_to above.now name.now) (P.SectorView.space space.old).content (P.SectorView.space space.new).content) }
     ensures serves { OnOk result (Serves volume.new (P.SectorView.space space.new)) }
-    ensures edits { Edits P.SectorView.space P.SectorView.follows (P.SectorView.space space.old).spare volume.old volume.new space.old space.new result }
+    ensures frees { Frees P.SectorView.space P.SectorView.follows volume.old volume.new space.old space.new result }
     ensures loads { IsTrue (P.SectorView.space space.old).tells → (n : ℕ) (grow : List ℕ) → weight (capacity_of volume.old) (volume_of (P.SectorView.space space.old).content) (tree_of (P.SectorView.space space.old).content) (command.Rmdir (path_to above.now name.now)) ≡ cost.Load n grow
         → (P.SectorView.space space.old).spare ≤ (P.SectorView.space space.new).spare + n }
 {
     sound_has_plain_tree();
+    rmdir_does_its_step();
     match volume.leaving(alloc, space, above, name)? {
         Ok(at) => {
             remove_bare(volume, alloc, space, at, name)?;
@@ -213,10 +240,9 @@ fn rmdir_under<P: SectorSpace>(
 }
 
 /// `rmdir`: removes the folder at a path, which has no entries; or tells the first reason against it. A path that begins
-/// with a name of the volume's own is refused. A refused command changes nothing. Its attributes go before it, one after
-/// another: where what is left of the room doesn't suffice for the next of them if it made their tree deeper and put each node
-/// that an edit may, or for the folder behind them if each of its edits did, `Memory` is answered. It comes too where memory
-/// is wanting, `Disk` where a read failed.
+/// with a name of the volume's own is refused. A refused command changes nothing. Its attributes go before it, and the blocks of their values are given
+/// back. Where the room doesn't suffice for them by what they cost, `Memory` is answered. It comes too where memory is wanting, `Disk` where a read
+/// failed.
 pub fn rmdir<P: SectorSpace>(
     volume: &mut Volume,
     alloc: Global,
@@ -235,7 +261,8 @@ pub fn rmdir<P: SectorSpace>(
     // nothing else of them is changed.
     ensures lists { IsTrue (P.SectorView.space space.old).tells → IfOk result (λ said. said ≡ reply.Ok → HasRemoved path.now (P.SectorView.space space.old).content (P.SectorView.space space.new).content) }
     ensures serves { OnOk result (Serves volume.new (P.SectorView.space space.new)) }
-    ensures edits { Edits P.SectorView.space P.SectorView.follows (P.SectorView.space space.old).spare volume.old volume.new space.old space.new result }
+    // No block that a content has in use is lost, and it puts sectors of its own alone.
+    ensures frees { Frees P.SectorView.space P.SectorView.follows volume.old volume.new space.old space.new result }
     // What its load names bounds the sectors that it puts.
     ensures loads { IsTrue (P.SectorView.space space.old).tells → (n : ℕ) (grow : List ℕ) → weight (capacity_of volume.old) (volume_of (P.SectorView.space space.old).content) (tree_of (P.SectorView.space space.old).content) (command.Rmdir path.now) ≡ cost.Load n grow
         → (P.SectorView.space space.old).spare ≤ (P.SectorView.space space.new).spare + n }

@@ -11,7 +11,8 @@ use Rattle.volume_header.specs.Refusal.{header_refusal, is_volume_size}
 use Rattle.volume_header.specs.declared.header.VolumeHeader.{VolumeHeader}
 use Rattle.volume_header.specs.declared.refusal.HeaderRefusal.TheVariants.{LimitSectors}
 use Rattle.hfs_volume.specs.Forks.{Owned, per_block_of, parts_for, data_kind, blocks_owned, fork_blocks, special_forks, reserved_blocks, bad_extents, catalog_id, allocation_id}
-use Rattle.hfs_volume.specs.Content.{VolumeState, overflow_in_volume}
+use Rattle.hfs_volume.specs.Content.{VolumeState, overflow_in_volume, attributes_of}
+use Rattle.hfs_volume.specs.Values.{blocks_of_values}
 use Rattle.hfs_volume.specs.Blocks.{forks_of, used_in}
 use Rattle.hfs_volume.proofs.Members.{each_of}
 use Rattle.hfs_volume.proofs.BlockWants.{in_range}
@@ -43,8 +44,12 @@ module _ (volume : VolumeState) (once : All (λ block. times block (used_in volu
   abbrev leaves : List ℕ
   leaves = fork_blocks (overflow_in_volume volume) catalog_id data_kind volume.head.catalog_fork
 
-  counted : (block : ℕ) → times block (used_in volume) ≡ times block reserved + times block in_forks + times block bad
-  counted block = ap (times block) (used_is volume) ∙ times-append block (reserved ++ in_forks) bad ∙ ap (λ n. n + times block bad) (times-append block reserved in_forks)
+  abbrev in_values : List ℕ
+  in_values = blocks_of_values (attributes_of volume)
+
+  counted : (block : ℕ) → times block (used_in volume) ≡ times block reserved + times block in_forks + times block bad + times block in_values
+  counted block = ap (times block) (used_is volume) ∙ times-append block (reserved ++ in_forks ++ bad) in_values
+      ∙ ap (λ n. n + times block in_values) (times-append block (reserved ++ in_forks) bad ∙ ap (λ n. n + times block bad) (times-append block reserved in_forks))
 
   lone : (block : ℕ) → Contains (blocks_written volume) block → times block (used_in volume) ≤ 1
   lone block stands = each_of (λ (b : ℕ). times b (used_in volume) ≤ 1) (blocks_written volume) once block stands

@@ -1,18 +1,18 @@
 -- What keeps a volume sound: another version in its header, and another alternate header that agrees.
-use Rattle.std.proofs.Common.{ℕ, List, [], refl}
-use Rattle.cat_records.specs.declared.record.FileRecord.{FileRecord}
+use Rattle.std.proofs.Common.{ℕ, [], refl}
 use Rattle.volume_header.specs.declared.header.VolumeHeader.{VolumeHeader}
 use Rattle.hfs_volume.specs.Content.{VolumeState}
 use Rattle.hfs_volume.specs.Attributing.{RemountKeeps}
 use Rattle.hfs_volume.specs.Blocks.{AgreesWith}
 use Rattle.hfs_volume.specs.Sound.{IsSoundVolume}
+use Rattle.hfs_volume.specs.TreeOf.{BytesOf}
 
 -- the header with another version
 abbrev pub with_version : VolumeHeader → ℕ → VolumeHeader
 with_version head version = record head { last_mounted_version = version }
 
-no_bytes : FileRecord → List ℕ
-no_bytes file = []
+no_bytes : BytesOf
+no_bytes = record { file = λ file. []; value = λ size extents. [] }
 
 pub version_sound : RemountKeeps → (volume : VolumeState) (version : ℕ) → IsSoundVolume volume → IsSoundVolume (record volume { head = with_version volume.head version })
 version_sound law volume version sound = (law (with_version volume.head version) volume no_bytes sound
@@ -34,6 +34,7 @@ alternate_sound volume alternate sound agrees = record {
       goes_on = sound.blocks.forks.goes_on;
       bad_goes_on = sound.blocks.forks.bad_goes_on;
       owned = sound.blocks.forks.owned;
+      values = sound.blocks.forks.values;
       once = sound.blocks.forks.once;
     };
     bits = record { bits = sound.blocks.bits.bits; free = sound.blocks.bits.free };

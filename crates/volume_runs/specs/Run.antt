@@ -17,7 +17,7 @@ use Rattle.hfs_volume.specs.Content.{VolumeState, volume_of}
 use Rattle.hfs_volume.specs.Sound.{IsSound}
 use Rattle.hfs_volume.specs.TreeOf.{tree_of}
 use Rattle.hfs_volume.specs.Weight.{changes_nothing, data_of, weight, gauge, edits_of, needs_cut}
-use Rattle.hfs_volume.specs.Data.{PutsInFork}
+use Rattle.hfs_volume.specs.Data.{PutsInFork, PutsInValues}
 use Rattle.hfs_volume.specs.Reclaim.{GrowsTrees}
 use Rattle.volume_runs.specs.Rest.{Rests}
 
@@ -45,13 +45,15 @@ reply_to capacity content (Ok command.Df) = reply.Gauge (gauge capacity (volume_
 reply_to capacity content asked = (step_line (tree_of content) asked).0
 
 -- A command that its step doesn't refuse was done: nothing was missing for it, no tree had to grow for it any more, and no blocks past the size
--- stood in its way; no tree has other nodes, and of the forks only the one that it writes has other blocks.
+-- stood in its way; no tree has other nodes, of the forks only the one that it writes has other blocks, and of the values of attributes only those
+-- that it sets or drops.
 pub record IsDone (capacity : ℕ) (asked : Command) (old new : Content) : Type 0 where
   pub load : ℕ
   pub affords : weight capacity (volume_of old) (tree_of old) asked ≡ cost.Load load (0 ∷ 0 ∷ 0 ∷ [])
   pub no_surplus : needs_cut (volume_of old) (data_of (tree_of old) asked) ≡ false
   pub grows : GrowsTrees (0 ∷ 0 ∷ 0 ∷ []) (volume_of old) (volume_of new)
   pub forks : PutsInFork (data_of (tree_of old) asked) (volume_of old) (volume_of new)
+  pub values : PutsInValues (tree_of old) asked (volume_of old) (volume_of new)
   pub reads : IsTrue (only_reads asked || changes_nothing (tree_of old) asked) → new ≡ old
 
 -- what a line does to a content: nothing where it is refused

@@ -8,16 +8,18 @@ use Rattle.hfs_language.specs.declared.refusal.Refusal.{Refusal}
 use Rattle.hfs_volume.specs.Content.{volume_of}
 use Rattle.hfs_volume.specs.Cost.{cost_of, cost_or, load_of, load_refusal, plan_of, resource_refusal}
 use Rattle.hfs_volume.specs.Reclaim.{DropAttribute, DropOrphan, Reclaim, reclaim_cost, reclaim_cost_with}
-use Rattle.hfs_volume.specs.Weight.{cut_cost, cut_load, free_blocks, room_with}
+use Rattle.hfs_volume.specs.Weight.{cut_cost, cut_load, free_blocks, room_with, value_change}
 use Rattle.hfs_volume.specs.declared.cost.Cost.{Cost}
 use Rattle.hfs_volume.specs.declared.cost.Cost.TheVariants as cost
 use Rattle.hfs_volume.specs.declared.cost.Needs.{Needs}
 use Rattle.hfs_volume.specs.declared.cost.Room.{Room}
 use Rattle.volume_space.specs.Cutting.{IsCut}
+use Rattle.hfs_volume.specs.declared.cost.ValueChange.{ValueChange}
 use Rattle.volume_space.specs.Orphans.{AffordsStep, TidiesAs, bare_edits, drop_edits, grows_none}
+use Rattle.volume_space.proofs.BareCost.{bare_cost_is}
 use Rattle.volume_base.specs.Room.{capacity_of, free_in, room_on}
 use Rattle.volume_base.specs.Standing.{IsSettled}
-use Rattle.volume_base.specs.Weighing.{needs_asked}
+use Rattle.volume_base.specs.Weighing.{needs_asked, needs_valued}
 use Rattle.volume_base.specs.declared.room.FreeBlocks.TheVariants as blocks
 use Rattle.volume_space.specs.declared.tidying.Tidying.{Tidying}
 use Rattle.volume_base.specs.declared.volume.Volume.{Volume}
@@ -63,10 +65,14 @@ pub affords_by : (v : Volume) (content : Content) → IsSettled v content → (f
 unfolding reclaim_cost_with
 affords_by v content settled found is none id = let it = load_by v content settled drop_edits found is none in record { load = it.0; affords = it.1 }
 
-pub affords_bare_by : (v : Volume) (content : Content) → IsSettled v content → (found : Cost) → found ≡ cost_of (needs_asked bare_edits) (room_with (capacity_of v) (free_in blocks.All v.map) (volume_of content)) → grows_none found ≡ true → (id : ℕ) (name : List ℕ)
-    → AffordsStep (capacity_of v) content (DropAttribute id name)
-unfolding reclaim_cost_with
-affords_bare_by v content settled found is none id name = let it = load_by v content settled bare_edits found is none in record { load = it.0; affords = it.1 }
+pub affords_bare_by : (v : Volume) (content : Content) → IsSettled v content → (change : ValueChange) (found : Cost) → found ≡ cost_of (needs_valued (free_in blocks.All v.map) bare_edits change) (room_with (capacity_of v) (free_in blocks.All v.map) (volume_of content)) → grows_none found ≡ true
+    → (id : ℕ) (name : List ℕ) → change ≡ value_change (volume_of content) id name 0 → AffordsStep (capacity_of v) content (DropAttribute id name)
+affords_bare_by v content settled change (cost.Refused why) is none id name same = absurd (true≢false (sym none))
+affords_bare_by v content settled change (cost.Load load grow) is none id name same = record {
+  load = load;
+  affords = bare_cost_is v content settled change (cost.Load load grow) is id name same
+      ∙ ap (cost.Load load) (zeros grow (three_of (needs_valued (free_in blocks.All v.map) bare_edits change) (room_with (capacity_of v) (free_in blocks.All v.map) (volume_of content)) load grow (sym is)) none);
+}
 
 -- ---- cuts
 

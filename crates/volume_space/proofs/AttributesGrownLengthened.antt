@@ -15,7 +15,7 @@ use Rattle.sector_disk.specs.Space.{Space}
 use Rattle.hfs_volume.specs.Aside.{IsJournalSector}
 use Rattle.hfs_volume.specs.Content.{has_attributes}
 use Rattle.volume_space.specs.Growing.{CanGrowAttributes, IsOwnOrFree, LengthensAttributes, TakesRun, blocks_filled, lengthened_attributes, nodes_load, run_load, with_attributes}
-use Rattle.volume_space.specs.Mapping.{HoldsUnchanged, changed_sectors}
+use Rattle.volume_base.specs.Mapping.{HoldsUnchanged, changed_sectors}
 use Rattle.volume_base.specs.Service.{IsInService}
 use Rattle.volume_base.specs.Standing.{IsSettled, StandsOver, map_sectors, own_sectors}
 use Rattle.volume_base.specs.Touching.{Touches}

@@ -13,17 +13,18 @@ use Rattle.btree_file.specs.State.{sectors_of_tree}
 use Rattle.btree_file.specs.declared.tree.TreeFile.{TreeFile}
 use Rattle.sector_disk.specs.Lists.{sector}
 use Rattle.sector_disk.specs.Space.{Space}
-use Rattle.hfs_volume.specs.Content.{VolumeState, has_attributes, volume_of}
+use Rattle.hfs_volume.specs.Content.{VolumeState, attributes_of, has_attributes, volume_of}
 use Rattle.hfs_volume.specs.Forks.{attributes_id, catalog_id, data_kind, extents_id}
 use Rattle.hfs_volume.specs.Links.{private_id}
 use Rattle.hfs_volume.specs.Records.{placed_in}
-use Rattle.hfs_volume.specs.Reclaim.{GrowsTree, GrowsTrees, blocks_at}
+use Rattle.hfs_volume.specs.Reclaim.{GrowsTree, GrowsTrees, SameValues, blocks_at}
 use Rattle.hfs_volume.specs.Sound.{IsSoundVolume}
-use Rattle.hfs_volume.specs.TreeOf.{file_bytes, tree_in, tree_of}
+use Rattle.hfs_volume.specs.TreeOf.{bytes_in, tree_in, tree_of}
+use Rattle.hfs_volume.specs.Values.{value_blocks}
 use Rattle.hfs_volume.specs.Writing.{GrowthKeeps}
 use Rattle.volume_space.specs.Growing.{HeadGrows, KeepsForks, TakesRun, lengthened_attributes, with_attributes}
 use Rattle.volume_base.specs.Lists.{bits_on, facts_on, lists_of}
-use Rattle.volume_space.specs.Mapping.{HoldsMap}
+use Rattle.volume_base.specs.Mapping.{HoldsMap}
 use Rattle.volume_base.specs.Standing.{IsSettled, IsStanding, map_sectors, with_attributes_tree}
 use Rattle.volume_base.specs.declared.volume.Volume.{Volume}
 use Rattle.volume_base.proofs.FilesKept.{allocation_sectors, attributes_sectors, tree_stays_beside}
@@ -53,10 +54,11 @@ module _ (v : Volume) (a b : Space) (was : IsStanding v a) (settled : IsSettled 
     fresh = blocks_of (run ∷ [])
 
     by_law : IsSoundVolume (lists_grown v a b was settled there count run later takes some file grown within tells eight few more counted nodes whole)
-        × (tree_in (lists_grown v a b was settled there count run later takes some file grown within tells eight few more counted nodes whole) (file_bytes a.content) ≡ tree_in (volume_of a.content) (file_bytes a.content))
+        × (tree_in (lists_grown v a b was settled there count run later takes some file grown within tells eight few more counted nodes whole) (bytes_in a.content) ≡ tree_in (volume_of a.content) (bytes_in a.content))
         × GrowsTree attributes_id more (volume_of a.content) (lists_grown v a b was settled there count run later takes some file grown within tells eight few more counted nodes whole)
         × ((other kind : ℕ) → (other ≢ attributes_id) ⊎ (kind ≢ data_kind) → blocks_at (lists_grown v a b was settled there count run later takes some file grown within tells eight few more counted nodes whole) other kind ≡ blocks_at (volume_of a.content) other kind)
-    by_law = law attributes_id more (blocks_of (run ∷ [])) (volume_of a.content) (lists_grown v a b was settled there count run later takes some file grown within tells eight few more counted nodes whole) (file_bytes a.content) (inr (inr refl)) settled.sound
+        × SameValues (volume_of a.content) (lists_grown v a b was settled there count run later takes some file grown within tells eight few more counted nodes whole)
+    by_law = law attributes_id more (blocks_of (run ∷ [])) (volume_of a.content) (lists_grown v a b was settled there count run later takes some file grown within tells eight few more counted nodes whole) (bytes_in a.content) (inr (inr refl)) settled.sound
         (grows_counted v a b was settled there count run later takes some file grown within tells eight few more counted nodes whole)
 
     fits : length later.used ≤ 8 * v.header.allocation_fork.logical_size
@@ -88,8 +90,11 @@ module _ (v : Volume) (a b : Space) (was : IsStanding v a) (settled : IsSettled 
 
     -- ---- every other fork
 
+    others_kept : (other kind : ℕ) → (other ≢ attributes_id) ⊎ (kind ≢ data_kind) → blocks_at (volume_of d.content) other kind ≡ blocks_at (volume_of a.content) other kind
+    others_kept other kind differs = ap (λ (l : VolumeState). blocks_at l other kind) volume_now ∙ by_law.3 other kind differs
+
     pub forks_kept : KeepsForks attributes_id (volume_of a.content) (volume_of d.content)
-    forks_kept other kind differs = ap (λ (l : VolumeState). blocks_at l other kind) volume_now ∙ by_law.3 other kind differs
+    forks_kept = (others_kept, λ id name. ap (λ (l : VolumeState). value_blocks (attributes_of l) id name) volume_now ∙ by_law.4 id name)
 
     -- ---- the sectors that are as they were
 
@@ -125,7 +130,7 @@ module _ (v : Volume) (a b : Space) (was : IsStanding v a) (settled : IsSettled 
     pub tree_same : tree_of d.content ≡ tree_of a.content
     unfolding tree_of
     tree_same =
-        ap (λ (l : VolumeState). tree_in l (file_bytes d.content)) volume_now
+        ap (λ (l : VolumeState). tree_in l (bytes_in d.content)) volume_now
         ∙ tree_stays_beside grown_lists by_law.0 a.content d.content
         (record {
           overflow = refl;
@@ -147,12 +152,12 @@ module _ (v : Volume) (a b : Space) (was : IsStanding v a) (settled : IsSettled 
       extents = record {
         nodes = omega (arith, ap (λ (l : VolumeState). l.extents_tree.shape.total) volume_now);
         blocks = same_fork (volume_of a.content).extents_tree.shape.node_size (volume_of a.content).head.block_size (blocks_at (volume_of a.content) extents_id data_kind) (blocks_at (volume_of d.content) extents_id data_kind)
-            (forks_kept extents_id data_kind (inl (λ same. absurd (omega (arith, same)))));
+            (others_kept extents_id data_kind (inl (λ same. absurd (omega (arith, same)))));
       };
       catalog = record {
         nodes = omega (arith, ap (λ (l : VolumeState). l.catalog_tree.shape.total) volume_now);
         blocks = same_fork (volume_of a.content).catalog_tree.shape.node_size (volume_of a.content).head.block_size (blocks_at (volume_of a.content) catalog_id data_kind) (blocks_at (volume_of d.content) catalog_id data_kind)
-            (forks_kept catalog_id data_kind (inl (λ same. absurd (omega (arith, same)))));
+            (others_kept catalog_id data_kind (inl (λ same. absurd (omega (arith, same)))));
       };
       attributes = subst (λ (l : VolumeState). GrowsTree attributes_id more (volume_of a.content) l) (sym volume_now) (record { nodes = by_law.2.nodes; blocks = by_law.2.blocks });
     }

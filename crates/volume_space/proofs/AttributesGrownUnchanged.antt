@@ -12,7 +12,7 @@ use Rattle.sector_disk.specs.Space.{Space}
 use Rattle.hfs_volume.specs.Content.{VolumeState, has_attributes}
 use Rattle.volume_space.specs.Growing.{TakesRun, lengthened_attributes}
 use Rattle.volume_base.specs.Lists.{bits_on}
-use Rattle.volume_space.specs.Mapping.{HoldsUnchanged}
+use Rattle.volume_base.specs.Mapping.{HoldsUnchanged}
 use Rattle.volume_base.specs.Standing.{IsSettled, IsStanding, map_sectors}
 use Rattle.volume_base.specs.declared.volume.Volume.{Volume}
 use Rattle.volume_space.proofs.GrownBits.{bit_elsewhere, bits_hold, unchanged_has}

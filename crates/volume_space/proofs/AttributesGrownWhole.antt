@@ -16,7 +16,7 @@ use Rattle.hfs_volume.proofs.Members.{first_or_later}
 use Rattle.volume_base.specs.Changing.{PutsHeader}
 use Rattle.volume_space.specs.Growing.{CanGrowAttributes, GrowsAttributes, HeadGrows, KeepsForks, LengthensAttributes, blocks_filled, lengthened_attributes, with_attributes}
 use Rattle.volume_base.specs.Lists.{lists_of}
-use Rattle.volume_space.specs.Mapping.{HoldsMap, PutsMap}
+use Rattle.volume_base.specs.Mapping.{HoldsMap, PutsMap}
 use Rattle.volume_base.specs.Standing.{IsSettled, IsStanding, StandsOver, attribute_sectors, file_sectors, map_sectors}
 use Rattle.volume_base.specs.declared.volume.Volume.{Volume}
 use Rattle.volume_space.proofs.GrownBits.{bit_elsewhere}

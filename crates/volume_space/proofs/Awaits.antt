@@ -7,19 +7,21 @@ use Rattle.jnl_format.specs.Recovery.{Content}
 use Rattle.hfs_volume.specs.Content.{volume_of}
 use Rattle.hfs_volume.specs.Cost.{cost_of}
 use Rattle.hfs_volume.specs.Reclaim.{DropAttribute, DropOrphan, Reclaim, first_growth, next_reclaim, reclaim_cost, reclaim_cost_with}
-use Rattle.hfs_volume.specs.Weight.{free_blocks, room_with}
+use Rattle.hfs_volume.specs.Weight.{free_blocks, room_with, value_change}
 use Rattle.hfs_volume.specs.declared.cost.Cost.{Cost}
 use Rattle.hfs_volume.specs.declared.cost.Cost.TheVariants as cost
 use Rattle.volume_base.specs.Room.{capacity_of, free_in}
 use Rattle.volume_base.specs.Standing.{IsSettled}
-use Rattle.volume_base.specs.Weighing.{needs_asked}
+use Rattle.volume_base.specs.Weighing.{needs_asked, needs_valued}
 use Rattle.volume_base.specs.declared.room.FreeBlocks.TheVariants as blocks
 use Rattle.volume_base.specs.declared.volume.Volume.{Volume}
 use Rattle.volume_base.specs.declared.weighing.Edits.{Edits}
 use Rattle.volume_base.proofs.RoomKept.{free_content}
 use Rattle.volume_space.specs.Awaiting.{AwaitsGrowth, StepAwaits, first_wanted}
 use Rattle.volume_space.specs.Growing.{alone}
+use Rattle.hfs_volume.specs.declared.cost.ValueChange.{ValueChange}
 use Rattle.volume_space.specs.Orphans.{bare_edits, drop_edits}
+use Rattle.volume_space.proofs.BareCost.{bare_cost_is}
 use Rattle.volume_space.specs.declared.ahead.WhichTree.TheVariants as which
 use Rattle.volume_space.specs.declared.awaiting.TreeWanted.{TreeWanted}
 
@@ -81,10 +83,6 @@ module _ (v : Volume) (content : Content) (settled : IsSettled v content) where
   unfolding reclaim_cost_with
   drop_cost found is id = cost_is drop_edits found is
 
-  bare_cost : (found : Cost) → found ≡ cost_of (needs_asked bare_edits) (room_with (capacity_of v) (free_in blocks.All v.map) (volume_of content)) → (id : ℕ) (name : List ℕ) → reclaim_cost (capacity_of v) (volume_of content) (DropAttribute id name) ≡ found
-  unfolding reclaim_cost_with
-  bare_cost found is id name = cost_is bare_edits found is
-
   each : {X : Type 0} (P : X → TreeWanted → Type 0) (o : Option TreeWanted) → ((x : X) → IfSome o (P x)) → IfSome o (λ w. (x : X) → P x w)
   each P None all = tt
   each P (Some w) all = all
@@ -93,11 +91,12 @@ module _ (v : Volume) (content : Content) (settled : IsSettled v content) where
       → IfSome o (λ wanted. (id : ℕ) → StepAwaits (capacity_of v) content (DropOrphan id) wanted)
   drop_awaits found is o same = each (λ id. StepAwaits (capacity_of v) content (DropOrphan id)) o (λ id. subst (λ (p : Option TreeWanted). IfSome p (StepAwaits (capacity_of v) content (DropOrphan id))) (sym same) (by_cost (capacity_of v) content (DropOrphan id) found (drop_cost found is id)))
 
-  pub bare_awaits : (found : Cost) → found ≡ cost_of (needs_asked bare_edits) (room_with (capacity_of v) (free_in blocks.All v.map) (volume_of content)) → (o : Option TreeWanted) → o ≡ first_wanted found
-      → IfSome o (λ wanted. (id : ℕ) (name : List ℕ) → StepAwaits (capacity_of v) content (DropAttribute id name) wanted)
-  bare_awaits found is o same = twice o (λ id name. subst (λ (p : Option TreeWanted). IfSome p (StepAwaits (capacity_of v) content (DropAttribute id name))) (sym same) (by_cost (capacity_of v) content (DropAttribute id name) found (bare_cost found is id name)))
+  pub bare_awaits : (change : ValueChange) (found : Cost) → found ≡ cost_of (needs_valued (free_in blocks.All v.map) bare_edits change) (room_with (capacity_of v) (free_in blocks.All v.map) (volume_of content)) → (o : Option TreeWanted) → o ≡ first_wanted found
+      → IfSome o (λ wanted. (id : ℕ) (name : List ℕ) → change ≡ value_change (volume_of content) id name 0 → StepAwaits (capacity_of v) content (DropAttribute id name) wanted)
+  bare_awaits change found is o same = twice o (λ id name its. subst (λ (p : Option TreeWanted). IfSome p (StepAwaits (capacity_of v) content (DropAttribute id name))) (sym same) (by_cost (capacity_of v) content (DropAttribute id name) found (bare_cost_is v content settled change found is id name its)))
     where
-      twice : (p : Option TreeWanted) → ((id : ℕ) (name : List ℕ) → IfSome p (StepAwaits (capacity_of v) content (DropAttribute id name))) → IfSome p (λ w. (id : ℕ) (name : List ℕ) → StepAwaits (capacity_of v) content (DropAttribute id name) w)
+      twice : (p : Option TreeWanted) → ((id : ℕ) (name : List ℕ) → change ≡ value_change (volume_of content) id name 0 → IfSome p (StepAwaits (capacity_of v) content (DropAttribute id name)))
+          → IfSome p (λ w. (id : ℕ) (name : List ℕ) → change ≡ value_change (volume_of content) id name 0 → StepAwaits (capacity_of v) content (DropAttribute id name) w)
       twice None all = tt
       twice (Some w) all = all
 
@@ -115,11 +114,18 @@ awaited_behind before between same capacity first one shrunk file two r was =
     subst (λ (k : Content × ℕ × Option ℕ). IfOk r (λ (found : Option TreeWanted). IfSome found (AwaitsGrowth k.1 k.2 k.0))) {x = (between, first, file)} {y = (before, capacity, shrunk)} (λ i. (same i, one i, two i)) was
 
 -- a drop of an attribute, or of an entry, that awaits a growth behind reads
-pub bare_next : (before between : Content) → between ≡ before → (capacity first : ℕ) → first ≡ capacity → (shrunk : Option ℕ) (id : ℕ) (name : List ℕ) → next_reclaim (volume_of before) shrunk ≡ Some (DropAttribute id name) → (o : Option TreeWanted)
-    → IfSome o (λ w. (i : ℕ) (n : List ℕ) → StepAwaits first between (DropAttribute i n) w) → IfSome o (AwaitsGrowth capacity shrunk before)
-bare_next before between same capacity first one shrunk id name next None told = tt
-bare_next before between same capacity first one shrunk id name next (Some w) told =
-    (DropAttribute id name, next, subst (λ (k : Content × ℕ). StepAwaits k.1 k.0 (DropAttribute id name) w) {x = (between, first)} {y = (before, capacity)} (λ i. (same i, one i)) (told id name))
+pub value_next : (before between : Content) → between ≡ before → (capacity first : ℕ) → first ≡ capacity → (change : ValueChange) (id : ℕ) (name : List ℕ) → change ≡ value_change (volume_of before) id name 0 → (o : Option TreeWanted)
+    → IfSome o (λ w. (i : ℕ) (n : List ℕ) → change ≡ value_change (volume_of between) i n 0 → StepAwaits first between (DropAttribute i n) w) → IfSome o (StepAwaits capacity before (DropAttribute id name))
+value_next before between same capacity first one change id name its None told = tt
+value_next before between same capacity first one change id name its (Some w) told =
+    subst (λ (k : Content × ℕ). StepAwaits k.1 k.0 (DropAttribute id name) w) {x = (between, first)} {y = (before, capacity)} (λ i. (same i, one i)) (told id name (its ∙ ap (λ (k : Content). value_change (volume_of k) id name 0) (sym same)))
+
+pub bare_next : (before between : Content) → between ≡ before → (capacity first : ℕ) → first ≡ capacity → (shrunk : Option ℕ) (id : ℕ) (name : List ℕ) → next_reclaim (volume_of before) shrunk ≡ Some (DropAttribute id name) → (r : Result (Option TreeWanted) Trouble)
+    → IfOk r (λ o. IfSome o (StepAwaits first between (DropAttribute id name))) → IfOk r (λ o. IfSome o (AwaitsGrowth capacity shrunk before))
+bare_next before between same capacity first one shrunk id name next (Err why) told = tt
+bare_next before between same capacity first one shrunk id name next (Ok None) told = tt
+bare_next before between same capacity first one shrunk id name next (Ok (Some w)) told =
+    (DropAttribute id name, next, subst (λ (k : Content × ℕ). StepAwaits k.1 k.0 (DropAttribute id name) w) {x = (between, first)} {y = (before, capacity)} (λ i. (same i, one i)) told)
 
 pub drop_next : (before between : Content) → between ≡ before → (capacity first : ℕ) → first ≡ capacity → (shrunk : Option ℕ) (id : ℕ) → next_reclaim (volume_of before) shrunk ≡ Some (DropOrphan id) → (o : Option TreeWanted)
     → IfSome o (λ w. (i : ℕ) → StepAwaits first between (DropOrphan i) w) → IfSome o (AwaitsGrowth capacity shrunk before)

@@ -29,7 +29,7 @@ use Rattle.hfs_volume.specs.Links.{orphans_of}
 use Rattle.hfs_volume.specs.Records.{Placed, overflow_of, entries_of, id_in, id_of, is_link_type, is_placed_at}
 use Rattle.hfs_volume.specs.Reclaim.{CutOrphan, CutShrunk, Does, IsTreeFork, Reclaim, blocks_at, blocks_wanted, next_reclaim}
 use Rattle.hfs_volume.specs.Sound.{IsSound, IsSoundVolume}
-use Rattle.hfs_volume.specs.TreeOf.{file_bytes, tree_in, tree_of}
+use Rattle.hfs_volume.specs.TreeOf.{bytes_in, tree_in, tree_of}
 use Rattle.hfs_volume.specs.Writing.{CutsBlocks, IsPutSector, KeepsOthers, OrphanCut, OthersKeepBytes, ShrunkCut}
 use Rattle.hfs_volume.proofs.BlockWants.{in_range}
 use Rattle.hfs_volume.proofs.Flat.{found_some}
@@ -124,7 +124,7 @@ module _ (v x w : Volume) (a c e d : Space) (was : IsStanding v a) (settled : Is
         by s (inl same) (inl later) (inr (inl two)) = inr (subst (IsPutSector a.content) (sym two) put_head)
         by s (inl same) (inl later) (inr (inr has)) = inr (put_map s (subst (λ (l : List ℕ). Contains l s) map_is has))
 
-    pub others : OthersKeepBytes → KeepsOthers file.fields.id (volume_of a.content) (file_bytes a.content) (file_bytes d.content)
+    pub others : OthersKeepBytes → KeepsOthers file.fields.id (volume_of a.content) (bytes_in a.content) (bytes_in d.content)
     others law = law file.fields.id kind is_cut.last.left cut.goes.count [] a.content d.content new (sound_here v a was settled) (does v x w a c e d was settled entry file list kind keep cut may unchanged is_kind is_list is_cut no_link there is puts stores replaces stands).puts
         (ap (λ (l : VolumeState). l.head) (volume_now v x w a c e d was settled entry file list kind keep cut may unchanged is_kind is_list is_cut no_link there is puts stores replaces stands)) (ap (λ (l : VolumeState). l.overflow_pairs) (volume_now v x w a c e d was settled entry file list kind keep cut may unchanged is_kind is_list is_cut no_link there is puts stores replaces stands)) agrees
 
@@ -174,17 +174,17 @@ module _ (v x w : Volume) (a c e d : Space) (was : IsStanding v a) (settled : Is
           forks = λ id other tree. ap (λ (l : VolumeState). blocks_at l id other) (volume_now v x w a c e d was settled entry file list kind keep cut may unchanged is_kind is_list is_cut no_link there is puts stores replaces stands) ∙ forks id other tree;
         }
 
-    pub tree_same : tree_in new (file_bytes d.content) ≡ tree_in (volume_of a.content) (file_bytes a.content) → tree_of d.content ≡ tree_of a.content
+    pub tree_same : tree_in new (bytes_in d.content) ≡ tree_in (volume_of a.content) (bytes_in a.content) → tree_of d.content ≡ tree_of a.content
     unfolding tree_of
-    tree_same same = ap (λ (l : VolumeState). tree_in l (file_bytes d.content)) (volume_now v x w a c e d was settled entry file list kind keep cut may unchanged is_kind is_list is_cut no_link there is puts stores replaces stands) ∙ tree_without new (volume_of d.content).attributes_tree (file_bytes d.content) ∙ same
+    tree_same same = ap (λ (l : VolumeState). tree_in l (bytes_in d.content)) (volume_now v x w a c e d was settled entry file list kind keep cut may unchanged is_kind is_list is_cut no_link there is puts stores replaces stands) ∙ tree_without new (volume_of d.content).attributes_tree (bytes_in d.content) ∙ same
 
     -- ---- a file that lost its last name
 
     module _ (law : OrphanCut) (bytes : OthersKeepBytes) (shrunk : Option ℕ) (next : next_reclaim (volume_of a.content) shrunk ≡ Some (CutOrphan file.fields.id kind)) (orphan : Placed) (waits : Contains (orphans_of (records_of (volume_of a.content))) orphan) (its : id_of orphan ≡ file.fields.id) where
-      by_orphan : IsSoundVolume new × (tree_in new (file_bytes d.content) ≡ tree_in (volume_of a.content) (file_bytes a.content)) × Does (CutOrphan file.fields.id kind) (volume_of a.content) new
-      by_orphan = subst (λ n. KeepsOthers n (volume_of a.content) (file_bytes a.content) (file_bytes d.content) → CutsBlocks n kind is_cut.last.left cut.goes.count (volume_of a.content) new
-          → IsSoundVolume new × (tree_in new (file_bytes d.content) ≡ tree_in (volume_of a.content) (file_bytes a.content)) × Does (CutOrphan n kind) (volume_of a.content) new) its
-          (λ kept cuts. law orphan kind is_cut.last.left cut.goes.count (volume_of a.content) new (file_bytes a.content) (file_bytes d.content) settled.sound waits cuts kept) (others bytes) (does v x w a c e d was settled entry file list kind keep cut may unchanged is_kind is_list is_cut no_link there is puts stores replaces stands)
+      by_orphan : IsSoundVolume new × (tree_in new (bytes_in d.content) ≡ tree_in (volume_of a.content) (bytes_in a.content)) × Does (CutOrphan file.fields.id kind) (volume_of a.content) new
+      by_orphan = subst (λ n. KeepsOthers n (volume_of a.content) (bytes_in a.content) (bytes_in d.content) → CutsBlocks n kind is_cut.last.left cut.goes.count (volume_of a.content) new
+          → IsSoundVolume new × (tree_in new (bytes_in d.content) ≡ tree_in (volume_of a.content) (bytes_in a.content)) × Does (CutOrphan n kind) (volume_of a.content) new) its
+          (λ kept cuts. law orphan kind is_cut.last.left cut.goes.count (volume_of a.content) new (bytes_in a.content) (bytes_in d.content) settled.sound waits cuts kept) (others bytes) (does v x w a c e d was settled entry file list kind keep cut may unchanged is_kind is_list is_cut no_link there is puts stores replaces stands)
 
       pub orphan_done : IsSettled w d.content × CutsFile shrunk a.content d.content
       orphan_done = (
@@ -193,7 +193,7 @@ module _ (v x w : Volume) (a c e d : Space) (was : IsStanding v a) (settled : Is
           step = CutOrphan file.fields.id kind;
           is_cut = inr (file.fields.id, kind, refl);
           next = next;
-          does = subst (λ (l : VolumeState). Does (CutOrphan file.fields.id kind) (volume_of a.content) l) (sym (volume_now v x w a c e d was settled entry file list kind keep cut may unchanged is_kind is_list is_cut no_link there is puts stores replaces stands)) (record { cut = by_orphan.2.cut; others = by_orphan.2.others });
+          does = subst (λ (l : VolumeState). Does (CutOrphan file.fields.id kind) (volume_of a.content) l) (sym (volume_now v x w a c e d was settled entry file list kind keep cut may unchanged is_kind is_list is_cut no_link there is puts stores replaces stands)) (record { cut = by_orphan.2.cut; others = by_orphan.2.others; values = by_orphan.2.values });
           keeps = keeps (λ id other tree. by_orphan.2.others id other (inl (λ same. absurd (omega (arith, same, high_id, low_tree id tree)))));
           tree = tree_same by_orphan.1;
         },

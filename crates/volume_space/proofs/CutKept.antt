@@ -1,4 +1,5 @@
 -- A keep ahead of a cut: the volume has the lists, the sectors of its own, the blocks and the loads that it had.
+use Rattle.volume_base.proofs.KeptMarks.{holds_kept}
 use Rattle.std.proofs.Common.{◌≡◌, ◌+◌, ◌<◌, ◌^◌, Bool, List, [], ◌∷◌, ◌++◌, refl, sym, ◌∙◌, subst}
 use Rattle.std.specs.Prelude.{true, IsTrue, if◌then◌else◌}
 use Rattle.alloc_bitmap.specs.Map.{Have}
@@ -7,16 +8,13 @@ use Rattle.fork_map.specs.Blocks.{fork_sectors}
 use Rattle.hx_bytes.specs.declared.extents.Extent.{Extent}
 use Rattle.hfs_volume.specs.Content.{has_attributes}
 use Rattle.volume_header.specs.declared.header.VolumeHeader.{VolumeHeader}
-use Rattle.volume_space.specs.Cutting.{KeepsUsed, MayGive, trim_load}
+use Rattle.volume_space.specs.Cutting.{MayGive, trim_load}
+use Rattle.volume_base.specs.Holding.{KeepsUsed}
 use Rattle.volume_base.specs.Keeping.{Keeps}
 use Rattle.volume_base.specs.Standing.{own_sectors}
 use Rattle.volume_base.specs.declared.volume.Volume.{Volume}
-use Rattle.volume_space.proofs.WhenKept.{holds_kept}
 
 module _ (v w : Volume) (keeps : Keeps v w) where
-  pub own_kept : own_sectors w ≡ own_sectors v
-  own_kept = λ i. 2 ∷ sectors_of_tree (keeps.same.extents i).file ++ (sectors_of_tree (keeps.same.catalog i).file ++ ((if has_attributes (keeps.same.header i) then sectors_of_tree (keeps.same.attributes i).file else []) ++ fork_sectors (keeps.same.fork i) (keeps.same.per_block i)))
-
   pub may_kept : (run : Extent) → MayGive run v → MayGive run w
   may_kept run may = record {
     used = subst (λ (l : List Bool). Have l run true) (sym keeps.same.used) may.used;

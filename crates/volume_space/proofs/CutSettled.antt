@@ -43,7 +43,7 @@ use Rattle.volume_base.specs.Changing.{ReplacesRecord}
 use Rattle.volume_base.specs.Cutting.{IsCutOf, cut_fork_of, fork_at, with_freed}
 use Rattle.volume_space.specs.Cutting.{MayGive, PutsGiven, given_back}
 use Rattle.volume_base.specs.Lists.{bits_on, facts_on, lists_of}
-use Rattle.volume_space.specs.Mapping.{HoldsMap}
+use Rattle.volume_base.specs.Mapping.{HoldsMap}
 use Rattle.volume_base.specs.Standing.{IsSettled, IsStanding, attribute_sectors, file_sectors, map_sectors, with_attributes_tree}
 use Rattle.volume_space.specs.Spreading.{StoresExtents}
 use Rattle.volume_base.specs.Spreading.{StoresFork}

@@ -26,7 +26,7 @@ use Rattle.hfs_volume.specs.Laws.{IsUserFile}
 use Rattle.hfs_volume.specs.Records.{is_link_type}
 use Rattle.hfs_volume.specs.Reclaim.{CutShrunk, Does, IsTreeFork, blocks_at, blocks_wanted, next_reclaim}
 use Rattle.hfs_volume.specs.Sound.{IsSoundVolume}
-use Rattle.hfs_volume.specs.TreeOf.{file_bytes, tree_in}
+use Rattle.hfs_volume.specs.TreeOf.{bytes_in, file_bytes, tree_in}
 use Rattle.hfs_volume.specs.Writing.{OthersKeepBytes, ShrunkCut}
 use Rattle.hfs_volume.proofs.Rereading.{same_bytes}
 use Rattle.hfs_volume.proofs.Sectors.{below_parts}
@@ -151,9 +151,9 @@ module _ (v x w : Volume) (a c e d : Space) (was : IsStanding v a) (settled : Is
         ∙ (λ i. take size (block_bytes a.content (block_limit a.content) (sectors_of (per_block_of head) (blocks_of (sym were i)))))
 
     module _ (law : ShrunkCut) (bytes : OthersKeepBytes) (user : IsUserFile file.fields.id (volume_of a.content)) (shrunk : Option ℕ) (next : next_reclaim (volume_of a.content) shrunk ≡ Some (CutShrunk file.fields.id)) (least : blocks_wanted (volume_of a.content) file.fields.id data_kind ≤ is_cut.last.left) where
-      by_shrunk : IsSoundVolume new × (tree_in new (file_bytes d.content) ≡ tree_in (volume_of a.content) (file_bytes a.content)) × Does (CutShrunk file.fields.id) (volume_of a.content) new
-      by_shrunk = law file.fields.id is_cut.last.left cut.goes.count (volume_of a.content) new (file_bytes a.content) (file_bytes d.content) settled.sound user (does v x w a c e d was settled entry file list data_kind keep cut may unchanged (inl refl) is_list is_cut no_link there is puts stores replaces stands) least
-          (ap (file_bytes d.content) (does_after v x w a c e d was settled entry file list data_kind keep cut may unchanged (inl refl) is_list is_cut no_link there is puts stores replaces stands).0 ∙ own_bytes ∙ sym (ap (file_bytes a.content) (does_after v x w a c e d was settled entry file list data_kind keep cut may unchanged (inl refl) is_list is_cut no_link there is puts stores replaces stands).1)) (others v x w a c e d was settled entry file list data_kind keep cut may unchanged (inl refl) is_list is_cut no_link there is puts stores replaces stands bytes)
+      by_shrunk : IsSoundVolume new × (tree_in new (bytes_in d.content) ≡ tree_in (volume_of a.content) (bytes_in a.content)) × Does (CutShrunk file.fields.id) (volume_of a.content) new
+      by_shrunk = law file.fields.id is_cut.last.left cut.goes.count (volume_of a.content) new (bytes_in a.content) (bytes_in d.content) settled.sound user (does v x w a c e d was settled entry file list data_kind keep cut may unchanged (inl refl) is_list is_cut no_link there is puts stores replaces stands) least
+          (ap (bytes_in d.content).file (does_after v x w a c e d was settled entry file list data_kind keep cut may unchanged (inl refl) is_list is_cut no_link there is puts stores replaces stands).0 ∙ own_bytes ∙ sym (ap (bytes_in a.content).file (does_after v x w a c e d was settled entry file list data_kind keep cut may unchanged (inl refl) is_list is_cut no_link there is puts stores replaces stands).1)) (others v x w a c e d was settled entry file list data_kind keep cut may unchanged (inl refl) is_list is_cut no_link there is puts stores replaces stands bytes)
 
       pub shrunk_done : IsSettled w d.content × CutsFile shrunk a.content d.content
       shrunk_done = (
@@ -162,7 +162,7 @@ module _ (v x w : Volume) (a c e d : Space) (was : IsStanding v a) (settled : Is
           step = CutShrunk file.fields.id;
           is_cut = inl (file.fields.id, refl);
           next = next;
-          does = subst (λ (l : VolumeState). Does (CutShrunk file.fields.id) (volume_of a.content) l) (sym (volume_now v x w a c e d was settled entry file list data_kind keep cut may unchanged (inl refl) is_list is_cut no_link there is puts stores replaces stands)) (record { cut = by_shrunk.2.cut; others = by_shrunk.2.others });
+          does = subst (λ (l : VolumeState). Does (CutShrunk file.fields.id) (volume_of a.content) l) (sym (volume_now v x w a c e d was settled entry file list data_kind keep cut may unchanged (inl refl) is_list is_cut no_link there is puts stores replaces stands)) (record { cut = by_shrunk.2.cut; others = by_shrunk.2.others; values = by_shrunk.2.values });
           keeps = keeps v x w a c e d was settled entry file list data_kind keep cut may unchanged (inl refl) is_list is_cut no_link there is puts stores replaces stands (λ id other tree. by_shrunk.2.others id other (inl (λ same. absurd (omega (arith, same, high_id v x w a c e d was settled entry file list data_kind keep cut may unchanged (inl refl) is_list is_cut no_link there is puts stores replaces stands, low_tree v x w a c e d was settled entry file list data_kind keep cut may unchanged (inl refl) is_list is_cut no_link there is puts stores replaces stands id tree)))));
           tree = tree_same v x w a c e d was settled entry file list data_kind keep cut may unchanged (inl refl) is_list is_cut no_link there is puts stores replaces stands by_shrunk.1;
         },

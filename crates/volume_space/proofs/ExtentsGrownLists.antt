@@ -17,12 +17,12 @@ use Rattle.btree_file.specs.Growth.{HasGrown, nodes_in, sectors_with}
 use Rattle.btree_file.specs.declared.tree.TreeFile.{TreeFile}
 use Rattle.sector_disk.specs.Space.{Space}
 use Rattle.hfs_volume.specs.Blocks.{GoOn, GoesOn, HasSizes, LieInside, forks_of}
-use Rattle.hfs_volume.specs.Changes.{HasSameNodes, IsStored}
+use Rattle.hfs_volume.specs.Changes.{HasSameNodes, IsStored, with_free}
 use Rattle.hfs_volume.specs.Content.{VolumeState, facts_at, is_set, overflow_in_volume, volume_of}
 use Rattle.hfs_volume.specs.Forks.{Owned, extents_id, data_kind, extents_of, in_use, is_full, all_forks}
 use Rattle.hfs_volume.specs.Reclaim.{IsTreeFork, blocks_at}
 use Rattle.hfs_volume.specs.Records.{Overflow}
-use Rattle.hfs_volume.specs.Writing.{GrowsAndCounts, with_free}
+use Rattle.hfs_volume.specs.Writing.{GrowsAndCounts}
 use Rattle.hfs_volume.proofs.BlockWants.{in_range, range_bounds}
 use Rattle.hfs_volume.proofs.Members.{all_of, each_of}
 use Rattle.hfs_volume.proofs.Untouched.{special_stands}
@@ -35,7 +35,7 @@ use Rattle.volume_space.proofs.GrownForks.{front_alone, front_longer, join_ends,
 use Rattle.volume_space.proofs.GrownFree.{run_clear, run_inside}
 use Rattle.volume_space.proofs.GrownRun.{blocks_one, run_apart, same_length, used_now, used_others}
 use Rattle.volume_space.proofs.ExtentsGrownStands.{extents_fork, lists_longer}
-use Rattle.volume_space.proofs.Mapped.{kept_bit}
+use Rattle.volume_base.proofs.Mapped.{kept_bit}
 
 -- the extents overflow file's blocks by the lists
 extents_blocks_are : (lists : VolumeState) → blocks_at lists extents_id data_kind ≡ blocks_of (extents_of (overflow_in_volume lists) extents_id data_kind lists.head.extents_fork)

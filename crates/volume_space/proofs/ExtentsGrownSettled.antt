@@ -13,18 +13,19 @@ use Rattle.btree_file.specs.State.{sectors_of_tree}
 use Rattle.btree_file.specs.declared.tree.TreeFile.{TreeFile}
 use Rattle.sector_disk.specs.Lists.{Content, sector}
 use Rattle.sector_disk.specs.Space.{Space}
-use Rattle.hfs_volume.specs.Content.{TreeFacts, VolumeState, attributes_file, block_bytes, block_limit, facts_of, overflow_in_volume, overflow_of_content, sectors_in, tree_of_fork, volume_of}
+use Rattle.hfs_volume.specs.Content.{TreeFacts, VolumeState, attributes_file, attributes_of, block_bytes, block_limit, facts_of, overflow_in_volume, overflow_of_content, sectors_in, tree_of_fork, volume_of}
 use Rattle.hfs_volume.specs.Forks.{attributes_id, blocks_owned, catalog_id, data_kind, extents_id, extents_of, per_block_of}
 use Rattle.hfs_volume.specs.Links.{private_id}
 use Rattle.hfs_volume.specs.Records.{overflow_of, placed_in}
-use Rattle.hfs_volume.specs.Reclaim.{GrowsTree, GrowsTrees, blocks_at}
+use Rattle.hfs_volume.specs.Reclaim.{GrowsTree, GrowsTrees, SameValues, blocks_at}
 use Rattle.hfs_volume.specs.Sound.{IsSoundVolume}
-use Rattle.hfs_volume.specs.TreeOf.{file_bytes, tree_in, tree_of}
+use Rattle.hfs_volume.specs.TreeOf.{bytes_in, file_bytes, tree_in, tree_of}
+use Rattle.hfs_volume.specs.Values.{value_blocks}
 use Rattle.hfs_volume.specs.Writing.{GrowthKeeps}
 use Rattle.hfs_volume.proofs.Rereading.{same_bytes, same_tree}
 use Rattle.volume_space.specs.Growing.{HeadGrows, KeepsForks, TakesRun, lengthened_extents, with_extents}
 use Rattle.volume_base.specs.Lists.{bits_on, lists_of}
-use Rattle.volume_space.specs.Mapping.{HoldsMap}
+use Rattle.volume_base.specs.Mapping.{HoldsMap}
 use Rattle.volume_base.specs.Standing.{IsSettled, IsStanding, map_sectors, with_attributes_tree}
 use Rattle.volume_base.specs.declared.volume.Volume.{Volume}
 use Rattle.volume_base.proofs.FilesKept.{ReadsAs, allocation_sectors, attributes_apart, attributes_off_extents, attributes_off_map, attributes_sectors, extents_sectors, not_2, not_in_extents, not_in_map}
@@ -38,6 +39,7 @@ use Rattle.volume_base.proofs.TreesSettled.{header_settled, tree_without}
 use Rattle.cat_records.specs.declared.record.FileRecord.{FileRecord}
 use Rattle.hfs_volume.proofs.Untouched.{data_fork_of}
 use Rattle.hfs_volume.proofs.Bytes.{same_bytes_same_tree}
+use Rattle.volume_space.proofs.ValuesKept.{values_kept}
 
 -- the tree of the lists, where neither header nor extents overflow file nor bitmap is looked at
 module _ (lists : VolumeState) (sound : IsSoundVolume lists) (a b : Content) (reads_a : ReadsAs a lists) (reads_b : ReadsAs b lists)
@@ -51,12 +53,13 @@ module _ (lists : VolumeState) (sound : IsSoundVolume lists) (a b : Content) (re
     by_lists content file reads = λ i. take file.data_fork.logical_size
         (block_bytes content (reads.total i * (reads.block i / 512)) (sectors_of (reads.block i / 512) (blocks_of (extents_of (map overflow_of (reads.overflow i)) file.fields.id data_kind file.data_fork))))
 
-    tree_stays_apart : tree_in lists (file_bytes b) ≡ tree_in lists (file_bytes a)
-    tree_stays_apart = same_bytes_same_tree lists (file_bytes b) (file_bytes a) (λ p file stands is.
+    tree_stays_apart : tree_in lists (bytes_in b) ≡ tree_in lists (bytes_in a)
+    tree_stays_apart = same_bytes_same_tree lists (bytes_in b) (bytes_in a) (λ p file stands is.
         by_lists b file reads_b
         ∙ ap (λ (l : List ℕ). take file.data_fork.logical_size l) (same_bytes a b (lists.head.total_blocks * per_block_of lists.head) (sectors_of (per_block_of lists.head) (blocks_owned (overflow_in_volume lists) (data_fork_of file)))
         (λ at has. agrees at (not_2 lists sound p file stands is at has) (not_in_extents lists sound p file stands is at has) (not_in_map lists sound p file stands is at has)))
         ∙ sym (by_lists a file reads_a))
+        (values_kept lists sound a b reads_a.total reads_a.block reads_b.total reads_b.block (λ at differs not_catalog not_attributes not_extents not_map. agrees at differs not_extents not_map))
 
 module _ (v : Volume) (a b : Space) (was : IsStanding v a) (settled : IsSettled v a.content) (count : ℕ) (run : Extent) (later : BlockMap) (takes : TakesRun count run v.map later) (some : 0 < run.count)
     (file : TreeFile) (grown : HasGrown run v.extents.file file a.content b.content) (within : PutsWithin (sectors_with v.extents.file run) a b) (tells : IsTrue a.tells)
@@ -76,10 +79,11 @@ module _ (v : Volume) (a b : Space) (was : IsStanding v a) (settled : IsSettled 
     fresh = blocks_of (run ∷ [])
 
     by_law : IsSoundVolume (lists_grown v a b was settled count run later takes some file grown within tells eight few more counted nodes whole)
-        × (tree_in (lists_grown v a b was settled count run later takes some file grown within tells eight few more counted nodes whole) (file_bytes a.content) ≡ tree_in (volume_of a.content) (file_bytes a.content))
+        × (tree_in (lists_grown v a b was settled count run later takes some file grown within tells eight few more counted nodes whole) (bytes_in a.content) ≡ tree_in (volume_of a.content) (bytes_in a.content))
         × GrowsTree extents_id more (volume_of a.content) (lists_grown v a b was settled count run later takes some file grown within tells eight few more counted nodes whole)
         × ((other kind : ℕ) → (other ≢ extents_id) ⊎ (kind ≢ data_kind) → blocks_at (lists_grown v a b was settled count run later takes some file grown within tells eight few more counted nodes whole) other kind ≡ blocks_at (volume_of a.content) other kind)
-    by_law = law extents_id more (blocks_of (run ∷ [])) (volume_of a.content) (lists_grown v a b was settled count run later takes some file grown within tells eight few more counted nodes whole) (file_bytes a.content) (inl refl) settled.sound
+        × SameValues (volume_of a.content) (lists_grown v a b was settled count run later takes some file grown within tells eight few more counted nodes whole)
+    by_law = law extents_id more (blocks_of (run ∷ [])) (volume_of a.content) (lists_grown v a b was settled count run later takes some file grown within tells eight few more counted nodes whole) (bytes_in a.content) (inl refl) settled.sound
         (grows_counted v a b was settled count run later takes some file grown within tells eight few more counted nodes whole)
 
     fits : length later.used ≤ 8 * v.header.allocation_fork.logical_size
@@ -108,8 +112,11 @@ module _ (v : Volume) (a b : Space) (was : IsStanding v a) (settled : IsSettled 
 
     -- ---- every other fork
 
+    others_kept : (other kind : ℕ) → (other ≢ extents_id) ⊎ (kind ≢ data_kind) → blocks_at (volume_of d.content) other kind ≡ blocks_at (volume_of a.content) other kind
+    others_kept other kind differs = ap (λ (l : VolumeState). blocks_at l other kind) volume_now ∙ by_law.3 other kind differs
+
     pub forks_kept : KeepsForks extents_id (volume_of a.content) (volume_of d.content)
-    forks_kept other kind differs = ap (λ (l : VolumeState). blocks_at l other kind) volume_now ∙ by_law.3 other kind differs
+    forks_kept = (others_kept, λ id name. ap (λ (l : VolumeState). value_blocks (attributes_of l) id name) volume_now ∙ by_law.4 id name)
 
     -- ---- the sectors that are as they were
 
@@ -143,8 +150,8 @@ module _ (v : Volume) (a b : Space) (was : IsStanding v a) (settled : IsSettled 
     pub tree_same : tree_of d.content ≡ tree_of a.content
     unfolding tree_of
     tree_same =
-        ap (λ (l : VolumeState). tree_in l (file_bytes d.content)) volume_now
-        ∙ tree_without grown_lists (volume_of d.content).attributes_tree (file_bytes d.content)
+        ap (λ (l : VolumeState). tree_in l (bytes_in d.content)) volume_now
+        ∙ tree_without grown_lists (volume_of d.content).attributes_tree (bytes_in d.content)
         ∙ tree_stays_apart grown_lists by_law.0 a.content d.content
         (record {
           overflow = refl;
@@ -198,12 +205,12 @@ module _ (v : Volume) (a b : Space) (was : IsStanding v a) (settled : IsSettled 
       catalog = record {
         nodes = omega (arith, ap (λ (l : VolumeState). l.catalog_tree.shape.total) volume_now);
         blocks = same_fork (volume_of a.content).catalog_tree.shape.node_size (volume_of a.content).head.block_size (blocks_at (volume_of a.content) catalog_id data_kind) (blocks_at (volume_of d.content) catalog_id data_kind)
-            (forks_kept catalog_id data_kind (inl (λ same. absurd (omega (arith, same)))));
+            (others_kept catalog_id data_kind (inl (λ same. absurd (omega (arith, same)))));
       };
       attributes = record {
         nodes = omega (arith, ap (λ (t : TreeFacts). t.shape.total) attributes_tree_same);
         blocks = same_fork (volume_of a.content).attributes_tree.shape.node_size (volume_of a.content).head.block_size (blocks_at (volume_of a.content) attributes_id data_kind) (blocks_at (volume_of d.content) attributes_id data_kind)
-            (forks_kept attributes_id data_kind (inl (λ same. absurd (omega (arith, same)))));
+            (others_kept attributes_id data_kind (inl (λ same. absurd (omega (arith, same)))));
       };
     }
 

@@ -37,8 +37,7 @@ use Rattle.volume_base.specs.Touching.{Touches}
 use Rattle.volume_base.specs.declared.volume.Filling.{Filling}
 use Rattle.volume_base.specs.declared.volume.Volume.{Volume}
 use Rattle.volume_base.proofs.Extending.{head_kept}
-use Rattle.volume_space.specs.Spilling.{IsLaidOutAs}
-use Rattle.volume_space.specs.Standing.{HoldsOn}
+use Rattle.volume_base.specs.Holding.{IsLaidOutAs, HoldsOn}
 use Rattle.volume_space.specs.Zeroing.{HasFilled, IsInHand, IsSureToFill, blocks_taken, done_of, is_growth_of, is_in_hand}
 use Rattle.volume_space.specs.declared.zeroing.Zeros.{Zeros}
 use Rattle.volume_space.specs.declared.zeroing.Zeros.TheVariants as zeros

@@ -20,7 +20,7 @@ use Rattle.volume_header.specs.declared.header.VolumeHeader.{VolumeHeader}
 use Rattle.volume_base.specs.declared.volume.Filling.{Filling}
 use Rattle.volume_base.specs.declared.volume.Volume.{Volume}
 use Rattle.volume_base.proofs.Commanding.{touches_none}
-use Rattle.volume_space.specs.Spilling.{IsLaidOutAs}
+use Rattle.volume_base.specs.Holding.{IsLaidOutAs}
 use Rattle.volume_space.specs.Writing.{PutsValue}
 use Rattle.volume_space.specs.Zeroing.{Fills, HasFilled, IsInHand, blocks_taken}
 

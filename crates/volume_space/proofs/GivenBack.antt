@@ -23,16 +23,16 @@ use Rattle.hfs_volume.specs.Content.{VolumeState, is_set, volume_of}
 use Rattle.hfs_volume.proofs.BlockWants.{in_range, range_bounds}
 use Rattle.hfs_volume.proofs.Members.{all_of, first_or_later}
 use Rattle.volume_base.specs.Changing.{PutsHeader}
-use Rattle.volume_space.specs.Cutting.{KeepsUsed, MayGive, PutsGiven, given_back, given_load, without_run}
+use Rattle.volume_space.specs.Cutting.{MayGive, PutsGiven, given_back, given_load, without_run}
+use Rattle.volume_base.specs.Holding.{KeepsUsed, HoldsOn}
 use Rattle.volume_base.specs.Cutting.{with_freed}
 use Rattle.volume_base.specs.Lists.{bits_on}
-use Rattle.volume_space.specs.Mapping.{HoldsUnchanged, PutsMap, changed_sectors}
-use Rattle.volume_space.specs.Standing.{HoldsOn}
+use Rattle.volume_base.specs.Mapping.{HoldsUnchanged, PutsMap, changed_sectors}
 use Rattle.volume_base.specs.Standing.{IsSettled, IsStanding, StandsOver, attribute_sectors, file_sectors, map_sectors}
 use Rattle.volume_base.specs.declared.volume.Volume.{Volume}
 use Rattle.volume_space.proofs.GrownBits.{bit_elsewhere, bits_hold, few_changed, marked_set, set_of, touched_few, touched_fits, touched_has}
 use Rattle.volume_space.proofs.GrownRun.{blocks_one}
-use Rattle.volume_space.proofs.Mapped.{kept_bit}
+use Rattle.volume_base.proofs.Mapped.{kept_bit}
 use Rattle.volume_base.proofs.Numbering.{stands_with}
 use Rattle.volume_base.proofs.Placing.{stands_once}
 use Rattle.volume_base.proofs.Resettling.{bits_at, bits_here}

@@ -25,7 +25,7 @@ use Rattle.std.proofs.lemmas.List.Elements.{Contains-append_right}
 use Rattle.btree_file.specs.State.{sectors_of_tree}
 use Rattle.volume_space.specs.Growing.{TakesRun}
 use Rattle.volume_base.specs.Lists.{bits_on}
-use Rattle.volume_space.specs.Mapping.{HoldsMap}
+use Rattle.volume_base.specs.Mapping.{HoldsMap}
 use Rattle.volume_base.specs.Standing.{IsStanding, attribute_sectors, map_sectors}
 use Rattle.volume_base.specs.declared.volume.Volume.{Volume}
 use Rattle.volume_base.proofs.Bridging.{whole_sector}

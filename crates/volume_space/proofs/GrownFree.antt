@@ -31,7 +31,7 @@ use Rattle.volume_base.specs.Lists.{lists_of}
 use Rattle.volume_base.specs.Standing.{IsKeptAside, IsSettled, IsStanding, attribute_sectors, map_sectors, own_sectors}
 use Rattle.volume_base.specs.declared.volume.Volume.{Volume}
 use Rattle.volume_space.proofs.GrownRun.{blocks_one, was_clear}
-use Rattle.volume_space.proofs.Mapped.{kept_bit}
+use Rattle.volume_base.proofs.Mapped.{kept_bit}
 use Rattle.volume_base.proofs.TreesSettled.{header_settled}
 
 -- a sector of the attributes file is in it where there is one

@@ -14,7 +14,7 @@ use Rattle.sector_disk.specs.Lists.{Content}
 use Rattle.sector_disk.specs.Space.{Space}
 use Rattle.hfs_volume.specs.Aside.{IsJournalSector}
 use Rattle.volume_space.specs.Growing.{CanGrowCatalog, IsOwnOrFree, Lengthens, TakesRun, blocks_filled, lengthened, nodes_load, run_load, with_catalog}
-use Rattle.volume_space.specs.Mapping.{HoldsUnchanged, changed_sectors}
+use Rattle.volume_base.specs.Mapping.{HoldsUnchanged, changed_sectors}
 use Rattle.volume_base.specs.Service.{IsInService}
 use Rattle.volume_base.specs.Standing.{IsSettled, StandsOver, own_sectors, map_sectors}
 use Rattle.volume_base.specs.Touching.{Touches}

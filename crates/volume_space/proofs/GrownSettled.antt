@@ -15,18 +15,19 @@ use Rattle.btree_file.specs.State.{sectors_of_tree}
 use Rattle.btree_file.specs.declared.tree.TreeFile.{TreeFile}
 use Rattle.sector_disk.specs.Lists.{sector}
 use Rattle.sector_disk.specs.Space.{Space}
-use Rattle.hfs_volume.specs.Content.{TreeFacts, VolumeState, attributes_file, block_limit, facts_of, overflow_in_volume, overflow_of_content, sectors_in, tree_of_fork, volume_of}
+use Rattle.hfs_volume.specs.Content.{TreeFacts, VolumeState, attributes_file, attributes_of, block_limit, facts_of, overflow_in_volume, overflow_of_content, sectors_in, tree_of_fork, volume_of}
 use Rattle.hfs_volume.specs.Forks.{attributes_id, catalog_id, data_kind, extents_id, extents_of, per_block_of}
 use Rattle.hfs_volume.specs.Links.{private_id}
 use Rattle.hfs_volume.specs.Records.{placed_in}
-use Rattle.hfs_volume.specs.Reclaim.{GrowsBy, GrowsTree, GrowsTrees, blocks_at}
+use Rattle.hfs_volume.specs.Reclaim.{GrowsBy, GrowsTree, GrowsTrees, SameValues, blocks_at}
 use Rattle.hfs_volume.specs.Sound.{IsSoundVolume}
-use Rattle.hfs_volume.specs.TreeOf.{file_bytes, tree_in, tree_of}
+use Rattle.hfs_volume.specs.TreeOf.{bytes_in, tree_in, tree_of}
+use Rattle.hfs_volume.specs.Values.{value_blocks}
 use Rattle.hfs_volume.specs.Writing.{GrowthKeeps}
 use Rattle.hfs_volume.proofs.Rereading.{same_tree}
 use Rattle.volume_space.specs.Growing.{HeadGrows, KeepsForks, TakesRun, lengthened, with_catalog}
 use Rattle.volume_base.specs.Lists.{bits_on, lists_of}
-use Rattle.volume_space.specs.Mapping.{HoldsMap}
+use Rattle.volume_base.specs.Mapping.{HoldsMap}
 use Rattle.volume_base.specs.Standing.{IsSettled, IsStanding, map_sectors, with_attributes_tree}
 use Rattle.volume_base.specs.declared.volume.Volume.{Volume}
 use Rattle.volume_base.proofs.FilesKept.{allocation_sectors, attributes_apart, attributes_off_map, attributes_sectors, catalog_sectors, tree_stays_but}
@@ -62,10 +63,11 @@ module _ (v : Volume) (a b : Space) (was : IsStanding v a) (settled : IsSettled 
     fresh = blocks_of (run ∷ [])
 
     by_law : IsSoundVolume (lists_grown v a b was settled count run later takes some file grown within tells eight few more counted nodes whole)
-        × (tree_in (lists_grown v a b was settled count run later takes some file grown within tells eight few more counted nodes whole) (file_bytes a.content) ≡ tree_in (volume_of a.content) (file_bytes a.content))
+        × (tree_in (lists_grown v a b was settled count run later takes some file grown within tells eight few more counted nodes whole) (bytes_in a.content) ≡ tree_in (volume_of a.content) (bytes_in a.content))
         × GrowsTree catalog_id more (volume_of a.content) (lists_grown v a b was settled count run later takes some file grown within tells eight few more counted nodes whole)
         × ((other kind : ℕ) → (other ≢ catalog_id) ⊎ (kind ≢ data_kind) → blocks_at (lists_grown v a b was settled count run later takes some file grown within tells eight few more counted nodes whole) other kind ≡ blocks_at (volume_of a.content) other kind)
-    by_law = law catalog_id more (blocks_of (run ∷ [])) (volume_of a.content) (lists_grown v a b was settled count run later takes some file grown within tells eight few more counted nodes whole) (file_bytes a.content) (inr (inl refl)) settled.sound
+        × SameValues (volume_of a.content) (lists_grown v a b was settled count run later takes some file grown within tells eight few more counted nodes whole)
+    by_law = law catalog_id more (blocks_of (run ∷ [])) (volume_of a.content) (lists_grown v a b was settled count run later takes some file grown within tells eight few more counted nodes whole) (bytes_in a.content) (inr (inl refl)) settled.sound
         (grows_counted v a b was settled count run later takes some file grown within tells eight few more counted nodes whole)
 
     fits : length later.used ≤ 8 * v.header.allocation_fork.logical_size
@@ -94,8 +96,11 @@ module _ (v : Volume) (a b : Space) (was : IsStanding v a) (settled : IsSettled 
 
     -- ---- every other fork
 
+    others_kept : (other kind : ℕ) → (other ≢ catalog_id) ⊎ (kind ≢ data_kind) → blocks_at (volume_of d.content) other kind ≡ blocks_at (volume_of a.content) other kind
+    others_kept other kind differs = ap (λ (l : VolumeState). blocks_at l other kind) volume_now ∙ by_law.3 other kind differs
+
     pub forks_kept : KeepsForks catalog_id (volume_of a.content) (volume_of d.content)
-    forks_kept other kind differs = ap (λ (l : VolumeState). blocks_at l other kind) volume_now ∙ by_law.3 other kind differs
+    forks_kept = (others_kept, λ id name. ap (λ (l : VolumeState). value_blocks (attributes_of l) id name) volume_now ∙ by_law.4 id name)
 
     -- ---- the sectors that are as they were
 
@@ -129,8 +134,8 @@ module _ (v : Volume) (a b : Space) (was : IsStanding v a) (settled : IsSettled 
     pub tree_same : tree_of d.content ≡ tree_of a.content
     unfolding tree_of
     tree_same =
-        ap (λ (l : VolumeState). tree_in l (file_bytes d.content)) volume_now
-        ∙ tree_without grown_lists (volume_of d.content).attributes_tree (file_bytes d.content)
+        ap (λ (l : VolumeState). tree_in l (bytes_in d.content)) volume_now
+        ∙ tree_without grown_lists (volume_of d.content).attributes_tree (bytes_in d.content)
         ∙ tree_stays_but grown_lists by_law.0 a.content d.content
         (record {
           overflow = refl;
@@ -184,13 +189,13 @@ module _ (v : Volume) (a b : Space) (was : IsStanding v a) (settled : IsSettled 
       extents = record {
         nodes = omega (arith, ap (λ (l : VolumeState). l.extents_tree.shape.total) volume_now);
         blocks = same_fork (volume_of a.content).extents_tree.shape.node_size (volume_of a.content).head.block_size (blocks_at (volume_of a.content) extents_id data_kind) (blocks_at (volume_of d.content) extents_id data_kind)
-            (forks_kept extents_id data_kind (inl (λ same. absurd (omega (arith, same)))));
+            (others_kept extents_id data_kind (inl (λ same. absurd (omega (arith, same)))));
       };
       catalog = subst (λ (l : VolumeState). GrowsTree catalog_id more (volume_of a.content) l) (sym volume_now) (record { nodes = by_law.2.nodes; blocks = by_law.2.blocks });
       attributes = record {
         nodes = omega (arith, ap (λ (t : TreeFacts). t.shape.total) attributes_tree_same);
         blocks = same_fork (volume_of a.content).attributes_tree.shape.node_size (volume_of a.content).head.block_size (blocks_at (volume_of a.content) attributes_id data_kind) (blocks_at (volume_of d.content) attributes_id data_kind)
-            (forks_kept attributes_id data_kind (inl (λ same. absurd (omega (arith, same)))));
+            (others_kept attributes_id data_kind (inl (λ same. absurd (omega (arith, same)))));
       };
     }
 

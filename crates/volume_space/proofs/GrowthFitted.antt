@@ -43,9 +43,8 @@ use Rattle.volume_base.specs.Standing.{IsSettled, IsStanding, StandsOver, attrib
 use Rattle.volume_base.specs.declared.volume.Volume.{Volume}
 use Rattle.volume_base.proofs.CatalogEdited.{there_is}
 use Rattle.volume_base.proofs.Facts.{size_is}
-use Rattle.volume_base.proofs.RoomKept.{few_sectors, node_size_low}
+use Rattle.volume_base.proofs.RoomKept.{few_sectors, node_size_low, cost_kept}
 use Rattle.volume_base.proofs.SoundForks.{geometry}
-use Rattle.volume_base.proofs.RoomKept.{cost_kept}
 use Rattle.volume_base.specs.Room.{room_on}
 use Rattle.volume_base.specs.declared.room.FreeBlocks.TheVariants as blocks
 use Rattle.volume_space.specs.SpreadGrowth.{SpreadFits, SpreadGrowthFits, growth_room_spread}
@@ -56,7 +55,7 @@ use Rattle.volume_space.specs.Growing.{FileFits, GrowthFits, IsShort, IsThere, W
 use Rattle.volume_space.specs.declared.ahead.WhichTree.{WhichTree}
 use Rattle.volume_space.specs.declared.ahead.WhichTree.TheVariants as which
 use Rattle.volume_space.proofs.GrowthCounted.{blocks_same, few_listed, file_fits, power_of, run_counted_in, some_blocks, numbers_fit}
-use Rattle.volume_space.proofs.Mapped.{kept_bit}
+use Rattle.volume_base.proofs.Mapped.{kept_bit}
 
 -- ---- blocks that are free and not held
 

@@ -8,7 +8,7 @@ use Rattle.hfs_language.specs.declared.refusal.Refusal.{Refusal}
 use Rattle.hfs_volume.specs.Cost.{cost_of, cost_or, load_refusal}
 use Rattle.hfs_volume.specs.Links.{orphans_of}
 use Rattle.hfs_volume.specs.Reclaim.{CutOrphan, CutShrunk, DropAttribute, DropOrphan, Reclaim, has_surplus_left, least, next_reclaim, orphan_steps, reclaim_cost, reclaim_cost_with, shrunk_step}
-use Rattle.hfs_volume.specs.Weight.{cut_cost, cut_load, free_blocks, room_with}
+use Rattle.hfs_volume.specs.Weight.{cut_cost, cut_load, free_blocks, room_with, value_change}
 use Rattle.hfs_volume.specs.declared.cost.Cost.{Cost}
 use Rattle.hfs_volume.specs.declared.cost.Cost.TheVariants as cost
 use Rattle.volume_runs.specs.Rest.{IsAtRest, IsHeldUp, cut_puts}
@@ -16,7 +16,9 @@ use Rattle.volume_space.specs.Cutting.{IsCut, IsNextCut}
 use Rattle.volume_space.specs.Orphans.{bare_edits, drop_edits, grows_none, is_refused}
 use Rattle.volume_base.specs.Room.{capacity_of, free_in, room_on}
 use Rattle.volume_base.specs.Standing.{IsSettled}
-use Rattle.volume_base.specs.Weighing.{needs_asked}
+use Rattle.volume_base.specs.Weighing.{needs_asked, needs_valued}
+use Rattle.hfs_volume.specs.declared.cost.ValueChange.{ValueChange}
+use Rattle.volume_space.proofs.BareCost.{bare_cost_is}
 use Rattle.volume_base.specs.declared.room.FreeBlocks.TheVariants as blocks
 use Rattle.volume_base.specs.declared.volume.Volume.{Volume}
 use Rattle.volume_base.specs.declared.weighing.Edits.{Edits}
@@ -43,9 +45,9 @@ module _ (v : Volume) (content : Content) (settled : IsSettled v content) where
   unfolding reclaim_cost_with
   held_drop found is some id = held_cost (capacity_of v) (volume_of content) (DropOrphan id) found some (by_edits drop_edits found is)
 
-  pub held_bare : (found : Cost) → found ≡ cost_of (needs_asked bare_edits) (room_with (capacity_of v) (free_in blocks.All v.map) (volume_of content)) → is_refused found ≡ true → (id : ℕ) (name : List ℕ) → IsHeldUp (capacity_of v) (volume_of content) (DropAttribute id name)
-  unfolding reclaim_cost_with
-  held_bare found is some id name = held_cost (capacity_of v) (volume_of content) (DropAttribute id name) found some (by_edits bare_edits found is)
+  pub held_bare : (change : ValueChange) (found : Cost) → found ≡ cost_of (needs_valued (free_in blocks.All v.map) bare_edits change) (room_with (capacity_of v) (free_in blocks.All v.map) (volume_of content)) → is_refused found ≡ true
+      → (id : ℕ) (name : List ℕ) → change ≡ value_change (volume_of content) id name 0 → IsHeldUp (capacity_of v) (volume_of content) (DropAttribute id name)
+  held_bare change found is some id name same = held_cost (capacity_of v) (volume_of content) (DropAttribute id name) found some (bare_cost_is v content settled change found is id name same)
 
   cut_costs : (step : Reclaim) → IsCut step → reclaim_cost (capacity_of v) (volume_of content) step ≡ cut_cost (room_with (capacity_of v) (free_blocks (volume_of content)) (volume_of content))
   unfolding reclaim_cost_with

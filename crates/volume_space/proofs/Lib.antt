@@ -28,8 +28,8 @@ pub mod ExtentsGrownWhole
 pub mod FewChanges
 pub mod FewerEdits
 pub mod Filled
+pub mod FirstNames
 pub mod Filling
-mod Freed
 pub mod GivenBack
 pub mod GrownAhead
 pub mod GrownBits
@@ -49,8 +49,6 @@ pub mod GrowthFitted
 pub mod GrowthUnits
 pub mod HeldRecords
 pub mod HeldUp
-pub mod KeptUsed
-pub mod Mapped
 pub mod NextCut
 pub mod Numerals
 pub mod OrphanFacts
@@ -115,5 +113,10 @@ pub mod Stripped
 pub mod TakenOut
 pub mod ToDrop
 pub mod Unfiled
+pub mod ValueSpilled
+pub mod ValuesKept
 pub mod Waiting
 pub mod WhenKept
+pub mod BareCost
+pub mod StripRoom
+pub mod StripKept

@@ -17,7 +17,7 @@ use Rattle.hfs_volume.specs.Weight.{Data, file_extents, free_runs, needs_cut, ne
 use Rattle.volume_base.specs.Changing.{catalog_node}
 use Rattle.volume_base.specs.Keeping.{Keeps}
 use Rattle.volume_base.specs.Looking.{ReadsVolume}
-use Rattle.volume_space.specs.Spilling.{IsLaidOutAs}
+use Rattle.volume_base.specs.Holding.{IsLaidOutAs}
 use Rattle.volume_space.specs.Spreading.{edits_load}
 use Rattle.volume_space.specs.Writing.{PutsAt, PutsValue, blocks_put, can_put, data_load, has_more, is_put_now, may_overflow, most_extents, put_load, spread_put_load}
 use Rattle.volume_base.specs.declared.volume.Volume.{Volume}

@@ -84,6 +84,16 @@ unfolding sum_of
 few_touched [] = omega arith
 few_touched (e ∷ es) = omega (arith, touched_few e, few_touched es)
 
+-- few sectors of a bitmap of which none was changed are changed where these are marked
+pub touched_many : (total : ℕ) (es : List Extent) → Fit total es → count_set (mark_all (none (sectors_for total)) (map (λ (e : Extent). touched_by e) es) true) ≤ length (blocks_of es) / 4096 + 2 * length es
+touched_many total es fit = omega (
+  arith,
+  marked_all (sectors_for total) (none (sectors_for total)) (map (λ (e : Extent). touched_by e) es) (length-replicate (sectors_for total) false) (fit_touched total es fit),
+  none_set (sectors_for total),
+  few_touched es,
+  sum_blocks es,
+)
+
 one_touched : (e : Extent) → (touched_by e).count ≤ e.count
 one_touched e = ⊎_elim
     (λ nothing. rw nothing.0 (omega arith))

@@ -3,8 +3,7 @@ use Rattle.std.proofs.Common.{◌≡◌, ◌<◌, ◌≤◌, ℕ, ◌+◌, ◌-�
 use Rattle.std.specs.Prelude.{Contains, IsTrue, Some, Ok}
 use Rattle.std.proofs.lemmas.Bool.{and_parts}
 use Rattle.flag_rows.specs.Runs.{fewest_of}
-use Rattle.file_io.specs.Places.{old_end}
-use Rattle.file_io.specs.Places.{first_block as first_of}
+use Rattle.file_io.specs.Places.{old_end, first_block as first_of}
 use Rattle.sector_disk.specs.Lists.{Content}
 use Rattle.sector_disk.specs.Space.{Space}
 use Rattle.cat_records.specs.declared.record.FileRecord.{FileRecord}
@@ -16,7 +15,7 @@ use Rattle.volume_header.specs.declared.header.VolumeHeader.{VolumeHeader}
 use Rattle.hfs_volume.specs.Content.{VolumeState, volume_of}
 use Rattle.hfs_volume.specs.Forks.{data_kind}
 use Rattle.hfs_volume.specs.Laws.{IsUserFile}
-use Rattle.hfs_volume.specs.TreeOf.{file_bytes, tree_of}
+use Rattle.hfs_volume.specs.TreeOf.{bytes_in, file_bytes, tree_of}
 use Rattle.hfs_volume.specs.Weight.{Data, data_of, file_extents, first_block, needs_cut, new_blocks_of, old_blocks_of}
 use Rattle.hfs_volume.specs.Writing.{MakesBytes, RewritePuts, RewritesFile, TruncDoes, WriteDoes, file_before, resized_bytes, written_bytes}
 use Rattle.hfs_volume.proofs.Bytes.{file_bytes_are}
@@ -60,7 +59,7 @@ module _ (v w : Volume) (a : Space) (after : Content) (holds : StandsOver v a) (
     abbrev Does : ℕ → (List ℕ → List ℕ) → Type 0
     Does id make =
         (does : RewritesFile id (first_of v.header.block_size puts.file.data_fork.logical_size from) (old_end v.header.block_size puts.file.data_fork.logical_size (from + length value) - first_of v.header.block_size puts.file.data_fork.logical_size from) puts.puts.fresh (volume_of a.content) puts.puts.lists)
-        × MakesBytes make does (file_bytes a.content) (file_bytes after)
+        × MakesBytes make does (bytes_in a.content) (bytes_in after)
 
     written_now : Does node.id (written_bytes from value)
     written_now = subst (λ id. Does id (written_bytes from value)) puts.number (puts.puts.rewrites, puts.puts.makes)
@@ -69,7 +68,7 @@ module _ (v w : Volume) (a : Space) (after : Content) (holds : StandsOver v a) (
     unfolding tree_of
     write_done law path some allowed =
         let does = law path from value node (first_of v.header.block_size puts.file.data_fork.logical_size from) (old_end v.header.block_size puts.file.data_fork.logical_size (from + length value) - first_of v.header.block_size puts.file.data_fork.logical_size from)
-        puts.puts.fresh (volume_of a.content) puts.puts.lists (file_bytes a.content) (file_bytes after) (file_bytes_are after) settled.sound some allowed written_now.0 written_now.1 in
+        puts.puts.fresh (volume_of a.content) puts.puts.lists (bytes_in a.content) (bytes_in after) (file_bytes_are after) settled.sound some allowed written_now.0 written_now.1 in
         (puts.puts.settles does.0, puts.puts.tree ∙ does.1)
 
     -- a zero that was written where the last byte will be makes the file longer
@@ -77,7 +76,7 @@ module _ (v w : Volume) (a : Space) (after : Content) (holds : StandsOver v a) (
       before_long : length (file_bytes a.content (file_before puts.puts.rewrites.puts)) ≡ length node.bytes
       before_long = ap (λ (f : FileRecord). length (file_bytes a.content f)) (puts.puts.same_file ∙ sym same) ∙ sym (ap (λ (l : List ℕ). length l) (its v a holds tells settled node stands kind).bytes)
 
-      resized_here : MakesBytes (resized_bytes longer) puts.puts.rewrites (file_bytes a.content) (file_bytes after)
+      resized_here : MakesBytes (resized_bytes longer) puts.puts.rewrites (bytes_in a.content) (bytes_in after)
       resized_here = record {
         made = puts.puts.makes.made ∙ (λ i. written_bytes (place i) (zero_is i) (file_bytes a.content (file_before puts.puts.rewrites.puts))) ∙ zero_last (file_bytes a.content (file_before puts.puts.rewrites.puts)) longer (omega (arith, short, before_long));
         others = puts.puts.makes.others;
@@ -90,7 +89,7 @@ module _ (v w : Volume) (a : Space) (after : Content) (holds : StandsOver v a) (
       unfolding tree_of
       trunc_done law path allowed =
           let does = law path longer node (first_of v.header.block_size puts.file.data_fork.logical_size from) (old_end v.header.block_size puts.file.data_fork.logical_size (from + length value) - first_of v.header.block_size puts.file.data_fork.logical_size from)
-          puts.puts.fresh (volume_of a.content) puts.puts.lists (file_bytes a.content) (file_bytes after) (file_bytes_are after) settled.sound allowed resized_now.0 resized_now.1 in
+          puts.puts.fresh (volume_of a.content) puts.puts.lists (bytes_in a.content) (bytes_in after) (file_bytes_are after) settled.sound allowed resized_now.0 resized_now.1 in
           (puts.puts.settles does.0, puts.puts.tree ∙ does.1)
 
     -- ---- the lists
@@ -132,6 +131,6 @@ module _ (v w : Volume) (a : Space) (after : Content) (holds : StandsOver v a) (
         no_cut = no_cut;
         fresh = puts.puts.fresh;
         rewrites = rewritten;
-        forks = law put puts.puts.fresh (volume_of a.content) (volume_of after) settled.sound (subst (λ id. IsUserFile id (volume_of a.content)) (sym number) (is_users (volume_of a.content) settled.sound (file_bytes a.content) node (its v a holds tells settled node stands kind))) rewritten many;
+        forks = law put puts.puts.fresh (volume_of a.content) (volume_of after) settled.sound (subst (λ id. IsUserFile id (volume_of a.content)) (sym number) (is_users (volume_of a.content) settled.sound (bytes_in a.content) node (its v a holds tells settled node stands kind))) rewritten many;
         user = subst (λ n. 16 ≤ n) (puts.number ∙ sym number) (file_high (volume_of a.content) settled.sound puts.stands.entry puts.stands.stands puts.file puts.stands.value);
       }

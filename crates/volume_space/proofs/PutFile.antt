@@ -11,7 +11,7 @@ use Rattle.cat_records.specs.declared.record.ThreadRecord.{ThreadRecord}
 use Rattle.hfs_model.specs.declared.plain.PlainNode.{PlainNode}
 use Rattle.hfs_volume.specs.Content.{VolumeState, records_of, volume_of}
 use Rattle.hfs_volume.specs.Records.{Placed, entries_of, id_in}
-use Rattle.hfs_volume.specs.TreeOf.{file_bytes, tree_of}
+use Rattle.hfs_volume.specs.TreeOf.{bytes_in, tree_of}
 use Rattle.alloc_bitmap.specs.Map.{free_of}
 use Rattle.file_io.specs.Places.{blocks_for}
 use Rattle.flag_rows.specs.Runs.{fewest_of}
@@ -53,9 +53,9 @@ pub not_thread : (thread : ThreadRecord) (file : FileRecord) → Thread thread �
 not_thread thread file same = cc same
 
 module _ (v : Volume) (a : Space) (holds : StandsOver v a) (tells : IsTrue a.tells) (settled : IsSettled v a.content) (node : PlainNode) (stands : Contains (tree_of a.content).nodes node) (kind : node.folder ≡ false) where
-  pub its : IsFileOf (volume_of a.content) (file_bytes a.content) node
+  pub its : IsFileOf (volume_of a.content) (bytes_in a.content) node
   unfolding tree_of
-  its = file_of_node (volume_of a.content) settled.sound (settled_sorted v a.content (holds.stands tells).trees settled) (file_bytes a.content) node stands kind
+  its = file_of_node (volume_of a.content) settled.sound (settled_sorted v a.content (holds.stands tells).trees settled) (bytes_in a.content) node stands kind
 
   -- a file with its CNID is this
   pub only : (file : FileRecord) → HasFile (records_of (volume_of a.content)) file → file.fields.id ≡ node.id → its.file ≡ file

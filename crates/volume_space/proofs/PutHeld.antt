@@ -8,7 +8,7 @@ use Rattle.alloc_bitmap.specs.Map.{BlockMap}
 use Rattle.file_io.specs.Places.{fresh_of, given, taken}
 use Rattle.sector_disk.specs.Lists.{Content}
 use Rattle.hfs_volume.specs.Content.{is_set, volume_of}
-use Rattle.volume_space.specs.Standing.{HoldsOn}
+use Rattle.volume_base.specs.Holding.{HoldsOn}
 use Rattle.volume_base.specs.declared.volume.Volume.{Volume}
 use Rattle.volume_space.proofs.PutStages.{fresh_fit}
 

@@ -17,7 +17,7 @@ use Rattle.fork_map.specs.Blocks.{blocks_of}
 use Rattle.overflow.specs.Records.{eight_at}
 use Rattle.hfs_model.specs.Sorted.{kept}
 use Rattle.hfs_volume.specs.Blocks.{GoesOn, GoOn, HasSizes, LieInside, forks_of}
-use Rattle.hfs_volume.specs.Changes.{FlipsBits, HasSameNodes, IsStored}
+use Rattle.hfs_volume.specs.Changes.{FlipsBits, HasSameNodes, IsStored, with_free}
 use Rattle.hfs_volume.specs.Commands.{ChangesFields}
 use Rattle.hfs_volume.specs.Content.{VolumeState, is_set, overflow_in_volume, records_of}
 use Rattle.hfs_volume.specs.Data.{AreFresh}
@@ -25,7 +25,8 @@ use Rattle.hfs_volume.specs.Forks.{Owned, all_forks, blocks_owned, data_kind, ex
 use Rattle.hfs_volume.specs.Reclaim.{blocks_at, blocks_found, is_fork}
 use Rattle.hfs_volume.specs.Records.{Overflow, Placed, overflow_of, entries_of, id_in, id_of, is_empty}
 use Rattle.hfs_volume.specs.Sound.{IsSoundVolume}
-use Rattle.hfs_volume.specs.Writing.{IsRewritten, KeepsOthers, MakesBytes, RewritesFile, file_before, with_free}
+use Rattle.hfs_volume.specs.TreeOf.{BytesOf}
+use Rattle.hfs_volume.specs.Writing.{IsRewritten, KeepsOthers, MakesBytes, RewritesFile, file_before}
 use Rattle.hfs_volume.proofs.BlockWants.{in_range}
 use Rattle.hfs_volume.proofs.Making.{alone_in}
 use Rattle.hfs_volume.proofs.Members.{all_of, at_front, each_of, first_or_later}
@@ -211,7 +212,7 @@ module _ (from count moment parent : ℕ) (name : List ℕ) (fork : ForkRecord) 
     }
 
     -- and its bytes are made so
-    pub makes : (make : List ℕ → List ℕ) (bytes_of bytes_after : FileRecord → List ℕ) → bytes_after (with_data fork file) ≡ make (bytes_of file) → KeepsOthers file.fields.id old bytes_of bytes_after → MakesBytes make rewrites bytes_of bytes_after
+    pub makes : (make : List ℕ → List ℕ) (bytes_of bytes_after : BytesOf) → bytes_after.file (with_data fork file) ≡ make (bytes_of.file file) → KeepsOthers file.fields.id old bytes_of bytes_after → MakesBytes make rewrites bytes_of bytes_after
     unfolding rewrites
     makes make bytes_of bytes_after made others = record { made = made; others = others }
 

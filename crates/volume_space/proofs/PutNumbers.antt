@@ -7,8 +7,7 @@ use Rattle.std.proofs.lemmas.Nat.{div_below}
 use Rattle.file_io.specs.Places.{blocks_for, first_block, new_blocks, old_end}
 use Rattle.file_io.proofs.PlaceLaws.{blocks_hold, blocks_least, first_of}
 use Rattle.hfs_volume.specs.Forks.{parts_for}
-use Rattle.hfs_volume.specs.Weight.{Data, end_block, grows, new_blocks_of, old_blocks_of}
-use Rattle.hfs_volume.specs.Weight.{first_block as first_of_data}
+use Rattle.hfs_volume.specs.Weight.{Data, end_block, grows, new_blocks_of, old_blocks_of, first_block as first_of_data}
 use Rattle.volume_space.specs.Writing.{IsAt}
 use Rattle.volume_base.proofs.CostSame.{parts_hold}
 

@@ -17,7 +17,7 @@ use Rattle.cat_records.specs.declared.record.FileRecord.{FileRecord}
 use Rattle.sector_disk.specs.Lists.{Content}
 use Rattle.sector_disk.specs.Space.{Space}
 use Rattle.hfs_volume.specs.Weight.{free_runs}
-use Rattle.volume_space.specs.Mapping.{HoldsUnchanged, changed_sectors}
+use Rattle.volume_base.specs.Mapping.{HoldsUnchanged, changed_sectors}
 use Rattle.volume_base.specs.Standing.{IsSettled, IsStanding, attribute_sectors, map_sectors, own_sectors}
 use Rattle.volume_space.specs.Writing.{IsSureToPut, PlacesData, blocks_put}
 use Rattle.volume_base.specs.declared.entries.Entry.{Entry}

@@ -28,7 +28,7 @@ use Rattle.catalog.specs.Entries.{UpdatesEntry}
 use Rattle.catalog.specs.Pairs.{value_at}
 use Rattle.hfs_model.specs.declared.plain.PlainTree.{PlainTree}
 use Rattle.hfs_volume.specs.Blocks.{forks_of}
-use Rattle.hfs_volume.specs.Changes.{FlipsBits, HasSameNodes}
+use Rattle.hfs_volume.specs.Changes.{FlipsBits, HasSameNodes, with_free}
 use Rattle.hfs_volume.specs.Commands.{AreBytesOf}
 use Rattle.hfs_volume.specs.Content.{VolumeState, block_limit, overflow_in_volume, records_of, volume_of}
 use Rattle.hfs_volume.specs.Data.{AreFresh}
@@ -36,8 +36,8 @@ use Rattle.hfs_volume.specs.Forks.{Owned, allocation_id, attributes_id, blocks_o
 use Rattle.hfs_volume.specs.Links.{private_id}
 use Rattle.hfs_volume.specs.Records.{Overflow, Placed, entries_of, is_link_type, placed_in}
 use Rattle.hfs_volume.specs.Sound.{IsSoundVolume}
-use Rattle.hfs_volume.specs.TreeOf.{file_bytes, tree_in, tree_of}
-use Rattle.hfs_volume.specs.Writing.{KeepsOthers, MakesBytes, OthersKeepBytes, RewritesFile, file_before, with_free, written_bytes}
+use Rattle.hfs_volume.specs.TreeOf.{bytes_in, file_bytes, tree_in, tree_of}
+use Rattle.hfs_volume.specs.Writing.{KeepsOthers, MakesBytes, OthersKeepBytes, RewritesFile, file_before, written_bytes}
 use Rattle.hfs_volume.proofs.Bytes.{file_bytes_are}
 use Rattle.hfs_volume.proofs.Flat.{some_same}
 use Rattle.hfs_volume.proofs.Members.{each_of}
@@ -45,7 +45,7 @@ use Rattle.hfs_volume.proofs.Sectors.{in_block}
 use Rattle.hfs_volume.proofs.Untouched.{HasWholeBlocks, data_fork_of, file_fork_stands, whole_blocks}
 use Rattle.volume_base.specs.Changing.{ChangesCatalog}
 use Rattle.volume_base.specs.Lists.{bits_on, facts_on, lists_of}
-use Rattle.volume_space.specs.Mapping.{HoldsMap}
+use Rattle.volume_base.specs.Mapping.{HoldsMap}
 use Rattle.volume_base.specs.Standing.{IsSettled, IsStanding, map_sectors, with_attributes_tree}
 use Rattle.volume_space.specs.Spreading.{HoldsFork, SpreadsExtents}
 use Rattle.volume_space.specs.Writing.{extents_in, with_data_put, with_record, with_spill, with_stored}
@@ -233,9 +233,9 @@ module _ (v : Volume) (a : Space) (was : IsStanding v a) (settled : IsSettled v 
       block = ap (λ (h : VolumeHeader). h.block_size) does.headed ∙ ap (λ (h : VolumeHeader). h.block_size) (sym head_is);
     }
 
-    pub tree_put : tree_of e.content ≡ tree_in lists_put (file_bytes e.content)
+    pub tree_put : tree_of e.content ≡ tree_in lists_put (bytes_in e.content)
     unfolding tree_of
-    tree_put = ap (λ (l : VolumeState). tree_in l (file_bytes e.content)) volume_now ∙ tree_without lists_put (volume_of e.content).attributes_tree (file_bytes e.content)
+    tree_put = ap (λ (l : VolumeState). tree_in l (bytes_in e.content)) volume_now ∙ tree_without lists_put (volume_of e.content).attributes_tree (bytes_in e.content)
 
     -- ---- where a law says that these lists are a sound volume's, with a tree
 
@@ -308,7 +308,7 @@ module _ (v : Volume) (a : Space) (was : IsStanding v a) (settled : IsSettled v 
     -- ---- the bytes
 
     module _ (others_law : OthersKeepBytes) where
-      others : KeepsOthers file.fields.id (volume_of a.content) (file_bytes a.content) (file_bytes e.content)
+      others : KeepsOthers file.fields.id (volume_of a.content) (bytes_in a.content) (bytes_in e.content)
       unfolding rewrites_it
       others =
           let put = put_is from count v.header.modify_date parent name fork file fresh (volume_of a.content) lists_put is_record settled.sound (sym (ap (λ (h : VolumeHeader). h.modify_date) head_is)) nodes free counted refl are_fresh more
@@ -331,7 +331,7 @@ module _ (v : Volume) (a : Space) (was : IsStanding v a) (settled : IsSettled v 
           some : 0 < per_block_of (volume_of a.content).head
           some = (whole_blocks (volume_of a.content).sectors (volume_of a.content).head settled.sound.blocks.header.accepted).some
 
-      pub makes_it : MakesBytes (written_bytes place value) rewrites_it (file_bytes a.content) (file_bytes e.content)
+      pub makes_it : MakesBytes (written_bytes place value) rewrites_it (bytes_in a.content) (bytes_in e.content)
       unfolding rewrites_it
       makes_it = makes from count v.header.modify_date parent name fork file fresh (volume_of a.content) lists_put is_record settled.sound (sym (ap (λ (h : VolumeHeader). h.modify_date) head_is)) nodes free counted refl are_fresh more
-          holds_it extents_nodes does.total size_held does.blocks does.within does.flips below (written_bytes place value) (file_bytes a.content) (file_bytes e.content) made others
+          holds_it extents_nodes does.total size_held does.blocks does.within does.flips below (written_bytes place value) (bytes_in a.content) (bytes_in e.content) made others

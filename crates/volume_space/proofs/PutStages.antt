@@ -38,7 +38,7 @@ use Rattle.hfs_volume.proofs.Members.{all_of, each_of, first_or_later}
 use Rattle.hfs_volume.proofs.Untouched.{data_fork_of, file_fork_stands}
 use Rattle.volume_base.specs.Changing.{PutsHeader}
 use Rattle.volume_base.specs.Lists.{bits_on, lists_of}
-use Rattle.volume_space.specs.Mapping.{HoldsMap, PutsMap}
+use Rattle.volume_base.specs.Mapping.{HoldsMap, PutsMap}
 use Rattle.volume_base.specs.Standing.{IsSettled, IsStanding, attribute_sectors, file_sectors, map_sectors}
 use Rattle.volume_space.specs.Writing.{IsSureToPut, PlacesData, PutsValue, blocks_put, fork_with, with_spill, extents_in}
 use Rattle.volume_base.specs.declared.entries.Entry.{Entry}

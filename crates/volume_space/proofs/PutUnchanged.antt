@@ -20,7 +20,7 @@ use Rattle.volume_header.specs.declared.header.VolumeHeader.{VolumeHeader}
 use Rattle.hfs_volume.specs.Content.{VolumeState, volume_of}
 use Rattle.hfs_volume.specs.Forks.{per_block_of}
 use Rattle.volume_base.specs.Lists.{bits_on}
-use Rattle.volume_space.specs.Mapping.{HoldsUnchanged, changed_sectors}
+use Rattle.volume_base.specs.Mapping.{HoldsUnchanged, changed_sectors}
 use Rattle.volume_base.specs.Standing.{IsSettled, IsStanding, attribute_sectors, file_sectors, map_sectors}
 use Rattle.volume_space.specs.Writing.{PlacesData, blocks_put, with_spill}
 use Rattle.volume_base.specs.declared.entries.Entry.{Entry}

@@ -2,7 +2,6 @@
 use Rattle.std.proofs.Common.{◌≡◌, ℕ, ◌==◌, ◌&&◌, ◌||◌, not, Bool, true, false, List, refl, sym, ◌∙◌, ap, subst}
 use Rattle.std.specs.Prelude.{Contains, Option, Some, None}
 use Rattle.std.proofs.lemmas.Bool.{eqb-true, true≢false}
-use Rattle.cat_records.specs.declared.record.FileRecord.{FileRecord}
 use Rattle.hfs_model.specs.Step.{is_private_name}
 use Rattle.hfs_model.specs.declared.plain.PlainNode.{PlainNode}
 use Rattle.hfs_volume.specs.Content.{VolumeState, records_of}
@@ -10,7 +9,7 @@ use Rattle.hfs_volume.specs.Laws.{IsUserFile}
 use Rattle.hfs_volume.specs.Links.{is_in, is_shared, private_id}
 use Rattle.hfs_volume.specs.Records.{Placed, entries_of, id_in, is_link, special_of}
 use Rattle.hfs_volume.specs.Sound.{IsSoundVolume}
-use Rattle.hfs_volume.specs.TreeOf.{is_linked, is_seen}
+use Rattle.hfs_volume.specs.TreeOf.{BytesOf, is_linked, is_seen}
 use Rattle.hfs_volume.proofs.Hiding.{same_entry}
 use Rattle.hfs_volume.proofs.Marks.{private_not_root}
 use Rattle.hfs_volume.proofs.Reaching.{seen_shows}
@@ -25,7 +24,7 @@ shared_in : (private : Option ℕ) (reference : ℕ) (p : Placed) → is_shared 
 shared_in None reference p is = is
 shared_in (Some top) reference p is = first_of (p.parent == top) _ _ _ is
 
-module _ (volume : VolumeState) (sound : IsSoundVolume volume) (bytes_of : FileRecord → List ℕ) (node : PlainNode) (it : IsFileOf volume bytes_of node) where
+module _ (volume : VolumeState) (sound : IsSoundVolume volume) (bytes_of : BytesOf) (node : PlainNode) (it : IsFileOf volume bytes_of node) where
   private_apart : (p : Placed) → is_in (private_id (records_of volume)) p ≡ true → p.parent ≡ 2 → ⊥
   private_apart p is two = by_case (private_id (records_of volume)) refl is
     where

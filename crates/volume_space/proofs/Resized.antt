@@ -29,7 +29,7 @@ use Rattle.hfs_volume.specs.Links.{private_id}
 use Rattle.hfs_volume.specs.Records.{Placed, entries_of, id_in, id_of, is_empty, is_file, is_folder, is_link, is_link_type, is_placed_at, is_thread, placed_in, placed_of, record_at, special_of}
 use Rattle.hfs_volume.specs.Reclaim.{blocks_at, blocks_found, is_fork}
 use Rattle.hfs_volume.specs.Sound.{IsSoundVolume}
-use Rattle.hfs_volume.specs.TreeOf.{file_bytes}
+use Rattle.hfs_volume.specs.TreeOf.{bytes_in, file_bytes}
 use Rattle.hfs_volume.specs.Writing.{IsRewritten, MakesBytes, RewritesFile, resized_bytes}
 use Rattle.hfs_volume.proofs.Flat.{found_some}
 use Rattle.hfs_volume.proofs.Hiding.{same_entry}
@@ -240,12 +240,12 @@ module _ (id size : ℕ) (moment parent : ℕ) (name : List ℕ) (file : FileRec
     }
 
     -- and the bytes that are left are those in front
-    pub shortens_makes : (content : Content) → overflow_in_volume (volume_of content) ≡ overflow_in_volume old → length (file_bytes content file) ≡ file.data_fork.logical_size → MakesBytes (resized_bytes size) shortens (file_bytes content) (file_bytes content)
+    pub shortens_makes : (content : Content) → overflow_in_volume (volume_of content) ≡ overflow_in_volume old → length (file_bytes content file) ≡ file.data_fork.logical_size → MakesBytes (resized_bytes size) shortens (bytes_in content) (bytes_in content)
     unfolding shortens file_bytes extents_of
     shortens_makes content same long = record {
       made = front size (take file.data_fork.logical_size (fork_bytes content (extents_of (overflow_in_volume (volume_of content)) file.fields.id data_kind file.data_fork))) (fork_bytes content (extents_of (overflow_in_volume (volume_of content)) file.fields.id data_kind file.data_fork)) (omega (arith, short, long))
           (take-take size file.data_fork.logical_size (fork_bytes content (extents_of (overflow_in_volume (volume_of content)) file.fields.id data_kind file.data_fork)) short);
-      others = λ p other stands is differs. refl;
+      others = (λ p other stands is differs. refl, refl);
     }
       where
         none_more : (n m : ℕ) → n ≤ m → n - m ≡ 0

@@ -26,7 +26,7 @@ use Rattle.hfs_volume.specs.Links.{private_id}
 use Rattle.hfs_volume.specs.Records.{Placed, entries_of, id_in, id_of, is_empty, is_placed_at, is_thread, placed_in}
 use Rattle.hfs_volume.specs.Reclaim.{blocks_at}
 use Rattle.hfs_volume.specs.Sound.{IsSoundVolume}
-use Rattle.hfs_volume.specs.TreeOf.{file_bytes, tree_in, tree_of}
+use Rattle.hfs_volume.specs.TreeOf.{bytes_in, file_bytes, tree_in, tree_of}
 use Rattle.hfs_volume.specs.Writing.{RewritesFile, TruncDoes}
 use Rattle.hfs_volume.proofs.Bytes.{file_bytes_are}
 use Rattle.hfs_volume.proofs.Flat.{found_some, some_same}
@@ -89,11 +89,11 @@ module _ (law : TruncDoes) (v w : Volume) (a b : Space) (settled : IsSettled v a
 
     -- ---- the file
 
-    its : IsFileOf (volume_of a.content) (file_bytes a.content) node
+    its : IsFileOf (volume_of a.content) (bytes_in a.content) node
     unfolding tree_of
     its =
         let is = trunc_file (tree_of a.content) path size node allowed in
-        file_of_node (volume_of a.content) settled.sound (settled_sorted v a.content holds.trees settled) (file_bytes a.content) node is.0 is.1
+        file_of_node (volume_of a.content) settled.sound (settled_sorted v a.content holds.trees settled) (bytes_in a.content) node is.0 is.1
 
     abbrev file : FileRecord
     file = its.file
@@ -165,9 +165,9 @@ module _ (law : TruncDoes) (v w : Volume) (a b : Space) (settled : IsSettled v a
     rewrites : RewritesFile node.id 0 0 [] (volume_of a.content) (lists_then a.content w b.content)
     rewrites = shortens node.id size moment entry.parent entry.name its.file (volume_of a.content) (lists_then a.content w b.content) (sym its.id) short_fork is_record settled.sound is_moment nodes rest
 
-    does : IsSoundVolume (lists_then a.content w b.content) × (tree_in (lists_then a.content w b.content) (file_bytes a.content) ≡ (step (tree_in (volume_of a.content) (file_bytes a.content)) (command.Trunc path size)).1)
+    does : IsSoundVolume (lists_then a.content w b.content) × (tree_in (lists_then a.content w b.content) (bytes_in a.content) ≡ (step (tree_in (volume_of a.content) (bytes_in a.content)) (command.Trunc path size)).1)
     unfolding tree_of rewrites
-    does = law path size node 0 0 [] (volume_of a.content) (lists_then a.content w b.content) (file_bytes a.content) (file_bytes a.content) (file_bytes_are a.content) settled.sound allowed rewrites
+    does = law path size node 0 0 [] (volume_of a.content) (lists_then a.content w b.content) (bytes_in a.content) (bytes_in a.content) (file_bytes_are a.content) settled.sound allowed rewrites
         (shortens_makes node.id size moment entry.parent entry.name its.file (volume_of a.content) (lists_then a.content w b.content) (sym its.id) short_fork is_record settled.sound is_moment nodes rest a.content refl long)
 
     headed : header_of_volume b.content ≡ w.header

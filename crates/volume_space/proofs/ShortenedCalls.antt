@@ -19,7 +19,7 @@ use Rattle.hfs_model.specs.declared.plain.PlainNode.{PlainNode}
 use Rattle.hfs_model.specs.declared.plain.PlainTree.{PlainTree}
 use Rattle.hfs_volume.specs.Content.{VolumeState, records_of, volume_of}
 use Rattle.hfs_volume.specs.Records.{Placed, entries_of, id_in, is_empty, is_file, is_placed_at, is_thread, record_at}
-use Rattle.hfs_volume.specs.TreeOf.{file_bytes, tree_of}
+use Rattle.hfs_volume.specs.TreeOf.{bytes_in, tree_of}
 use Rattle.hfs_volume.specs.Weight.{data_of, edits, free_blocks, weight}
 use Rattle.hfs_volume.specs.declared.cost.Cost.TheVariants as cost
 use Rattle.hfs_volume.proofs.Flat.{found_some, none_or_some, some_same}
@@ -105,10 +105,10 @@ unfolding tree_of
 entry_file v a holds tells settled path size node allowed id entry number there =
     by_found (record_at (records_of (volume_of a.content)) entry.parent entry.name) refl (ap (λ (l : VolumeState). value_at l.catalog_pairs entry.parent entry.name) settled.lists ∙ there.value)
   where
-    its : IsFileOf (volume_of a.content) (file_bytes a.content) node
+    its : IsFileOf (volume_of a.content) (bytes_in a.content) node
     its =
         let is = trunc_file (tree_of a.content) path size node allowed in
-        file_of_node (volume_of a.content) settled.sound (settled_sorted v a.content (holds.stands tells).trees settled) (file_bytes a.content) node is.0 is.1
+        file_of_node (volume_of a.content) settled.sound (settled_sorted v a.content (holds.stands tells).trees settled) (bytes_in a.content) node is.0 is.1
 
     by_found : (o : Option Placed) → record_at (records_of (volume_of a.content)) entry.parent entry.name ≡ o → option_map (λ (p : Placed). p.value) o ≡ Some entry.rec → is_file entry.rec ≡ true
     by_found None found same = absurd (none_or_some entry.rec same)

@@ -9,15 +9,19 @@ use Rattle.hfs_volume.specs.Content.{volume_of}
 use Rattle.hfs_volume.specs.Cost.{cost_of}
 use Rattle.hfs_volume.specs.Forks.{parts_for}
 use Rattle.hfs_volume.specs.Reclaim.{CutOrphan, CutShrunk, DropAttribute, DropOrphan, Reclaim, reclaim_cost_with}
-use Rattle.hfs_volume.specs.Weight.{free_blocks, room_with}
+use Rattle.hfs_volume.specs.Weight.{free_blocks, room_with, value_change}
 use Rattle.volume_runs.specs.Rest.{cut_puts}
-use Rattle.volume_base.specs.Fitting.{AreMet, is_met, needs_of, wants}
+use Rattle.hfs_volume.specs.declared.cost.Cost.{Cost}
+use Rattle.hfs_volume.specs.declared.cost.ValueChange.{ValueChange}
+use Rattle.volume_base.specs.Fitting.{AreMet, AreMetValued, is_met, needs_of, wants}
+use Rattle.volume_base.specs.Weighing.{needs_valued}
 use Rattle.volume_base.specs.Room.{capacity_of, room_on}
 use Rattle.volume_base.specs.Standing.{IsSettled}
 use Rattle.volume_base.specs.declared.room.FreeBlocks.TheVariants as blocks
 use Rattle.volume_base.specs.declared.volume.Volume.{Volume}
 use Rattle.volume_space.specs.Cutting.{IsCut, IsNextCut, trim_load}
-use Rattle.volume_space.specs.Orphans.{IsNextShort, IsShort}
+use Rattle.volume_space.specs.Orphans.{IsNextShort, IsShort, bare_edits}
+use Rattle.volume_space.proofs.BareCost.{bare_cost_by}
 use Rattle.volume_space.proofs.HeldUp.{cut_puts_is}
 use Rattle.volume_space.proofs.PutMet.{not_met}
 
@@ -25,9 +29,11 @@ pub short_drop : (v : Volume) (a : Space) (id : ℕ) → (AreMet (wants 0 2 0 1)
 unfolding reclaim_cost_with
 short_drop v a id never = not_met (is_met (cost_of (needs_of (wants 0 2 0 1)) (room_with (capacity_of v) (free_of v.map) (volume_of a.content))) a.spare) never
 
-pub short_bare : (v : Volume) (a : Space) (id : ℕ) (name : List ℕ) → (AreMet (wants 0 0 1 1) v a → ⊥) → IsShort (capacity_of v) (free_of v.map) a.spare (volume_of a.content) (DropAttribute id name)
-unfolding reclaim_cost_with
-short_bare v a id name never = not_met (is_met (cost_of (needs_of (wants 0 0 1 1)) (room_with (capacity_of v) (free_of v.map) (volume_of a.content))) a.spare) never
+pub short_bare : (v : Volume) (a : Space) (change : ValueChange) (id : ℕ) (name : List ℕ) → change ≡ value_change (volume_of a.content) id name 0 → (AreMetValued (wants 0 0 1 1) change v a → ⊥)
+    → IsShort (capacity_of v) (free_of v.map) a.spare (volume_of a.content) (DropAttribute id name)
+short_bare v a change id name same never =
+    ap (λ (c : Cost). is_met c a.spare) (bare_cost_by (capacity_of v) (free_of v.map) a.content change id name same)
+    ∙ not_met (is_met (cost_of (needs_valued (free_of v.map) bare_edits change) (room_with (capacity_of v) (free_of v.map) (volume_of a.content))) a.spare) never
 
 -- what a cut puts by the volume's own numbers
 pub trim_is : (v : Volume) (content : Content) → IsSettled v content → trim_load v ≡ cut_puts (room_on blocks.All v)

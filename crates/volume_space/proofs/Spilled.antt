@@ -29,10 +29,9 @@ use Rattle.hfs_volume.proofs.Reaching.{flat_cases}
 use Rattle.volume_header.specs.Header.{header_of}
 use Rattle.volume_space.specs.Growing.{TakesRun, with_run}
 use Rattle.volume_base.specs.Lists.{bits_on, facts_on, lists_of}
-use Rattle.volume_space.specs.Standing.{HoldsOn}
+use Rattle.volume_base.specs.Holding.{HoldsOn, IsLaidOutAs}
 use Rattle.volume_base.specs.Standing.{IsKeptAside, IsSettled, IsStanding, StandsOver, attribute_sectors, file_sectors, map_sectors, own_sectors}
 use Rattle.volume_base.specs.Service.{IsInService}
-use Rattle.volume_space.specs.Spilling.{IsLaidOutAs}
 use Rattle.volume_base.specs.Touching.{Touches}
 use Rattle.volume_base.specs.declared.volume.Volume.{Volume}
 use Rattle.hfs_volume.proofs.Members.{each_of}

@@ -29,7 +29,7 @@ use Rattle.volume_base.specs.Lists.{bits_on}
 use Rattle.volume_base.specs.Standing.{IsSettled, IsStanding}
 use Rattle.volume_base.specs.declared.volume.Volume.{Volume}
 use Rattle.volume_space.proofs.GrownFree.{run_clear, run_inside}
-use Rattle.volume_space.proofs.Mapped.{kept_bit}
+use Rattle.volume_base.proofs.Mapped.{kept_bit}
 use Rattle.volume_space.proofs.Spilled.{clear, fresh_free, takes_one}
 
 -- ---- blocks of extents

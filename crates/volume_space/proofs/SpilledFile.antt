@@ -11,14 +11,15 @@ use Rattle.alloc_bitmap.proofs.ApartLaws.{times-append}
 use Rattle.file_io.specs.Places.{AreUsed}
 use Rattle.sector_disk.specs.Space.{Space}
 use Rattle.hfs_volume.specs.Blocks.{forks_of, used_in}
-use Rattle.hfs_volume.specs.Content.{overflow_in_volume, volume_of}
+use Rattle.hfs_volume.specs.Content.{attributes_of, overflow_in_volume, volume_of}
 use Rattle.hfs_volume.specs.Forks.{Owned, bad_extents, blocks_owned, extents_of, reserved_blocks}
+use Rattle.hfs_volume.specs.Values.{blocks_of_values}
 use Rattle.hfs_volume.proofs.Apart.{among, fork_is_used, used_is}
 use Rattle.hfs_volume.proofs.BlockWants.{range_bounds}
 use Rattle.hfs_volume.proofs.Members.{all_of, at_front, first_or_later}
 use Rattle.volume_base.specs.Standing.{IsSettled}
 use Rattle.volume_base.specs.declared.volume.Volume.{Volume}
-use Rattle.volume_space.proofs.Mapped.{kept_bit}
+use Rattle.volume_base.proofs.Mapped.{kept_bit}
 use Rattle.volume_base.proofs.SoundForks.{extent_inside}
 
 -- extents that end below a number
@@ -71,6 +72,7 @@ module _ (v : Volume) (a : Space) (settled : IsSettled v a.content) (owned : Own
         arith,
         settled.sound.blocks.forks.once block,
         ap (λ (l : List ℕ). times block l) (used_is lists),
+        times-append block (reserved ++ in_forks ++ bad) (blocks_of_values (attributes_of lists)),
         times-append block (reserved ++ in_forks) bad,
         times-append block reserved in_forks,
         times_part (blocks_owned (overflow_in_volume lists)) (forks_of lists) owned block stands,

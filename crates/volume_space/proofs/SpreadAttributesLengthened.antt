@@ -19,7 +19,7 @@ use Rattle.hfs_volume.specs.Aside.{IsJournalSector}
 use Rattle.hfs_volume.specs.Content.{has_attributes, overflow_in_volume}
 use Rattle.volume_space.specs.SpreadGrowth.{CanGrowSpread, StandsButOver}
 use Rattle.volume_space.specs.Growing.{IsOwnOrFree, LengthensAttributes, TakesRun, blocks_filled, lengthened_attributes, nodes_load, run_load}
-use Rattle.volume_space.specs.Mapping.{changed_sectors}
+use Rattle.volume_base.specs.Mapping.{changed_sectors}
 use Rattle.volume_base.specs.Service.{IsInService}
 use Rattle.volume_base.specs.Standing.{IsSettled, StandsOver, map_sectors, own_sectors}
 use Rattle.volume_base.specs.Touching.{Touches}

@@ -19,10 +19,10 @@ use Rattle.volume_base.specs.declared.volume.Volume.{Volume}
 use Rattle.volume_base.proofs.Resettling.{bits_at, bits_here}
 use Rattle.volume_base.proofs.TreesSettled.{header_settled}
 use Rattle.volume_space.specs.Growing.{TakesRun}
-use Rattle.volume_space.specs.Mapping.{HoldsUnchanged}
+use Rattle.volume_base.specs.Mapping.{HoldsUnchanged}
 use Rattle.volume_space.proofs.GrownBits.{bit_elsewhere, bits_hold, unchanged_has}
 use Rattle.volume_space.proofs.GrownRun.{blocks_one, same_length, used_now, used_others}
-use Rattle.volume_space.proofs.Mapped.{kept_bit}
+use Rattle.volume_base.proofs.Mapped.{kept_bit}
 
 -- a block of none of a run's is none that it has
 pub not_in_run : (run : Extent) (k : ℕ) → (Contains (blocks_of (run ∷ [])) k → ⊥) → has run k ≡ false

@@ -17,7 +17,7 @@ use Rattle.volume_base.specs.declared.room.FreeBlocks.TheVariants as blocks
 use Rattle.volume_base.specs.declared.volume.Tree.{Tree}
 use Rattle.volume_base.specs.declared.volume.Volume.{Volume}
 use Rattle.volume_space.specs.Spreading.{is_met_extents, needs_extents}
-use Rattle.volume_space.specs.Standing.{HoldsOn}
+use Rattle.volume_base.specs.Holding.{HoldsOn}
 use Rattle.volume_space.proofs.ExtentRoom.{extent_room}
 
 -- a load that so many sectors suffice for is met by more

@@ -19,7 +19,7 @@ use Rattle.hfs_volume.specs.Content.{overflow_in_volume}
 use Rattle.hfs_volume.specs.Aside.{IsJournalSector}
 use Rattle.volume_space.specs.SpreadGrowth.{CanGrowSpread, StandsButOver}
 use Rattle.volume_space.specs.Growing.{IsOwnOrFree, Lengthens, TakesRun, blocks_filled, lengthened, nodes_load, run_load}
-use Rattle.volume_space.specs.Mapping.{changed_sectors}
+use Rattle.volume_base.specs.Mapping.{changed_sectors}
 use Rattle.volume_base.specs.Service.{IsInService}
 use Rattle.volume_base.specs.Standing.{IsSettled, StandsOver, own_sectors, map_sectors}
 use Rattle.volume_base.specs.Touching.{Touches}

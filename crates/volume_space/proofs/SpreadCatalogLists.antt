@@ -14,12 +14,12 @@ use Rattle.btree_file.specs.Growth.{HasGrown, nodes_in, sectors_with}
 use Rattle.btree_file.specs.declared.tree.TreeFile.{TreeFile}
 use Rattle.sector_disk.specs.Space.{Space}
 use Rattle.hfs_volume.specs.Blocks.{HasSizes, forks_of}
-use Rattle.hfs_volume.specs.Changes.{HasSameNodes, IsStored}
+use Rattle.hfs_volume.specs.Changes.{HasSameNodes, IsStored, with_free}
 use Rattle.hfs_volume.specs.Content.{TreeFacts, VolumeState, facts_at, is_set, overflow_in_volume, volume_of}
 use Rattle.hfs_volume.specs.Forks.{all_forks, catalog_id, data_kind, extents_id, extents_of}
 use Rattle.hfs_volume.specs.Records.{overflow_of}
 use Rattle.hfs_volume.specs.Reclaim.{IsTreeFork, blocks_at}
-use Rattle.hfs_volume.specs.Writing.{GrowsAndCounts, with_free}
+use Rattle.hfs_volume.specs.Writing.{GrowsAndCounts}
 use Rattle.hfs_volume.proofs.BlockWants.{range_bounds}
 use Rattle.hfs_volume.proofs.Members.{all_of, each_of}
 use Rattle.hfs_volume.proofs.Untouched.{special_stands}

@@ -19,15 +19,15 @@ use Rattle.btree_file.specs.declared.tree.TreeFile.{TreeFile}
 use Rattle.sector_disk.specs.Lists.{sector}
 use Rattle.sector_disk.specs.Space.{Space}
 use Rattle.hfs_volume.specs.Changes.{HasSameNodes}
-use Rattle.hfs_volume.specs.Content.{TreeFacts, VolumeState, attributes_file, block_limit, facts_of, overflow_in_volume, overflow_of_content, sectors_in, tree_of_fork, volume_of}
+use Rattle.hfs_volume.specs.Content.{TreeFacts, VolumeState, attributes_file, attributes_of, block_limit, facts_of, overflow_in_volume, overflow_of_content, sectors_in, tree_of_fork, volume_of}
 use Rattle.hfs_volume.specs.Forks.{allocation_id, attributes_id, catalog_id, data_kind, extents_id, extents_of, per_block_of}
 use Rattle.hfs_volume.specs.Links.{private_id}
-use Rattle.hfs_volume.specs.Records.{placed_in}
-use Rattle.hfs_volume.specs.Reclaim.{GrowsTree, GrowsTrees, blocks_at}
+use Rattle.hfs_volume.specs.Records.{placed_in, Overflow}
+use Rattle.hfs_volume.specs.Reclaim.{GrowsTree, GrowsTrees, SameValues, blocks_at}
 use Rattle.hfs_volume.specs.Sound.{IsSoundVolume}
-use Rattle.hfs_volume.specs.TreeOf.{file_bytes, tree_in, tree_of}
+use Rattle.hfs_volume.specs.TreeOf.{bytes_in, tree_in, tree_of}
+use Rattle.hfs_volume.specs.Values.{value_blocks}
 use Rattle.hfs_volume.specs.Writing.{GrowthKeeps}
-use Rattle.hfs_volume.specs.Records.{Overflow}
 use Rattle.hx_bytes.specs.declared.extents.ForkRecord.{ForkRecord}
 use Rattle.hfs_volume.proofs.Rereading.{same_tree}
 use Rattle.overflow.proofs.Cutting.{AreUsed}
@@ -35,7 +35,7 @@ use Rattle.volume_space.specs.Growing.{HeadGrows, KeepsForks, TakesRun, lengthen
 use Rattle.volume_space.specs.SpreadGrowth.{StandsBut}
 use Rattle.volume_base.specs.Lists.{bits_on, facts_on, lists_of}
 use Rattle.volume_base.specs.Spreading.{StoresFork}
-use Rattle.volume_space.specs.Mapping.{HoldsMap}
+use Rattle.volume_base.specs.Mapping.{HoldsMap}
 use Rattle.volume_base.specs.Standing.{IsSettled, IsStanding, map_sectors, with_attributes_tree}
 use Rattle.volume_base.specs.declared.volume.Tree.{Tree}
 use Rattle.volume_base.specs.declared.volume.Volume.{Volume}
@@ -104,10 +104,11 @@ module _ (v : Volume) (a b c : Space) (was : IsStanding v a) (settled : IsSettle
     fresh = blocks_of (run ∷ [])
 
     by_law : IsSoundVolume (lists_grown v a b was settled count run later takes some file grown within tells more counted nodes whole pairs (facts_on tree.file) stored_in same_nodes)
-        × (tree_in (lists_grown v a b was settled count run later takes some file grown within tells more counted nodes whole pairs (facts_on tree.file) stored_in same_nodes) (file_bytes a.content) ≡ tree_in (volume_of a.content) (file_bytes a.content))
+        × (tree_in (lists_grown v a b was settled count run later takes some file grown within tells more counted nodes whole pairs (facts_on tree.file) stored_in same_nodes) (bytes_in a.content) ≡ tree_in (volume_of a.content) (bytes_in a.content))
         × GrowsTree catalog_id more (volume_of a.content) (lists_grown v a b was settled count run later takes some file grown within tells more counted nodes whole pairs (facts_on tree.file) stored_in same_nodes)
         × ((other kind : ℕ) → (other ≢ catalog_id) ⊎ (kind ≢ data_kind) → blocks_at (lists_grown v a b was settled count run later takes some file grown within tells more counted nodes whole pairs (facts_on tree.file) stored_in same_nodes) other kind ≡ blocks_at (volume_of a.content) other kind)
-    by_law = law catalog_id more (blocks_of (run ∷ [])) (volume_of a.content) grown_lists (file_bytes a.content) (inr (inl refl)) settled.sound
+        × SameValues (volume_of a.content) (lists_grown v a b was settled count run later takes some file grown within tells more counted nodes whole pairs (facts_on tree.file) stored_in same_nodes)
+    by_law = law catalog_id more (blocks_of (run ∷ [])) (volume_of a.content) grown_lists (bytes_in a.content) (inr (inl refl)) settled.sound
         (grows_counted v a b was settled count run later takes some file grown within tells more counted nodes whole pairs (facts_on tree.file) stored_in same_nodes)
 
     fits : length later.used ≤ 8 * v.header.allocation_fork.logical_size
@@ -143,8 +144,11 @@ module _ (v : Volume) (a b c : Space) (was : IsStanding v a) (settled : IsSettle
 
     -- ---- every other fork
 
+    others_kept : (other kind : ℕ) → (other ≢ catalog_id) ⊎ (kind ≢ data_kind) → blocks_at (volume_of d.content) other kind ≡ blocks_at (volume_of a.content) other kind
+    others_kept other kind differs = ap (λ (l : VolumeState). blocks_at l other kind) volume_now ∙ by_law.3 other kind differs
+
     pub forks_kept : KeepsForks catalog_id (volume_of a.content) (volume_of d.content)
-    forks_kept other kind differs = ap (λ (l : VolumeState). blocks_at l other kind) volume_now ∙ by_law.3 other kind differs
+    forks_kept = (others_kept, λ id name. ap (λ (l : VolumeState). value_blocks (attributes_of l) id name) volume_now ∙ by_law.4 id name)
 
     -- ---- the sectors that are as they were
 
@@ -182,8 +186,8 @@ module _ (v : Volume) (a b c : Space) (was : IsStanding v a) (settled : IsSettle
     pub tree_same : tree_of d.content ≡ tree_of a.content
     unfolding tree_of
     tree_same =
-        ap (λ (l : VolumeState). tree_in l (file_bytes d.content)) volume_now
-        ∙ tree_without grown_lists (volume_of d.content).attributes_tree (file_bytes d.content)
+        ap (λ (l : VolumeState). tree_in l (bytes_in d.content)) volume_now
+        ∙ tree_without grown_lists (volume_of d.content).attributes_tree (bytes_in d.content)
         ∙ tree_kept grown_lists by_law.0 catalog_id (omega arith) (λ two. absurd (omega (arith, two))) a.content d.content
         (record {
           total = ap (λ (h : VolumeHeader). h.total_blocks) head_was ∙ sym (ap (λ (h : VolumeHeader). h.total_blocks) head_now);
@@ -240,13 +244,13 @@ module _ (v : Volume) (a b c : Space) (was : IsStanding v a) (settled : IsSettle
       extents = record {
         nodes = omega (arith, ap (λ (l : VolumeState). l.extents_tree.shape.total) volume_now, same_nodes.total);
         blocks = same_fork (volume_of a.content).extents_tree.shape.node_size (volume_of a.content).head.block_size (blocks_at (volume_of a.content) extents_id data_kind) (blocks_at (volume_of d.content) extents_id data_kind)
-            (forks_kept extents_id data_kind (inl (λ same. absurd (omega (arith, same)))));
+            (others_kept extents_id data_kind (inl (λ same. absurd (omega (arith, same)))));
       };
       catalog = subst (λ (l : VolumeState). GrowsTree catalog_id more (volume_of a.content) l) (sym volume_now) (record { nodes = by_law.2.nodes; blocks = by_law.2.blocks });
       attributes = record {
         nodes = omega (arith, ap (λ (t : TreeFacts). t.shape.total) attributes_tree_same);
         blocks = same_fork (volume_of a.content).attributes_tree.shape.node_size (volume_of a.content).head.block_size (blocks_at (volume_of a.content) attributes_id data_kind) (blocks_at (volume_of d.content) attributes_id data_kind)
-            (forks_kept attributes_id data_kind (inl (λ same. absurd (omega (arith, same)))));
+            (others_kept attributes_id data_kind (inl (λ same. absurd (omega (arith, same)))));
       };
     }
 

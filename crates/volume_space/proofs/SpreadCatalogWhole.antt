@@ -19,7 +19,7 @@ use Rattle.hfs_volume.proofs.Members.{first_or_later}
 use Rattle.volume_base.specs.Changing.{PutsHeader}
 use Rattle.volume_space.specs.Growing.{HeadGrows, KeepsForks, Lengthens, blocks_filled, lengthened, with_catalog}
 use Rattle.volume_base.specs.Lists.{lists_of}
-use Rattle.volume_space.specs.Mapping.{HoldsMap, HoldsUnchanged, PutsMap}
+use Rattle.volume_base.specs.Mapping.{HoldsMap, HoldsUnchanged, PutsMap}
 use Rattle.volume_space.specs.SpreadGrowth.{CanGrowSpread, StandsBut}
 use Rattle.volume_base.specs.Spreading.{StoresFork}
 use Rattle.volume_base.specs.Standing.{IsSettled, IsStanding, StandsOver, attribute_sectors, file_sectors, map_sectors}

@@ -1,7 +1,7 @@
 -- The extents of a file's fork: where they stand, and the room to store those that a cut leaves.
 use Rattle.std.proofs.Common.{◌≡◌, ◌≢◌, ◌⊎◌, inl, inr, ◌<◌, ◌≤◌, ℕ, zero, suc, ◌+◌, ◌-◌, ◌*◌, ◌/◌, ◌==◌, min, Bool, true, false, List, [], ◌∷◌, ◌++◌, length, map, take, drop, refl, sym, ◌∙◌, ap, subst, arith, length-append, length-take}
 use Rattle.volume_space.specs.Spreading.{ChangesFew}
-use Rattle.std.specs.Prelude.{Contains, not, Option, None, Some, if◌then◌else◌}
+use Rattle.std.specs.Prelude.{Contains, not, Option, None, Some, if◌then◌else◌, slice_index_or}
 use Rattle.std.specs.List.{range_with_len}
 use Rattle.std.specs.Option.{option_map}
 use Rattle.std.proofs.Math.Nat.{mul-le-mul_right}
@@ -9,7 +9,6 @@ use Rattle.std.proofs.lemmas.Bool.{both_ways, le-leb, ne_eqb}
 use Rattle.std.proofs.lemmas.List.{take_all, take-append-le, take_more}
 use Rattle.std.proofs.lemmas.List.FromFn.{length-range_with_len}
 use Rattle.std.proofs.lemmas.List.Sums.{count_by-le-length}
-use Rattle.std.specs.Prelude.{slice_index_or}
 use Rattle.hx_bytes.specs.declared.extents.Extent.{Extent}
 use Rattle.hx_bytes.specs.declared.extents.ForkRecord.{ForkRecord}
 use Rattle.sector_disk.specs.Lists.{Content}

@@ -1,6 +1,6 @@
 -- The numbers of a growth of a tree's file whose fork may have eight extents or more.
 use Rattle.std.proofs.Common.{◌≡◌, ◌≢◌, inl, ◌<◌, ◌≤◌, ℕ, ◌+◌, ◌*◌, ◌/◌, ◌^◌, List, [], ◌∷◌, length, get_or, sym, ◌∙◌, ap, subst, arith, ⊎_elim}
-use Rattle.std.specs.Prelude.{Contains}
+use Rattle.std.specs.Prelude.{Contains, IsTrue}
 use Rattle.std.proofs.Math.Nat.{div-zero, mul-div_cancel, mul_left_comm, zero-div, mul-zero}
 use Rattle.std.proofs.lemmas.Bool.{cases_eq}
 use Rattle.hx_bytes.specs.declared.extents.Extent.{Extent}
@@ -15,7 +15,6 @@ use Rattle.btree_file.specs.declared.tree.TreeFile.{TreeFile}
 use Rattle.sector_disk.specs.Lists.{Content}
 use Rattle.sector_disk.specs.Space.{Space}
 use Rattle.hfs_volume.specs.Content.{VolumeState, has_attributes, volume_of}
-use Rattle.std.specs.Prelude.{IsTrue}
 use Rattle.hfs_volume.specs.Forks.{per_block_of}
 use Rattle.hfs_volume.proofs.BlockWants.{range_bounds}
 use Rattle.hfs_volume.proofs.Sectors.{in_block}

@@ -12,7 +12,7 @@ use Rattle.hfs_volume.specs.Entries.{IsUserId}
 use Rattle.hfs_volume.specs.Forks.{Owned, data_kind, attributes_id, extents_of, is_of}
 use Rattle.hfs_volume.specs.Records.{Placed, entries_of, overflow_of, id_of, id_in}
 use Rattle.hfs_volume.specs.Sound.{IsSoundVolume}
-use Rattle.hfs_volume.specs.TreeOf.{tree_in, file_bytes}
+use Rattle.hfs_volume.specs.TreeOf.{bytes_in, file_bytes, tree_in}
 use Rattle.hfs_volume.proofs.Apart.{not_in_both}
 use Rattle.hfs_volume.proofs.Bytes.{same_bytes_same_tree}
 use Rattle.hfs_volume.proofs.Members.{each_of}
@@ -21,6 +21,7 @@ use Rattle.hfs_volume.proofs.Sectors.{in_block}
 use Rattle.hfs_volume.proofs.Untouched.{data_fork_of, file_fork_stands, special_stands, whole_blocks}
 use Rattle.volume_base.proofs.FilesKept.{ReadsAs, allocation_sectors, attributes_sectors, catalog_sectors, extents_sectors, not_2, not_in_catalog, not_in_extents, not_in_map}
 use Rattle.volume_space.proofs.SpreadForks.{extents_alike}
+use Rattle.volume_space.proofs.ValuesKept.{values_kept}
 
 -- a content whose blocks are as many and as large as these lists say
 pub record HasBlocksOf (content : Content) (lists : VolumeState) : Type 0 where
@@ -75,5 +76,6 @@ module _ (lists : VolumeState) (sound : IsSoundVolume lists) (id : ℕ) (low : i
           ∙ ap (λ (l : List ℕ). take file.data_fork.logical_size l) (same_bytes a d (lists.head.total_blocks * per) sectors (λ at has. agrees at (not_2 lists sound p file stands is at has) (not_in_catalog lists sound p file stands is at has) (not_in_attributes at has) (not_in_extents lists sound p file stands is at has) (not_in_map lists sound p file stands is at has)))
           ∙ sym before
 
-    pub tree_kept : tree_in lists (file_bytes d) ≡ tree_in lists (file_bytes a)
-    tree_kept = same_bytes_same_tree lists (file_bytes d) (file_bytes a) (λ p file stands is. bytes_same p file stands is)
+    pub tree_kept : tree_in lists (bytes_in d) ≡ tree_in lists (bytes_in a)
+    tree_kept = same_bytes_same_tree lists (bytes_in d) (bytes_in a) (λ p file stands is. bytes_same p file stands is)
+        (values_kept lists sound a d reads_a.total reads_a.block reads_d.total reads_d.block agrees)

@@ -1,5 +1,5 @@
 -- The file with the least CNID of those that wait, as it is found by its CNID, is the one whose entry the next step of reclaiming drops.
-use Rattle.std.proofs.Common.{◌≡◌, ◌≤◌, ℕ, true, false, List, length, sym, ◌∙◌, ap, subst}
+use Rattle.std.proofs.Common.{◌≡◌, ◌≤◌, ℕ, true, false, List, length, map, sym, ◌∙◌, ap, subst}
 use Rattle.std.specs.Prelude.{Contains, IfOk, IfSome, Option, None, Some, Result, Ok, Err}
 use Rattle.hx_bytes.specs.declared.faults.Trouble.{Trouble}
 use Rattle.sector_disk.specs.Lists.{Content}
@@ -14,7 +14,7 @@ use Rattle.hfs_volume.specs.Content.{VolumeState, records_of, volume_of}
 use Rattle.hfs_volume.specs.Links.{is_orphan, orphans_of}
 use Rattle.hfs_volume.specs.Reclaim.{DropAttribute, DropOrphan, has_surplus_left, least, next_reclaim}
 use Rattle.hfs_volume.specs.Reclaiming.{DropIsOfBareOrphan, IsBareOrphan}
-use Rattle.hfs_volume.specs.Records.{Placed, entries_of, id_of}
+use Rattle.hfs_volume.specs.Records.{Placed, attribute_of, entries_of, id_of}
 use Rattle.hfs_volume.proofs.Flat.{some_same}
 use Rattle.hfs_volume.proofs.Hiding.{same_entry}
 use Rattle.hfs_volume.proofs.Members.{kept_cases}
@@ -27,7 +27,8 @@ use Rattle.volume_base.specs.declared.entries.Entry.{Entry}
 use Rattle.volume_base.specs.declared.volume.Volume.{Volume}
 use Rattle.volume_base.proofs.Entered.{entry_is, keys_are, short_names}
 use Rattle.volume_base.proofs.NextDrop.{least_is, next_is_bare, next_is_drop}
-use Rattle.volume_base.proofs.Rising.{settled_sorted}
+use Rattle.volume_base.proofs.Rising.{settled_attributes_sorted, settled_sorted}
+use Rattle.volume_space.proofs.FirstNames.{first_of_all, none_of_all}
 use Rattle.volume_space.proofs.Waiting.{least_found, none_waits}
 
 -- what was found among the entries of the private folder
@@ -69,7 +70,7 @@ module _ (v : Volume) (content : Content) (holds : HoldsTrees v content) (settle
       where
         next : next_reclaim (volume_of content) shrunk ≡ Some (DropOrphan id)
         next = next_is_drop (volume_of content) settled.sound shrunk unshrunk id lowest found.0 stands found.2 (ap (λ (x : Entry). is_blockless x.rec) (sym same) ∙ bare)
-            (ap (λ (l : VolumeState). length (names_of id l.attribute_pairs)) settled.lists ∙ none)
+            (none_of_all id (map attribute_of (volume_of content).attribute_pairs) settled.sound.attributes.values (ap (λ (l : VolumeState). length (names_of id l.attribute_pairs)) settled.lists ∙ none))
 
         its : IsBareOrphan id (volume_of content)
         its = law (volume_of content) shrunk id settled.sound next
@@ -81,7 +82,8 @@ module _ (v : Volume) (content : Content) (holds : HoldsTrees v content) (settle
     bared_next : is_blockless entry.rec ≡ true → (name : List ℕ) → IsFirstName name (names_of id (lists_of v content).attribute_pairs) → next_reclaim (volume_of content) shrunk ≡ Some (DropAttribute id name)
     bared_next bare name first =
         next_is_bare (volume_of content) settled.sound shrunk unshrunk id lowest found.0 stands found.2 (ap (λ (x : Entry). is_blockless x.rec) (sym same) ∙ bare) name
-        (subst (λ (l : VolumeState). IsFirstName name (names_of id l.attribute_pairs)) (sym settled.lists) first)
+        (first_of_all id (map attribute_of (volume_of content).attribute_pairs) (settled_attributes_sorted v content holds settled) settled.sound.attributes.values name
+        (subst (λ (l : VolumeState). IsFirstName name (names_of id l.attribute_pairs)) (sym settled.lists) first))
 
     pub found_to_bare : (u : Volume) (later : Content) → lists_of u later ≡ lists_of v content → (r : Result (Option (List ℕ)) Trouble)
         → IfOk r (λ (o : Option (List ℕ)). IfSome o (λ (name : List ℕ). (is_blockless entry.rec ≡ true) × IsFirstName name (names_of id (lists_of u later).attribute_pairs)))

@@ -21,7 +21,7 @@ use Rattle.hfs_volume.specs.Reclaim.{Does, DropOrphan}
 use Rattle.hfs_volume.specs.Reclaiming.{DropsOrphanEntry, OrphanDropped}
 use Rattle.hfs_volume.specs.Records.{Placed, entries_of, id_of, is_empty, is_folder, is_thread, placed_in, record_at, special_of, valence_in}
 use Rattle.hfs_volume.specs.Sound.{IsSoundVolume}
-use Rattle.hfs_volume.specs.TreeOf.{file_bytes, tree_in, tree_of}
+use Rattle.hfs_volume.specs.TreeOf.{bytes_in, tree_in, tree_of}
 use Rattle.hfs_volume.proofs.Bytes.{file_bytes_are}
 use Rattle.hfs_volume.proofs.Fields.{not_thread}
 use Rattle.hfs_volume.proofs.Flat.{none_or_some, some_same}
@@ -182,8 +182,8 @@ module _ (v : Volume) (a : Space) (was : IsStanding v a) (settled : IsSettled v 
           loses = loses;
         }
 
-        does : IsSoundVolume (lists_then a.content u c.content) × (tree_in (lists_then a.content u c.content) (file_bytes a.content) ≡ tree_in (volume_of a.content) (file_bytes a.content)) × Does (DropOrphan drop.id) (volume_of a.content) (lists_then a.content u c.content)
-        does = law drop.id (volume_of a.content) (lists_then a.content u c.content) (file_bytes a.content) (file_bytes_are a.content) settled.sound drops_then
+        does : IsSoundVolume (lists_then a.content u c.content) × (tree_in (lists_then a.content u c.content) (bytes_in a.content) ≡ tree_in (volume_of a.content) (bytes_in a.content)) × Does (DropOrphan drop.id) (volume_of a.content) (lists_then a.content u c.content)
+        does = law drop.id (volume_of a.content) (lists_then a.content u c.content) (bytes_in a.content) (file_bytes_are a.content) settled.sound drops_then
 
         changes : ChangesCatalog v u a.content c.content
         changes = changes_both v w u a.content b.content c.content drops.changes t.changes

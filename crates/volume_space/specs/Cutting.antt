@@ -20,8 +20,8 @@ use Rattle.hfs_volume.specs.Reclaim.{CutOrphan, CutShrunk, Does, IsTreeFork, Rec
 use Rattle.hfs_volume.specs.TreeOf.{tree_of}
 use Rattle.volume_base.specs.Changing.{catalog_node}
 use Rattle.volume_base.specs.Lists.{lists_of}
-use Rattle.volume_space.specs.Mapping.{HoldsMap}
-use Rattle.volume_space.specs.Standing.{HoldsOn}
+use Rattle.volume_base.specs.Mapping.{HoldsMap}
+use Rattle.volume_base.specs.Holding.{HoldsOn}
 use Rattle.volume_base.specs.Standing.{map_sectors}
 use Rattle.volume_base.specs.declared.cutting.Cut.{Cut}
 use Rattle.volume_space.specs.declared.cutting.ForkKind.{ForkKind}
@@ -81,12 +81,6 @@ pub record PutsGiven (volume : Volume) (before after : Content) : Type 0 where
   pub headed : header_of_volume after ≡ volume.header
   pub lists : lists_of volume after ≡ lists_of volume before
   pub outside : AgreesOutside (λ s. (s ≡ 2) ⊎ Contains (map_sectors volume) s) before after
-
--- No block that a content has in use is lost, and the file shrunk last and the capacity are as they were.
-pub record KeepsUsed (old new : Volume) : Type 0 where
-  pub holds : (committed : Content) → HoldsOn committed old → HoldsOn committed new
-  pub shrunk : new.shrunk ≡ old.shrunk
-  pub capacity : new.capacity ≡ old.capacity
 
 -- ---- the step
 -- The next step of reclaiming cuts this fork of the file with this CNID, to no fewer blocks than these.

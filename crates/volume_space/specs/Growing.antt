@@ -17,7 +17,7 @@ use Rattle.fork_map.specs.Cut.{join}
 use Rattle.hfs_volume.specs.Content.{VolumeState, has_attributes, volume_of}
 use Rattle.hfs_volume.specs.Forks.{data_kind, per_block_of}
 use Rattle.hfs_volume.specs.Cost.{cost_of}
-use Rattle.hfs_volume.specs.Reclaim.{GrowsTrees, KeepsTree, SameFiles, blocks_at, first_growth}
+use Rattle.hfs_volume.specs.Reclaim.{GrowsTrees, KeepsTree, SameFiles, SameValues, blocks_at, first_growth}
 use Rattle.hfs_volume.specs.Weight.{room_with}
 use Rattle.hfs_volume.specs.declared.cost.Cost.TheVariants as cost
 use Rattle.hfs_volume.specs.declared.cost.Needs.{Needs}
@@ -163,9 +163,9 @@ abbrev pub LengthensAttributes : ℕ → Volume → Volume → Space → Space �
 LengthensAttributes more old new before after = LengthensFile (λ volume. volume.attributes.file) lengthened_attributes more old new before after
 
 -- ---- the volume
--- every fork but this file's has the blocks that it had
+-- every fork but this file's has the blocks that it had, and so has the value of each attribute
 abbrev pub KeepsForks : ℕ → VolumeState → VolumeState → Type 0
-KeepsForks id old new = (other kind : ℕ) → (other ≢ id) ⊎ (kind ≢ data_kind) → blocks_at new other kind ≡ blocks_at old other kind
+KeepsForks id old new = ((other kind : ℕ) → (other ≢ id) ⊎ (kind ≢ data_kind) → blocks_at new other kind ≡ blocks_at old other kind) × SameValues old new
 
 -- What a growth by so many nodes makes of the volume: its tree's file has these nodes more, of which all but the new map nodes are free, with a bit
 -- for each; the header counts its blocks, and the bitmap has them in use.
@@ -266,11 +266,12 @@ pub record WantsFirst (tree : WhichTree) (more : ℕ) (volume : Volume) (space :
   pub short : IsShort tree volume ⊎ (capacity ≡ volume.capacity)
 
 -- One tree has so many nodes more: the content is sound and the tree that it stands for is as it was, and so are the blocks of every fork
--- but a tree's, the journal's place, and of the header all but the number of free blocks and the trees' forks.
+-- but a tree's and of each value, the journal's place, and of the header all but the number of free blocks and the trees' forks.
 pub record GrowsAhead (tree : WhichTree) (more : ℕ) (before after : Content) : Type 0 where
   pub keeps : KeepsTree before after
   pub grows : GrowsTrees (alone tree more) (volume_of before) (volume_of after)
   pub files : SameFiles (volume_of before) (volume_of after)
+  pub values : SameValues (volume_of before) (volume_of after)
   pub journal : (volume_of after).journal ≡ (volume_of before).journal
   pub head : HeadGrows (volume_of before).head (volume_of after).head
 

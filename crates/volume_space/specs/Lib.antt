@@ -2,14 +2,10 @@ pub mod Awaiting
 pub mod Cutting
 pub mod CuttingAhead
 pub mod Growing
-pub mod Mapping
 pub mod Orphans
-pub mod Reclaiming
 pub mod Recording
 pub mod Resizing
-pub mod Spilling
 pub mod SpreadGrowth
 pub mod Spreading
-pub mod Standing
 pub mod Writing
 pub mod Zeroing

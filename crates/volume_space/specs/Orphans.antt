@@ -1,5 +1,5 @@
 -- Files that lost their last name and wait in the private folder: how a step of housekeeping finds the first of them, and what it does to it.
-use Rattle.std.specs.Prelude.{◌≡◌, ◌⊎◌, ◌<◌, ◌==◌, ◌&&◌, ◌||◌, nat_lt, ℕ, Bool, true, false, not, List, [], ◌∷◌, length, drop, slice_index, Option, Some, None, if◌then◌else◌, ◌≤◌, ◌+◌}
+use Rattle.std.specs.Prelude.{min, ◌≡◌, ◌⊎◌, ◌<◌, ◌==◌, ◌&&◌, ◌||◌, nat_lt, ℕ, Bool, true, false, not, List, [], ◌∷◌, length, drop, slice_index, Option, Some, None, if◌then◌else◌, ◌≤◌, ◌+◌}
 use Rattle.std.specs.List.{list_all}
 use Rattle.sector_disk.specs.Lists.{Content}
 use Rattle.jnl_format.specs.Recovery.{header_of_volume}
@@ -7,8 +7,13 @@ use Rattle.cat_records.specs.declared.record.CatRecord.{CatRecord}
 use Rattle.cat_records.specs.declared.record.CatRecord.TheVariants.{Folder, File, Thread}
 use Rattle.catalog.specs.Entries.{RemovesEntry}
 use Rattle.catalog.specs.declared.folder.Child.{Child}
-use Rattle.hfs_volume.specs.Changes.{DropsAttribute, InAttributes}
-use Rattle.hfs_volume.specs.Content.{VolumeState, volume_of}
+use Rattle.hfs_volume.specs.Changes.{DropsAttribute, InValues}
+use Rattle.flag_rows.specs.Bits.{sectors_for}
+use Rattle.hfs_volume.specs.Content.{VolumeState, attributes_of, volume_of}
+use Rattle.hfs_volume.specs.Cost.{attributes_key, tree_load}
+use Rattle.hfs_volume.specs.Values.{value_blocks}
+use Rattle.hfs_volume.specs.declared.cost.ValueChange.{ValueChange}
+use Rattle.volume_base.specs.Attributing.{attributes_cost}
 use Rattle.hfs_volume.specs.Reclaim.{CutOrphan, CutShrunk, Does, DropAttribute, DropOrphan, Reclaim, next_reclaim, reclaim_cost, reclaim_cost_with}
 use Rattle.hfs_volume.specs.Reclaiming.{DropsOrphanEntry, IsBareOrphan}
 use Rattle.hfs_volume.specs.Records.{id_in, is_link_type}
@@ -98,12 +103,12 @@ pub record DropsWaiting (shrunk : Option ℕ) (before after : Content) : Type 0 
   pub does : Does (DropOrphan id) (volume_of before) (volume_of after)
   pub tree : tree_of after ≡ tree_of before
 
--- An attribute of a file that waits goes, in the lists of the content, and the tree is as it was.
+-- An attribute of a file that waits goes, whose blocks are given back, in the lists of the content, and the tree is as it was.
 pub record BaresWaiting (shrunk : Option ℕ) (before after : Content) : Type 0 where
   pub id : ℕ
   pub name : List ℕ
   pub next : next_reclaim (volume_of before) shrunk ≡ Some (DropAttribute id name)
-  pub bares : InAttributes (DropsAttribute id name) (volume_of before) (volume_of after)
+  pub bares : InValues (DropsAttribute id name) [] (value_blocks (attributes_of (volume_of before)) id name) (volume_of before) (volume_of after)
   pub does : Does (DropAttribute id name) (volume_of before) (volume_of after)
   pub tree : tree_of after ≡ tree_of before
 
@@ -124,6 +129,10 @@ drop_edits = record { ids = 0; catalog = 2; attributes = 0; updates = 1 }
 
 abbrev pub bare_edits : Edits
 bare_edits = record { ids = 0; catalog = 0; attributes = 1; updates = 1 }
+
+-- the sectors that the drop of an attribute with this change of its value takes at most: of its edits, of the bitmap, and the header's
+abbrev pub strip_load : ValueChange → Volume → ℕ
+strip_load change volume = tree_load attributes_key (attributes_cost volume) (1 + change.records) 0 + (min (sectors_for (length volume.map.used)) change.freed + 1)
 
 -- Nothing is missing for a step of reclaiming, and no tree has to grow for it.
 pub record AffordsStep (capacity : ℕ) (content : Content) (step : Reclaim) : Type 0 where

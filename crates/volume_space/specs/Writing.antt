@@ -25,7 +25,7 @@ use Rattle.hfs_volume.specs.Data.{PutsInFork}
 use Rattle.hfs_volume.specs.Forks.{data_kind, extents_of, per_block_of}
 use Rattle.hfs_volume.specs.Records.{Placed, entries_of, is_link_type}
 use Rattle.hfs_volume.specs.Sound.{IsSoundVolume}
-use Rattle.hfs_volume.specs.TreeOf.{file_bytes, tree_in, tree_of}
+use Rattle.hfs_volume.specs.TreeOf.{bytes_in, tree_in, tree_of}
 use Rattle.hfs_volume.specs.Weight.{Data, data_of, file_extents, first_block, free_runs, needs_cut, new_blocks_of, old_blocks_of, room_with}
 use Rattle.hfs_volume.specs.Writing.{MakesBytes, RewritesFile, file_before, written_bytes}
 use Rattle.hfs_volume.specs.declared.cost.Cost.{Cost}
@@ -165,9 +165,9 @@ pub record PutsValue (file : FileRecord) (from : ℕ) (value : List ℕ) (old ne
   pub many : length fresh ≡ blocks_put old file.data_fork.logical_size from (length value)
   pub rewrites : RewritesFile file.fields.id (first_of old.header.block_size file.data_fork.logical_size from) (old_end old.header.block_size file.data_fork.logical_size (from + length value) - first_of old.header.block_size file.data_fork.logical_size from) fresh (volume_of before) lists
   pub same_file : file_before rewrites.puts ≡ file
-  pub makes : MakesBytes (written_bytes from value) rewrites (file_bytes before) (file_bytes after)
+  pub makes : MakesBytes (written_bytes from value) rewrites (bytes_in before) (bytes_in after)
   pub settles : IsSoundVolume lists → IsSettled new after
-  pub tree : tree_of after ≡ tree_in lists (file_bytes after)
+  pub tree : tree_of after ≡ tree_in lists (bytes_in after)
   pub now : volume_of after ≡ lists
 
 -- the sectors that a put of so many bytes puts at most into a file of this size

@@ -16,8 +16,8 @@ use Rattle.volume_base.specs.Standing.{own_sectors}
 use Rattle.volume_base.specs.Touching.{Touches}
 use Rattle.volume_base.specs.declared.volume.Filling.{Filling}
 use Rattle.volume_base.specs.declared.volume.Volume.{Volume}
-use Rattle.volume_space.specs.Spilling.{IsLaidOutAs}
-use Rattle.volume_space.specs.Standing.{HoldsOn}
+use Rattle.volume_base.specs.Holding.{IsLaidOutAs}
+use Rattle.volume_base.specs.Holding.{HoldsOn}
 
 -- how many blocks a growth takes
 abbrev pub blocks_taken : Volume → Filling → ℕ

@@ -8,7 +8,7 @@ ghost use Rattle.hfs_volume.specs.Aside.{IsJournalSector};
 ghost use Rattle.hfs_volume.specs.Content.{has_attributes};
 ghost use Rattle.volume_space.specs.Growing.{GoesAhead, IsOwnOrFree};
 ghost use Rattle.volume_base.specs.Service.{IsInService};
-ghost use Rattle.volume_space.specs.Standing.{HoldsOn};
+ghost use Rattle.volume_base.specs.Holding.{HoldsOn};
 ghost use Rattle.volume_base.specs.Standing.{IsSettled, StandsOver};
 ghost use Rattle.volume_base.specs.Touching.{Touches};
 ghost use Rattle.volume_space.specs.SpreadGrowth.{SpreadFits, growth_room_spread};

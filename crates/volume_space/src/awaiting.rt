@@ -4,19 +4,21 @@ ghost use Rattle.catalog.specs.Pairs.{value_at};
 ghost use Rattle.hfs_volume.specs.Content.{records_of, volume_of};
 ghost use Rattle.hfs_volume.specs.Links.{orphans_of};
 ghost use Rattle.hfs_volume.specs.Reclaim.{DropAttribute, DropOrphan, has_surplus_left, least};
+ghost use Rattle.hfs_volume.specs.Weight.{value_change};
 ghost use Rattle.hfs_volume.specs.declared.cost.Cost.TheVariants as cost;
 ghost use Rattle.volume_base.specs.Frame.{Looked, Serves};
 ghost use Rattle.volume_base.specs.Keeping.{shrunk_of};
 ghost use Rattle.volume_base.specs.Lists.{lists_of};
 ghost use Rattle.volume_base.specs.Room.{capacity_of};
+ghost use Rattle.volume_base.specs.Weighing.{AreUsual};
 ghost use Rattle.volume_space.specs.Awaiting.{AwaitsGrowth, StepAwaits, first_wanted};
 
 use crate::ahead::WhichTree;
-use crate::stripping::next_owned;
-use crate::tidying::{bare_waiting, next_waiting};
+use crate::stripping::{cost_of_bare, next_owned};
+use crate::tidying::{bare_waiting, grows_none, next_waiting};
 use crate::trimming::{has_id, surplus_in};
-use hfs_volume::Cost;
-use hx_bytes::Trouble;
+use hfs_volume::{Cost, ValueChange};
+use hx_bytes::{Trouble, Units};
 use sector_disk::SectorSpace;
 use std::alloc::Global;
 use volume_base::{Edits, Entry, FreeBlocks, Volume};
@@ -77,21 +79,37 @@ fn drop_wants<P: SectorSpace>(volume: &Volume, space: &P) -> Option<TreeWanted>
     first_wanted(volume.cost_of_edits(space, FreeBlocks::All, edits))
 }
 
-/// The tree that has to grow for the drop of an attribute.
-fn bare_wants<P: SectorSpace>(volume: &Volume, space: &P) -> Option<TreeWanted>
+/// The tree that has to grow for the drop of an attribute with this change of its value.
+fn bare_wants<P: SectorSpace>(volume: &Volume, space: &P, change: ValueChange) -> Option<TreeWanted>
     requires serves { Serves volume.now (P.SectorView.space space.now) }
-    ensures { IsTrue (P.SectorView.space space.now).tells → IfSome result (λ wanted. (id : ℕ) (name : List ℕ) → StepAwaits (capacity_of volume.now) (P.SectorView.space space.now).content (DropAttribute id name) wanted) }
+    requires small { IsTrue (P.SectorView.space space.now).tells → AreUsual 1 change }
+    ensures { IsTrue (P.SectorView.space space.now).tells → IfSome result (λ wanted. (id : ℕ) (name : List ℕ) → change ≡ value_change (volume_of (P.SectorView.space space.now).content) id name 0 → StepAwaits (capacity_of volume.now) (P.SectorView.space space.now).content (DropAttribute id name) wanted) }
 {
     if volume.header.attributes_fork.logical_size == 0 {
         return None;
     }
-    let edits = Edits {
-        ids: 0,
-        catalog: 0,
-        attributes: 1,
-        updates: 1,
-    };
-    first_wanted(volume.cost_of_edits(space, FreeBlocks::All, edits))
+    first_wanted(cost_of_bare(volume, space, change))
+}
+
+/// The tree that has to grow for the drop of this attribute.
+fn value_wants<P: SectorSpace>(
+    volume: &mut Volume,
+    alloc: Global,
+    space: &mut P,
+    id: u32,
+    name: &Units,
+) -> Result<Option<TreeWanted>, Trouble>
+    requires serves { Serves volume.old (P.SectorView.space space.old) }
+    ensures awaits { IsTrue (P.SectorView.space space.old).tells → IfOk result (λ found. IfSome found (StepAwaits (capacity_of volume.old) (P.SectorView.space space.old).content (DropAttribute id name.now))) }
+    ensures looked { Looked P.SectorView.space P.SectorView.follows volume.old volume.new space.old space.new result }
+    ensures serves { Serves volume.new (P.SectorView.space space.new) }
+{
+    // No name is longer (TN1150, "Attributes File").
+    if name.len() > 127 {
+        return Err(Trouble::Memory);
+    }
+    let change = volume.value_change(alloc, space, id, name, 0)?;
+    Ok(bare_wants(volume, space, change))
 }
 
 /// The tree that has to grow for the next step, where that drops an attribute of this file, which is the one with the least CNID of those that wait.
@@ -109,8 +127,8 @@ fn owner_wants<P: SectorSpace>(
     ensures serves { Serves volume.new (P.SectorView.space space.new) }
 {
     let found = next_owned(volume, alloc, space, id)?;
-    if let Some(_name) = found {
-        return Ok(bare_wants(volume, space));
+    if let Some(name) = found {
+        return value_wants(volume, alloc, space, id, &name);
     }
     Ok(None)
 }
@@ -198,14 +216,30 @@ fn behind_shrunk<P: SectorSpace>(
     }
 }
 
-/// Whether a tree has to grow for a drop of an entry or of an attribute.
+/// Whether the attributes file may have to grow for the drop of an attribute: it hasn't nodes enough for as many edits as it has records.
+fn may_want_attributes<P: SectorSpace>(volume: &Volume, space: &P) -> bool
+    requires serves { Serves volume.now (P.SectorView.space space.now) }
+{
+    if volume.header.attributes_fork.logical_size == 0 {
+        return false;
+    }
+    let edits = Edits {
+        ids: 0,
+        catalog: 0,
+        attributes: volume.attributes.file.shape().leaf_records,
+        updates: 1,
+    };
+    !grows_none(volume.cost_of_edits(space, FreeBlocks::All, edits))
+}
+
+/// Whether a tree may have to grow for a drop of an entry or of an attribute.
 fn may_want<P: SectorSpace>(volume: &Volume, space: &P) -> bool
     requires serves { Serves volume.now (P.SectorView.space space.now) }
 {
     if drop_wants(volume, space).is_some() {
         return true;
     }
-    bare_wants(volume, space).is_some()
+    may_want_attributes(volume, space)
 }
 
 /// The tree that has to grow before the next step of reclaiming, by as many nodes as its cost says, where that step drops an entry or an attribute, and

@@ -20,7 +20,8 @@ ghost use Rattle.overflow.specs.Records.{no_extent};
 ghost use Rattle.volume_header.specs.Header.{FitsHeader};
 ghost use Rattle.volume_base.specs.Frame.{Edits};
 ghost use Rattle.volume_base.specs.Changing.{HasRoomToUpdate, ReplacesRecord, catalog_node};
-ghost use Rattle.volume_space.specs.Cutting.{CutsFile, IsForkOf, IsNextCut, IsSplit, KeepsUsed, MayGive, PutsGiven, given_back, given_load, kind_of, trim_load};
+ghost use Rattle.volume_space.specs.Cutting.{CutsFile, IsForkOf, IsNextCut, IsSplit, MayGive, PutsGiven, given_back, given_load, kind_of, trim_load};
+ghost use Rattle.volume_base.specs.Holding.{KeepsUsed};
 ghost use Rattle.volume_base.specs.Cutting.{IsCutOf, IsLastCut, cut_fork_of, fork_at, shorter_fork, with_freed};
 ghost use Rattle.volume_base.specs.Keeping.{shrunk_of};
 ghost use Rattle.volume_base.specs.Lists.{lists_of};
@@ -29,7 +30,6 @@ ghost use Rattle.volume_base.specs.Standing.{IsSettled, StandsOver, own_sectors}
 ghost use Rattle.volume_base.specs.Touching.{Touches};
 
 use crate::growing::first_eight;
-use crate::mapping::put_map;
 use crate::storing::{count_spread_sectors, fits_spread, number_of, store_extents};
 use alloc_bitmap::Bitmap;
 use cat_records::{CatRecord, FileRecord};
@@ -41,7 +41,7 @@ use hfs_volume::{
 use hx_bytes::{Extent, ForkRecord, OutOfMemory, Trouble};
 use sector_disk::SectorSpace;
 use std::alloc::Global;
-use volume_base::{Cut, Entry, Volume};
+use volume_base::{Cut, Entry, Volume, put_map};
 use volume_header::VolumeHeader;
 
 /// How many blocks a step cuts at most.

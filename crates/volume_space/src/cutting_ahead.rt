@@ -14,7 +14,7 @@ ghost use Rattle.hfs_volume.specs.Weight.{cut_cost, free_blocks, has_surplus, ro
 ghost use Rattle.hfs_volume.specs.declared.cost.Cost.TheVariants as cost;
 ghost use Rattle.volume_space.specs.Cutting.{surplus_in};
 ghost use Rattle.volume_space.specs.CuttingAhead.{CutsAhead, CutsAs, CutsSome, IsShortCut, is_sized_file, PutsCut, TakesCutLoad};
-ghost use Rattle.volume_space.specs.Reclaiming.{Frees};
+ghost use Rattle.volume_base.specs.Frame.{Frees};
 ghost use Rattle.volume_base.specs.Frame.{Serves};
 ghost use Rattle.volume_base.specs.Keeping.{shrunk_of};
 ghost use Rattle.volume_base.specs.Lists.{lists_of};

@@ -14,20 +14,19 @@ ghost use Rattle.hfs_volume.specs.TreeOf.{tree_of};
 ghost use Rattle.overflow.specs.Records.{eight_at, no_extent};
 ghost use Rattle.volume_header.specs.Header.{FitsHeader};
 ghost use Rattle.volume_space.specs.Growing.{CanGrowCatalog, GrowsCatalog, HeadGrows, HasFreeRun, IsOwnOrFree, KeepsForks, Lengthens, TakesRun, blocks_filled, growth_load, longer_fork, nodes_load, run_load, with_catalog};
-ghost use Rattle.volume_space.specs.Mapping.{HoldsUnchanged, changed_sectors};
+ghost use Rattle.volume_base.specs.Mapping.{HoldsUnchanged, changed_sectors};
 ghost use Rattle.volume_base.specs.Service.{IsInService};
-ghost use Rattle.volume_space.specs.Standing.{HoldsOn};
+ghost use Rattle.volume_base.specs.Holding.{HoldsOn};
 ghost use Rattle.volume_base.specs.Standing.{IsSettled, StandsOver, own_sectors};
 ghost use Rattle.volume_base.specs.Touching.{Touches};
 
 use crate::growable::count_blocks;
-use crate::mapping::put_map;
 use alloc_bitmap::Bitmap;
 use hfs_volume::growth_keeps_the_tree;
 use hx_bytes::{Extent, ExtentRecord, ForkRecord, OutOfMemory, Trouble};
 use sector_disk::SectorSpace;
 use std::alloc::Global;
-use volume_base::Volume;
+use volume_base::{Volume, put_map};
 use volume_header::VolumeHeader;
 
 /// An extent as it is: both its numbers have 32 bits.
@@ -172,7 +171,7 @@ pub fn grow_catalog<P: SectorSpace>(
     // Told, the tree that it stands for is as it was, and each tree of the volume has just these nodes more.
     ensures tree { IsTrue (P.SectorView.space space.old).tells → OnOk result (tree_of (P.SectorView.space space.new).content ≡ tree_of (P.SectorView.space space.old).content) }
     ensures grows { IsTrue (P.SectorView.space space.old).tells → OnOk result (GrowsTrees (0 ∷ more ∷ 0 ∷ []) (volume_of (P.SectorView.space space.old).content) (volume_of (P.SectorView.space space.new).content)) }
-    // Every other fork has the blocks that it had.
+    // Every other fork and each value of an attribute has the blocks that it had.
     ensures files { IsTrue (P.SectorView.space space.old).tells → OnOk result (KeepsForks catalog_id (volume_of (P.SectorView.space space.old).content) (volume_of (P.SectorView.space space.new).content)) }
     // Of the header the number of free blocks and a fork alone are others, and the journal lies where it lay.
     ensures head { IsTrue (P.SectorView.space space.old).tells → OnOk result (HeadGrows (volume_of (P.SectorView.space space.old).content).head (volume_of (P.SectorView.space space.new).content).head) }

@@ -17,10 +17,10 @@ ghost use Rattle.hfs_volume.specs.TreeOf.{tree_of};
 ghost use Rattle.overflow.specs.Reading.{HasExtents};
 ghost use Rattle.overflow.specs.Records.{eight_at};
 ghost use Rattle.volume_space.specs.Growing.{HeadGrows, IsOwnOrFree, KeepsForks, Lengthens, blocks_filled, nodes_load, run_load};
-ghost use Rattle.volume_space.specs.Mapping.{changed_sectors};
+ghost use Rattle.volume_base.specs.Mapping.{changed_sectors};
 ghost use Rattle.volume_space.specs.SpreadGrowth.{CanGrowSpread, GoesOnInRun, HasRoomBehind, StandsButOver, TakesBlocks, growth_room_spread};
 ghost use Rattle.volume_space.specs.Spreading.{edits_load};
-ghost use Rattle.volume_space.specs.Standing.{HoldsOn};
+ghost use Rattle.volume_base.specs.Holding.{HoldsOn};
 ghost use Rattle.volume_space.specs.declared.ahead.WhichTree.TheVariants as which;
 ghost use Rattle.volume_base.specs.Lists.{lists_of};
 ghost use Rattle.volume_base.specs.Service.{IsInService};
@@ -30,7 +30,6 @@ ghost use Rattle.volume_base.specs.Touching.{Touches};
 
 use crate::growable::{count_blocks, count_map_sectors};
 use crate::growing::{take_run, with_catalog};
-use crate::mapping::put_map;
 use crate::storing::{are_few, store_records};
 use fork_map::ExtentList;
 use hfs_volume::growth_keeps_the_tree;
@@ -38,7 +37,7 @@ use hx_bytes::Trouble;
 use sector_disk::SectorSpace;
 use std::alloc::Global;
 use tree_weights::{a_load_is_of_parts, a_load_says_enough, commands_have_room};
-use volume_base::Volume;
+use volume_base::{Volume, put_map};
 
 /// The CNID of the catalog (TN1150, "Special Files").
 const CATALOG_FILE: u32 = 4;
@@ -145,7 +144,7 @@ pub(crate) fn grow_catalog_spread<P: SectorSpace>(
     // Told, the tree that it stands for is as it was, and each tree of the volume has just these nodes more.
     ensures tree { IsTrue (P.SectorView.space space.old).tells → OnOk result (tree_of (P.SectorView.space space.new).content ≡ tree_of (P.SectorView.space space.old).content) }
     ensures grows { IsTrue (P.SectorView.space space.old).tells → OnOk result (GrowsTrees (0 ∷ more ∷ 0 ∷ []) (volume_of (P.SectorView.space space.old).content) (volume_of (P.SectorView.space space.new).content)) }
-    // Every other fork has the blocks that it had.
+    // Every other fork and each value of an attribute has the blocks that it had.
     ensures files { IsTrue (P.SectorView.space space.old).tells → OnOk result (KeepsForks catalog_id (volume_of (P.SectorView.space space.old).content) (volume_of (P.SectorView.space space.new).content)) }
     // Of the header the number of free blocks and a fork alone are others, and the journal lies where it lay.
     ensures head { IsTrue (P.SectorView.space space.old).tells → OnOk result (HeadGrows (volume_of (P.SectorView.space space.old).content).head (volume_of (P.SectorView.space space.new).content).head) }

@@ -28,16 +28,15 @@ ghost use Rattle.hfs_volume.specs.Records.{is_thread};
 ghost use Rattle.volume_base.specs.Reading.{HasFile};
 ghost use Rattle.volume_base.specs.Service.{IsInService};
 ghost use Rattle.volume_space.specs.Recording.{records_held};
-ghost use Rattle.volume_space.specs.Spilling.{IsLaidOutAs};
+ghost use Rattle.volume_base.specs.Holding.{IsLaidOutAs};
 ghost use Rattle.volume_space.specs.Spreading.{edits_load, is_met_extents};
-ghost use Rattle.volume_space.specs.Standing.{HoldsOn};
+ghost use Rattle.volume_base.specs.Holding.{HoldsOn};
 ghost use Rattle.volume_base.specs.Standing.{IsSettled, StandsOver, own_sectors};
 ghost use Rattle.volume_base.specs.Touching.{Touches};
 ghost use Rattle.volume_space.specs.Writing.{AreHad, IsAt, IsSureToPut, IsToldFile, PlacesData, PutsAt, PutsValue, are_apart, blocks_put, can_put, cost_to_put, data_load, ends_before, extents_in, fork_with, has_more, is_apart_from, is_data_met, is_put_met, is_put_now, may_overflow, most_extents, needs_of_put, put_load, record_with, records_load, spread_put_load};
 ghost use Rattle.volume_space.specs.Zeroing.{HasFilled};
 
 use crate::growing::first_eight;
-use crate::mapping::put_map;
 use crate::resizing::with_change;
 use crate::spilling::spill;
 use crate::storing::{count_edits, count_records, is_met, store_later};
@@ -51,7 +50,7 @@ use sector_disk::SectorSpace;
 use std::alloc::Global;
 use tree_weights::{a_load_says_enough, trees_grow_by_enough};
 use volume_base::{
-    DATA, Entry, FreeBlocks, Volume, all_inside, is_measured, load_extents, size_held,
+    DATA, Entry, FreeBlocks, Volume, all_inside, is_measured, load_extents, put_map, size_held,
 };
 use volume_cost::cost;
 
@@ -447,7 +446,12 @@ fn how_to_put<P: SectorSpace>(
 
 /// Whether the extents of a file of this size are such as a sound volume's: they lie in the space, hold its bytes, and are in use; and
 /// so is the block of the header.
-fn is_sure<P: SectorSpace>(volume: &Volume, space: &P, list: &ExtentList, size: u64) -> bool
+pub(crate) fn is_sure<P: SectorSpace>(
+    volume: &Volume,
+    space: &P,
+    list: &ExtentList,
+    size: u64,
+) -> bool
     requires service { IsInService volume.now (P.SectorView.space space.now) }
     ensures { IsTrue result → IsSureToPut list.now size volume.now (P.SectorView.space space.now) }
 {

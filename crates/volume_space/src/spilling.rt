@@ -9,12 +9,13 @@ ghost use Rattle.file_io.specs.Places.{AreUsed, KeepsMap, first_block, fresh_of,
 ghost use Rattle.file_io.specs.Touching.{IsOneOf, MaySpill, SpillsIn};
 ghost use Rattle.flag_rows.specs.Bits.{count_set};
 ghost use Rattle.fork_map.specs.Blocks.{blocks_of};
+ghost use Rattle.fork_map.specs.Cut.{back, front, join};
 ghost use Rattle.sector_disk.specs.Lists.{Content};
 ghost use Rattle.sector_disk.specs.Space.{SameRoom, SameSpace};
 ghost use Rattle.volume_base.specs.Lists.{bits_on, lists_of};
 ghost use Rattle.volume_base.specs.Service.{IsInService};
-ghost use Rattle.volume_space.specs.Spilling.{IsLaidOutAs};
-ghost use Rattle.volume_space.specs.Standing.{HoldsOn};
+ghost use Rattle.volume_base.specs.Holding.{IsLaidOutAs};
+ghost use Rattle.volume_base.specs.Holding.{HoldsOn};
 ghost use Rattle.volume_base.specs.Standing.{IsSettled, StandsOver, own_sectors};
 ghost use Rattle.volume_base.specs.Touching.{Touches};
 
@@ -57,6 +58,8 @@ pub(crate) fn spill<P: SectorSpace>(
     ensures own { own_sectors volume.new ≡ own_sectors volume.old }
     ensures lists { IsTrue (P.SectorView.space space.old).tells → OnOk result (lists_of volume.new (P.SectorView.space space.new).content ≡ record (lists_of volume.old (P.SectorView.space space.old).content) { bits = bits_on volume.new }) }
     ensures blocks { IfOk result (λ fork. blocks_of fork ≡ take (first_block volume.old.header.block_size size from) (blocks_of list.now) ++ blocks_of (fresh_of volume.old.map (new_blocks volume.old.header.block_size size from (from + length value.now))) ++ drop (old_end volume.old.header.block_size size (from + length value.now)) (blocks_of list.now)) }
+    // Extents are joined at the two seams alone.
+    ensures extents { IfOk result (λ fork. fork ≡ join (join (front (first_block volume.old.header.block_size size from) list.now) (fresh_of volume.old.map (new_blocks volume.old.header.block_size size from (from + length value.now)))) (back (old_end volume.old.header.block_size size (from + length value.now)) list.now)) }
     ensures bytes { IsTrue (P.SectorView.space space.old).tells → IfOk result (λ fork. take (max size (from + length value.now)) (fork_bytes (P.SectorView.space space.new).content volume.old.header.block_size fork) ≡ written (take size (fork_bytes (P.SectorView.space space.old).content volume.old.header.block_size list.now)) from value.now) }
     ensures map { AreApart (blocks_of list.now) → OnOk result (volume.new.map ≡ given (middle (first_block volume.old.header.block_size size from) (old_end volume.old.header.block_size size (from + length value.now)) list.now) (taken (new_blocks volume.old.header.block_size size from (from + length value.now)) volume.old.map)) }
     ensures touches { IsTrue (P.SectorView.space space.old).tells → SpillsIn (IsOneOf (sectors_in volume.old.header.block_size (fresh_of volume.old.map (new_blocks volume.old.header.block_size size from (from + length value.now))))) (P.SectorView.space space.old) (P.SectorView.space space.new) }

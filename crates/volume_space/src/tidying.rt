@@ -12,7 +12,7 @@ ghost use Rattle.volume_base.specs.Frame.{Edits, Looked, Serves};
 ghost use Rattle.volume_base.specs.Keeping.{shrunk_of};
 ghost use Rattle.volume_base.specs.Lists.{lists_of};
 ghost use Rattle.volume_space.specs.Orphans.{AffordsStep, IsToDrop, TidiesAs, drop_edits, grows_none, is_refused, PutsNext, TakesNextLoad};
-ghost use Rattle.volume_space.specs.Reclaiming.{Frees};
+ghost use Rattle.volume_base.specs.Frame.{Frees};
 ghost use Rattle.volume_base.specs.Orphans.{is_blockless};
 ghost use Rattle.volume_base.specs.Room.{capacity_of, free_in};
 ghost use Rattle.volume_base.specs.Weighing.{needs_asked};

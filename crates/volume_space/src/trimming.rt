@@ -18,7 +18,7 @@ ghost use Rattle.volume_base.specs.Cutting.{IsCutOf, fork_at};
 ghost use Rattle.volume_base.specs.Keeping.{shrunk_of};
 ghost use Rattle.volume_base.specs.Lists.{lists_of};
 ghost use Rattle.volume_space.specs.Orphans.{AffordsStep, TidiesAs, PutsNext};
-ghost use Rattle.volume_space.specs.Reclaiming.{Frees};
+ghost use Rattle.volume_base.specs.Frame.{Frees};
 ghost use Rattle.volume_base.specs.Room.{capacity_of};
 ghost use Rattle.volume_base.specs.Standing.{IsSettled};
 

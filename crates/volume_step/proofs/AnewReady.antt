@@ -20,7 +20,7 @@ use Rattle.hfs_volume.specs.declared.cost.Cost.TheVariants as cost
 use Rattle.hfs_volume.specs.declared.cost.Needs.{Needs}
 use Rattle.hfs_volume.specs.declared.cost.Room.{Room}
 use Rattle.volume_base.specs.DataWeighing.{needs_data}
-use Rattle.volume_base.specs.Fitting.{needs_of, takable_of}
+use Rattle.volume_base.specs.Fitting.{takable_of}
 use Rattle.volume_base.specs.Room.{capacity_of}
 use Rattle.volume_base.specs.Standing.{IsSettled}
 use Rattle.volume_base.specs.declared.volume.Volume.{Volume}
@@ -51,7 +51,7 @@ use Rattle.volume_step.specs.declared.judging.Verdict.TheVariants as verdict
 use Rattle.volume_step.proofs.Judged.{three}
 use Rattle.volume_step.proofs.Idle.{idle_load}
 use Rattle.volume_step.proofs.Loaded.{cut_load_is, cut_weighs}
-use Rattle.volume_step.proofs.Ready.{edits_load, now_still, of_cost, there_still, wants_now, wants_load}
+use Rattle.volume_step.proofs.Ready.{edits_load, needs_now, now_still, of_cost, there_still, wants_now, wants_load}
 use Rattle.volume_step.proofs.ReadyData.{data_weight, puts_still}
 
 -- ---- blocks
@@ -131,7 +131,7 @@ cut_load_within room n grow is =
     omega (arith, ltb-false room.capacity (cut_load room) fits, cut_load_is room n grow is)
 
 module _ (v : Volume) (a : Space) (asked : Command) (unread : only_reads asked ≡ false) (load : ℕ) (grow : List ℕ) (costs : weight_with (capacity_of v) (takable_of v) (volume_of a.content) (tree_of a.content) asked ≡ cost.Load load grow) where
-  edits_cost : (only_reads asked || changes_nothing (tree_of a.content) asked) ≡ false → data_of (tree_of a.content) asked ≡ None → cost_of (needs_of (edits_of (tree_of a.content) asked)) (room_with (capacity_of v) (takable_of v) (volume_of a.content)) ≡ cost.Load load grow
+  edits_cost : (only_reads asked || changes_nothing (tree_of a.content) asked) ≡ false → data_of (tree_of a.content) asked ≡ None → cost_of (needs_now (takable_of v) (volume_of a.content) (tree_of a.content) asked) (room_with (capacity_of v) (takable_of v) (volume_of a.content)) ≡ cost.Load load grow
   edits_cost works is = edits_load (capacity_of v) (takable_of v) (volume_of a.content) (tree_of a.content) asked works is load grow costs
 
   data_cost : (put : Data) → data_of (tree_of a.content) asked ≡ Some put → needs_cut (volume_of a.content) (data_of (tree_of a.content) asked) ≡ false → cost_of (needs_data (takable_of v) (volume_of a.content) put) (room_with (capacity_of v) (takable_of v) (volume_of a.content)) ≡ cost.Load load grow
@@ -148,7 +148,7 @@ module _ (v : Volume) (a : Space) (asked : Command) (unread : only_reads asked �
         where
           by_idle : (b : Bool) → (only_reads asked || changes_nothing (tree_of a.content) asked) ≡ b → load ≤ capacity_of v
           by_idle true idle = omega (arith, (idle_load (capacity_of v) (takable_of v) (volume_of a.content) (tree_of a.content) asked idle load grow costs).0)
-          by_idle false works = load_within (needs_of (edits_of (tree_of a.content) asked)) (room_with (capacity_of v) (takable_of v) (volume_of a.content)) load grow (edits_cost works is)
+          by_idle false works = load_within (needs_now (takable_of v) (volume_of a.content) (tree_of a.content) asked) (room_with (capacity_of v) (takable_of v) (volume_of a.content)) load grow (edits_cost works is)
       by false none (Some put) is = load_within (needs_data (takable_of v) (volume_of a.content) put) (room_with (capacity_of v) (takable_of v) (volume_of a.content)) load grow (data_cost put is none)
 
 -- ---- on a transaction to which nothing was put
@@ -199,7 +199,7 @@ module _ (capacity : ℕ) (takable : List Bool) (content : Content) (asked : Com
         subst (λ (w : Weight). IsTaken (verdict_of w spare) grow) (sym is)
         (of_reply (step_line (tree_of content) (Ok asked)).0 (joined (weight capacity (volume_of content) (tree_of content) asked) (weight_with capacity takable (volume_of content) (tree_of content) asked))
         (subst (λ (k : Cost × Cost). IsTaken (verdict_of (joined k.0 k.1) spare) grow) {x = (cost.Load n grow, cost.Load n grow)} {y = (weight capacity (volume_of content) (tree_of content) asked, weight_with capacity takable (volume_of content) (tree_of content) asked)} (λ i. (sym affords i, sym costs i))
-        (subst (λ b. IsTaken (verdict_of (if b then answer.Load n grow else answer.CommitFirst) spare) grow) (sym (eq-eqb (slice_index grow 0) (slice_index grow 0) refl)) by_grow)))
+        (subst (λ b. IsTaken (verdict_of (if b then answer.Load n grow else answer.CommitFirst) spare) grow) (sym (λ i. eq-eqb (slice_index grow 0) (slice_index grow 0) refl i && eq-eqb (slice_index grow 2) (slice_index grow 2) refl i)) by_grow)))
 
 -- ---- behind the verdict
 

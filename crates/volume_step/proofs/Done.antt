@@ -19,29 +19,31 @@ use Rattle.hfs_model.specs.declared.plain.PlainAttribute.{PlainAttribute}
 use Rattle.hfs_model.specs.declared.plain.PlainEntry.{PlainEntry}
 use Rattle.hfs_model.specs.declared.plain.PlainNode.{PlainNode}
 use Rattle.hfs_model.specs.declared.plain.PlainTree.{PlainTree}
-use Rattle.hfs_volume.specs.Attributing.{DeletesAttribute, SetsAttribute, at_moment}
+use Rattle.hfs_volume.specs.Attributing.{at_moment}
 use Rattle.hfs_volume.specs.Commands.{ChangesMode}
 use Rattle.hfs_volume.specs.Content.{VolumeState, has_attributes, volume_of}
+use Rattle.hfs_volume.specs.Data.{PutsInValues}
 use Rattle.hfs_volume.specs.Cost.{cost_of}
 use Rattle.volume_runs.specs.Run.{reply_to}
 use Rattle.hfs_volume.specs.Sound.{IsSound, IsSoundVolume}
 use Rattle.volume_runs.specs.Told.{changes_of, of_entry, of_made, of_moved, of_pair}
 use Rattle.hfs_volume.specs.TreeOf.{tree_of}
-use Rattle.hfs_volume.specs.Weight.{changes_nothing, data_of, edits, free_blocks, needs_for, moves_onto_itself, room_with, weight_with}
+use Rattle.hfs_volume.specs.Weight.{changes_nothing, data_of, edits, free_blocks, needs_for, moves_onto_itself, room_with, values_of, weight_with, with_values}
 use Rattle.hfs_volume.specs.declared.cost.Cost.TheVariants as cost
 use Rattle.volume_base.specs.Attributing.{set_answer}
 use Rattle.volume_names.specs.Making.{Makes}
 use Rattle.volume_names.specs.Moving.{HasMoved, TakesPlace}
 use Rattle.volume_names.specs.Losing.{HasLost, LosesName}
 use Rattle.volume_names.specs.Removing.{HasRemoved}
-use Rattle.volume_space.specs.Standing.{HoldsOn}
+use Rattle.volume_base.specs.Holding.{HoldsOn}
 use Rattle.volume_base.specs.Standing.{IsSettled}
 use Rattle.volume_base.specs.declared.volume.Volume.{Volume}
+use Rattle.volume_values.specs.Valuing.{HasDeleted, HasSet}
 use Rattle.volume_step.specs.Steps.{Affords, IsJudged, KeepsJournal, StepsTo}
 use Rattle.volume_step.specs.declared.judging.Verdict.TheVariants as verdict
 use Rattle.volume_step.specs.declared.outcome.Outcome.{Outcome}
 use Rattle.volume_step.specs.declared.outcome.Outcome.TheVariants as outcome
-use Rattle.volume_step.proofs.Kept.{Keeps, attributes_keep, delete_keeps, keeps_both, keeps_none, mode_keeps, moment_keeps, set_keeps}
+use Rattle.volume_step.proofs.Kept.{Keeps, KeepsForks, delete_keeps, keeps_both, keeps_none, mode_keeps, moment_keeps, set_keeps, values_same}
 use Rattle.volume_step.proofs.KeptEntries.{last_keeps, link_keeps, lost_keeps, made_keeps, moved_keeps, opened_keeps, removed_keeps}
 use Rattle.volume_step.proofs.Idle.{works_unread}
 use Rattle.volume_step.proofs.Served.{changes_told, done_as, journal_kept, line_is, quiet, refused, steps, tells}
@@ -99,11 +101,11 @@ module _ (capacity number moment : ℕ) (before after : Content) (sound_before :
     at_keeps = subst (λ (l : VolumeState). Keeps (volume_of before) l) (sym lists) (moment_keeps moment (volume_of before))
 
     pub at_steps : (changes : List Change) → changes ≡ [] → StepsTo (outcome.Answered said changes) capacity number (command.At moment) before after
-    at_steps changes none = steps capacity number (command.At moment) said before after (done_as capacity (command.At moment) said before after sound_before sound_after refl (λ rests. absurd (true≢false (sym rests))) refl affords reply_is tree at_keeps) changes
+    at_steps changes none = steps capacity number (command.At moment) said before after (done_as capacity (command.At moment) said before after sound_before sound_after refl (λ rests. absurd (true≢false (sym rests))) refl affords reply_is tree at_keeps.forks (values_same (volume_of before) (volume_of after) at_keeps)) changes
         (none ∙ ap (λ r. changes_told number (tree_of before) (command.At moment) r) (sym reply_is))
 
     pub at_place : KeepsJournal before after
-    at_place = journal_kept before after at_keeps
+    at_place = journal_kept before after at_keeps.forks
 
 -- ---- `chmod`
 
@@ -122,11 +124,11 @@ module _ (capacity number : ℕ) (path : List (List ℕ)) (rights : ℕ) (before
     chmod_steps changes told =
         let it = lists is_fine in
         let at = reached_node (tree_of before) path it.0 it.1 in
-        steps capacity number (command.Chmod path rights) said before after (done_as capacity (command.Chmod path rights) said before after sound_before sound_after refl (λ rests. absurd (true≢false (sym rests))) refl affords reply_is tree chmod_keeps) changes
+        steps capacity number (command.Chmod path rights) said before after (done_as capacity (command.Chmod path rights) said before after sound_before sound_after refl (λ rests. absurd (true≢false (sym rests))) refl affords reply_is tree chmod_keeps.forks (values_same (volume_of before) (volume_of after) chmod_keeps)) changes
         (told (or_none (is_private_path path) (line_free (tree_of before) (command.Chmod path rights) affords.no_refusal)) at.0 at.1 ∙ ap (of_entry number change.Mode) (sym at.1) ∙ ap (λ r. changes_told number (tree_of before) (command.Chmod path rights) r) (sym is_fine))
 
     pub chmod_place : KeepsJournal before after
-    chmod_place = journal_kept before after chmod_keeps
+    chmod_place = journal_kept before after chmod_keeps.forks
 
 -- ---- commands that read
 
@@ -144,7 +146,7 @@ module _ (capacity number : ℕ) (asked : Command) (before after : Content) (sam
       (steps capacity number asked (reply.No why) before before (refused capacity asked before sound why unread is) [] refl))
 
 pub same_place : (before after : Content) → after ≡ before → KeepsJournal before after
-same_place before after same = subst (KeepsJournal before) (sym same) (journal_kept before before (keeps_none (volume_of before)))
+same_place before after same = subst (KeepsJournal before) (sym same) (journal_kept before before (keeps_none (volume_of before)).forks)
 
 -- ---- a command that was done, whichever it is
 
@@ -154,9 +156,9 @@ module _ (capacity number : ℕ) (asked : Command) (before after : Content) (sou
     pub said_ok : said ≡ reply.Ok
     said_ok = reply_is ∙ line_ok (tree_of before) asked (works_unread (tree_of before) asked works) affords.no_refusal
 
-    pub done_steps : Keeps (volume_of before) (volume_of after) → (changes : List Change) → changes ≡ changes_of number (tree_of before) asked → StepsTo (outcome.Answered said changes) capacity number asked before after
-    done_steps keeps changes told =
-        steps capacity number asked said before after (done_as capacity asked said before after sound_before sound_after (works_unread (tree_of before) asked works) (λ rests. absurd (true≢false (sym rests ∙ works))) no_put affords reply_is tree keeps) changes
+    pub done_steps : KeepsForks (volume_of before) (volume_of after) → PutsInValues (tree_of before) asked (volume_of before) (volume_of after) → (changes : List Change) → changes ≡ changes_of number (tree_of before) asked → StepsTo (outcome.Answered said changes) capacity number asked before after
+    done_steps keeps values changes told =
+        steps capacity number asked said before after (done_as capacity asked said before after sound_before sound_after (works_unread (tree_of before) asked works) (λ rests. absurd (true≢false (sym rests ∙ works))) no_put affords reply_is tree keeps values) changes
         (told ∙ ap (λ r. changes_told number (tree_of before) asked r) (sym said_ok))
 
 pub free_path : (path : List (List ℕ)) → (is_private_path path || false) ≡ false → is_private_path path ≡ false
@@ -174,7 +176,7 @@ pub has_tree : (capacity : ℕ) (before : Content) (path : List (List ℕ)) (nam
 unfolding weight_with
 has_tree capacity before path name value affords = by (has_attributes (volume_of before).head) affords.affords
   where
-    by : (b : Bool) → (if not b then cost.Refused refusal.NoTree else cost_of (needs_for (free_blocks (volume_of before)) (volume_of before) (edits 0 0 2 1) None) (room_with capacity (free_blocks (volume_of before)) (volume_of before))) ≡ cost.Load affords.load (0 ∷ 0 ∷ 0 ∷ []) → b ≡ true
+    by : (b : Bool) → (if not b then cost.Refused refusal.NoTree else cost_of (with_values (free_blocks (volume_of before)) (values_of (volume_of before) (tree_of before) (command.SetAttr path name value)) (needs_for (free_blocks (volume_of before)) (volume_of before) (edits 0 0 2 1) None)) (room_with capacity (free_blocks (volume_of before)) (volume_of before))) ≡ cost.Load affords.load (0 ∷ 0 ∷ 0 ∷ []) → b ≡ true
     by true is = refl
     by false is = absurd (let none : cost.Refused refusal.NoTree ≡ cost.Load affords.load (0 ∷ 0 ∷ 0 ∷ []) = is in cc none)
 
@@ -192,7 +194,7 @@ reached_attribute tree path name pair is = by (to_node tree path) refl is
 module _ (capacity number : ℕ) (path : List (List ℕ)) (name value : List ℕ) (v : Volume) (before after : Content) (settled : IsSettled v before) (sound_before : IsSound before) (sound_after : IsSound after) (affords : Affords capacity (command.SetAttr path name value) before)
     (said : Reply) (reply_is : said ≡ set_answer (has_attributes v.header) (step_line (tree_of before) (Ok (command.SetAttr path name value))).0)
     (tree : IsTrue (has_attributes v.header) → tree_of after ≡ (step_line (tree_of before) (Ok (command.SetAttr path name value))).1)
-    (lists : said ≡ reply.Ok → (node : PlainNode) × (to_node (tree_of before) path ≡ Ok node) × SetsAttribute node.id name value (volume_of before) (volume_of after))
+    (lists : said ≡ reply.Ok → HasSet path name value before after)
   where
     has : has_attributes v.header ≡ true
     has = sym (ap (λ (l : VolumeState). has_attributes l.head) settled.lists) ∙ has_tree capacity before path name value affords
@@ -203,15 +205,15 @@ module _ (capacity number : ℕ) (path : List (List ℕ)) (name value : List ℕ
     fine : said ≡ reply.Ok
     fine = said_ok capacity number (command.SetAttr path name value) before after sound_before sound_after affords said refl refl plain (tree has)
 
-    keeps : Keeps (volume_of before) (volume_of after)
-    keeps = let it = lists fine in set_keeps it.0.id name value (volume_of before) (volume_of after) it.2
+    keeps : KeepsForks (volume_of before) (volume_of after)
+    keeps = let it = lists fine in set_keeps it.node.id name value (volume_of before) (volume_of after) it.sets
 
     pub set_steps : (changes : List Change) → (is_private_path path ≡ false → (entry : PlainEntry) → reached (tree_of before) path ≡ Ok entry → changes ≡ of_entry number change.Attribute (Ok entry))
         → StepsTo (outcome.Answered said changes) capacity number (command.SetAttr path name value) before after
     set_steps changes told =
         let it = lists fine in
-        let at = reached_node (tree_of before) path it.0 it.1 in
-        done_steps capacity number (command.SetAttr path name value) before after sound_before sound_after affords said refl refl plain (tree has) keeps changes
+        let at = reached_node (tree_of before) path it.node it.found in
+        done_steps capacity number (command.SetAttr path name value) before after sound_before sound_after affords said refl refl plain (tree has) keeps it.values changes
         (told (free_path path (line_free (tree_of before) (command.SetAttr path name value) affords.no_refusal)) at.0 at.1 ∙ ap (of_entry number change.Attribute) (sym at.1))
 
     pub set_place : KeepsJournal before after
@@ -219,20 +221,20 @@ module _ (capacity number : ℕ) (path : List (List ℕ)) (name value : List ℕ
 
 module _ (capacity number : ℕ) (path : List (List ℕ)) (name : List ℕ) (before after : Content) (sound_before : IsSound before) (sound_after : IsSound after) (affords : Affords capacity (command.DelAttr path name) before)
     (said : Reply) (reply_is : said ≡ (step_line (tree_of before) (Ok (command.DelAttr path name))).0) (tree : tree_of after ≡ (step_line (tree_of before) (Ok (command.DelAttr path name))).1)
-    (lists : said ≡ reply.Ok → (node : PlainNode) × (attribute : PlainAttribute) × (to_attribute (tree_of before) path name ≡ Ok (node, attribute)) × DeletesAttribute node.id name (volume_of before) (volume_of after))
+    (lists : said ≡ reply.Ok → HasDeleted path name before after)
   where
     fine_delete : said ≡ reply.Ok
     fine_delete = said_ok capacity number (command.DelAttr path name) before after sound_before sound_after affords said refl refl reply_is tree
 
-    keeps_delete : Keeps (volume_of before) (volume_of after)
-    keeps_delete = let it = lists fine_delete in delete_keeps it.0.id name (volume_of before) (volume_of after) it.3
+    keeps_delete : KeepsForks (volume_of before) (volume_of after)
+    keeps_delete = let it = lists fine_delete in delete_keeps it.node.id name (volume_of before) (volume_of after) it.deletes
 
     pub delete_steps : (changes : List Change) → (is_private_path path ≡ false → (entry : PlainEntry) → reached (tree_of before) path ≡ Ok entry → changes ≡ of_entry number change.Attribute (Ok entry))
         → StepsTo (outcome.Answered said changes) capacity number (command.DelAttr path name) before after
     delete_steps changes told =
         let it = lists fine_delete in
-        let at = reached_attribute (tree_of before) path name (it.0, it.1) it.2 in
-        done_steps capacity number (command.DelAttr path name) before after sound_before sound_after affords said refl refl reply_is tree keeps_delete changes
+        let at = reached_attribute (tree_of before) path name (it.node, it.attribute) it.found in
+        done_steps capacity number (command.DelAttr path name) before after sound_before sound_after affords said refl refl reply_is tree keeps_delete it.values changes
         (told (free_path path (line_free (tree_of before) (command.DelAttr path name) affords.no_refusal)) at.0 at.1 ∙ ap (of_entry number change.Attribute) (sym at.1))
 
     pub delete_place : KeepsJournal before after
@@ -254,11 +256,11 @@ module _ (capacity number : ℕ) (path : List (List ℕ)) (before after : Conten
           → StepsTo (outcome.Answered said changes) capacity number (command.Mkdir path) before after
       mkdir_steps changes told =
           let it = lists fine_folder in
-          done_steps capacity number (command.Mkdir path) before after sound_before sound_after affords said refl refl reply_is tree keeps_folder changes
+          done_steps capacity number (command.Mkdir path) before after sound_before sound_after affords said refl refl reply_is tree keeps_folder.forks (values_same (volume_of before) (volume_of after) keeps_folder) changes
           (told (free_path path (line_free (tree_of before) (command.Mkdir path) affords.no_refusal)) it.place it.allowed ∙ ap (of_made number (tree_of before)) (sym it.allowed))
 
       pub mkdir_place : KeepsJournal before after
-      mkdir_place = journal_kept before after keeps_folder
+      mkdir_place = journal_kept before after keeps_folder.forks
 
   module _ (affords : Affords capacity (command.Create path) before) (reply_is : said ≡ (step_line (tree_of before) (Ok (command.Create path))).0) (tree : tree_of after ≡ (step_line (tree_of before) (Ok (command.Create path))).1)
       (lists : said ≡ reply.Ok → Makes false path before after)
@@ -273,11 +275,11 @@ module _ (capacity number : ℕ) (path : List (List ℕ)) (before after : Conten
           → StepsTo (outcome.Answered said changes) capacity number (command.Create path) before after
       create_steps changes told =
           let it = lists fine_file in
-          done_steps capacity number (command.Create path) before after sound_before sound_after affords said refl refl reply_is tree keeps_file changes
+          done_steps capacity number (command.Create path) before after sound_before sound_after affords said refl refl reply_is tree keeps_file.forks (values_same (volume_of before) (volume_of after) keeps_file) changes
           (told (free_path path (line_free (tree_of before) (command.Create path) affords.no_refusal)) it.place it.allowed ∙ ap (of_made number (tree_of before)) (sym it.allowed))
 
       pub create_place : KeepsJournal before after
-      create_place = journal_kept before after keeps_file
+      create_place = journal_kept before after keeps_file.forks
 
 -- ---- `rmdir`
 
@@ -314,16 +316,16 @@ module _ (capacity number : ℕ) (path : List (List ℕ)) (before after : Conten
     fine_removed : said ≡ reply.Ok
     fine_removed = said_ok capacity number (command.Rmdir path) before after sound_before sound_after affords said refl refl reply_is tree
 
-    keeps_removed : Keeps (volume_of before) (volume_of after)
+    keeps_removed : KeepsForks (volume_of before) (volume_of after)
     keeps_removed =
         let it = lists fine_removed in
-        keeps_both (volume_of before) it.takes.bared (volume_of after) (attributes_keep _ (volume_of before) it.takes.bared it.takes.bares) (removed_keeps it.entry.id it.takes.bared (volume_of after) it.takes.removes it.takes.folder)
+        removed_keeps it.entry.id (volume_of before) (volume_of after) it.takes.removes it.takes.folder
 
     pub remove_steps : (changes : List Change) → (is_private_path path ≡ false → (entry : PlainEntry) → reached (tree_of before) path ≡ Ok entry → changes ≡ of_entry number change.Removed (Ok entry))
         → StepsTo (outcome.Answered said changes) capacity number (command.Rmdir path) before after
     remove_steps changes told =
         let it = lists fine_removed in
-        done_steps capacity number (command.Rmdir path) before after sound_before sound_after affords said refl refl reply_is tree keeps_removed changes
+        done_steps capacity number (command.Rmdir path) before after sound_before sound_after affords said refl refl reply_is tree keeps_removed it.values changes
         (told (free_path path (line_free (tree_of before) (command.Rmdir path) affords.no_refusal)) it.entry (reached_rmdir (tree_of before) path it.entry it.allowed) ∙ ap (of_entry number change.Removed) (sym it.allowed))
 
     pub remove_place : KeepsJournal before after
@@ -367,11 +369,11 @@ module _ (capacity number : ℕ) (path : List (List ℕ)) (before after : Conten
         → StepsTo (outcome.Answered said changes) capacity number (command.Rm path) before after
     lose_steps changes told =
         let it = lists fine_lost in
-        done_steps capacity number (command.Rm path) before after sound_before sound_after affords said refl refl reply_is tree keeps_lost changes
+        done_steps capacity number (command.Rm path) before after sound_before sound_after affords said refl refl reply_is tree keeps_lost.forks (values_same (volume_of before) (volume_of after) keeps_lost) changes
         (told (free_path path (line_free (tree_of before) (command.Rm path) affords.no_refusal)) it.entry (reached_rm (tree_of before) path it.entry it.allowed) ∙ ap (of_entry number change.Removed) (sym it.allowed))
 
     pub lose_place : KeepsJournal before after
-    lose_place = journal_kept before after keeps_lost
+    lose_place = journal_kept before after keeps_lost.forks
 
 -- ---- `mv`
 
@@ -407,11 +409,11 @@ module _ (capacity number : ℕ) (from to : List (List ℕ)) (before after : Con
     move_steps changes told =
         let it = moves_one (tree_of before) from to affords.no_refusal in
         let free = first_free (is_private_path from) (is_private_path to) (line_free (tree_of before) (command.Mv from to) affords.no_refusal) in
-        done_steps capacity number (command.Mv from to) before after sound_before sound_after affords said moves refl reply_is tree keeps_move changes
+        done_steps capacity number (command.Mv from to) before after sound_before sound_after affords said moves refl reply_is tree keeps_move.forks (values_same (volume_of before) (volume_of after) keeps_move) changes
         (told free.0 free.1 it.0 it.1 ∙ ap (of_moved number) (sym it.1))
 
     pub move_place : KeepsJournal before after
-    move_place = journal_kept before after keeps_move
+    move_place = journal_kept before after keeps_move.forks
 
 -- ---- `mv` of a file onto itself
 
@@ -457,5 +459,5 @@ module _ (number : ℕ) (from to : List (List ℕ)) (before : Content) (fine : r
       pub still_steps : StepsTo (outcome.Answered reply.Ok changes) capacity number (command.Mv from to) before before
       still_steps =
           steps capacity number (command.Mv from to) reply.Ok before before
-          (done_as capacity (command.Mv from to) reply.Ok before before sound sound refl (λ rests. refl) refl affords (sym (line_ok (tree_of before) (command.Mv from to) refl fine)) tree_still (keeps_none (volume_of before)))
+          (done_as capacity (command.Mv from to) reply.Ok before before sound sound refl (λ rests. refl) refl affords (sym (line_ok (tree_of before) (command.Mv from to) refl fine)) tree_still (keeps_none (volume_of before)).forks (λ id name. refl))
           changes (itself_is.1.1 ∙ ap (of_moved number) (sym itself_is.1.0))

@@ -41,23 +41,23 @@ loads (cost.Load load grow) spare is =
 
 -- ---- all of them
 
-module _ (says : LoadSaysEnough) (of_parts : LoadIsOfParts) (enough : GrowsByEnough) (few many : Edits) (room : Room) (spare : ℕ) (three : HoldsThree catalog_key (tree_at room 1)) (ids : few.ids ≤ many.ids) (catalog : few.catalog ≤ many.catalog) (attributes : (few.attributes ≡ many.attributes) ⊎ (few.attributes ≡ 0)) (updates : few.updates ≤ many.updates)
-    (met : is_met (cost_of (needs_of_edits many) room) spare ≡ true)
+module _ (says : LoadSaysEnough) (of_parts : LoadIsOfParts) (enough : GrowsByEnough) (few : Edits) (wanted : Needs) (room : Room) (spare : ℕ) (three : HoldsThree catalog_key (tree_at room 1)) (ids : few.ids ≤ wanted.ids) (catalog : few.catalog ≤ slice_index wanted.edits 1) (attributes : (few.attributes ≡ slice_index wanted.edits 2) ⊎ (few.attributes ≡ 0)) (updates : few.updates ≤ wanted.updates)
+    (met : is_met (cost_of wanted room) spare ≡ true)
   where
-    is : IsLoad (cost_of (needs_of_edits many) room) spare
-    is = loads (cost_of (needs_of_edits many) room) spare met
+    is : IsLoad (cost_of wanted room) spare
+    is = loads (cost_of wanted room) spare met
 
-    afforded : IsAfforded (needs_of_edits many) room is.load is.grow
-    afforded = says (needs_of_edits many) room is.load is.grow is.is
+    afforded : IsAfforded wanted room is.load is.grow
+    afforded = says wanted room is.load is.grow is.is
 
-    catalog_many : growth room.block catalog_key (tree_at room 1) many.catalog ≡ 0
+    catalog_many : growth room.block catalog_key (tree_at room 1) (slice_index wanted.edits 1) ≡ 0
     catalog_many = sym (ap (λ l. slice_index l 1) afforded.grows) ∙ is.catalog
 
-    attributes_many : growth room.block attributes_key (tree_at room 2) many.attributes ≡ 0
+    attributes_many : growth room.block attributes_key (tree_at room 2) (slice_index wanted.edits 2) ≡ 0
     attributes_many = sym (ap (λ l. slice_index l 2) afforded.grows) ∙ is.attributes
 
     catalog_none : growth room.block catalog_key (tree_at room 1) few.catalog ≡ 0
-    catalog_none = growth_low catalog_key few.catalog many.catalog (tree_at room 1) three catalog room.block enough catalog_many
+    catalog_none = growth_low catalog_key few.catalog (slice_index wanted.edits 1) (tree_at room 1) three catalog room.block enough catalog_many
 
     attributes_none : growth room.block attributes_key (tree_at room 2) few.attributes ≡ 0
     attributes_none = elim attributes [
@@ -71,16 +71,16 @@ module _ (says : LoadSaysEnough) (of_parts : LoadIsOfParts) (enough : GrowsByEno
       | inr none ↦ ap (is_too_deep attributes_key (tree_at room 2)) none
     ]
 
-    attributes_low : tree_load attributes_key (tree_at room 2) few.attributes 0 ≤ load_at (needs_of_edits many) room 2
+    attributes_low : tree_load attributes_key (tree_at room 2) few.attributes 0 ≤ load_at wanted room 2
     attributes_low = elim attributes [
-      | inl same ↦ subst (λ (k : ℕ × ℕ). tree_load attributes_key (tree_at room 2) k.0 0 ≤ tree_load attributes_key (tree_at room 2) many.attributes k.1) {x = (many.attributes, 0)} {y = (few.attributes, slice_index (plan_of (needs_of_edits many) room).grow 2)} (λ i. (sym same i, sym attributes_many i)) (omega arith)
-      | inr none ↦ subst (λ n. tree_load attributes_key (tree_at room 2) n 0 ≤ load_at (needs_of_edits many) room 2) (sym none) (omega arith)
+      | inl same ↦ subst (λ (k : ℕ × ℕ). tree_load attributes_key (tree_at room 2) k.0 0 ≤ tree_load attributes_key (tree_at room 2) (slice_index wanted.edits 2) k.1) {x = (slice_index wanted.edits 2, 0)} {y = (few.attributes, slice_index (plan_of wanted room).grow 2)} (λ i. (sym same i, sym attributes_many i)) (omega arith)
+      | inr none ↦ subst (λ n. tree_load attributes_key (tree_at room 2) n 0 ≤ load_at wanted room 2) (sym none) (omega arith)
     ]
 
-    catalog_low : tree_load catalog_key (tree_at room 1) few.catalog 0 ≤ load_at (needs_of_edits many) room 1
-    catalog_low = subst (λ n. tree_load catalog_key (tree_at room 1) few.catalog 0 ≤ tree_load catalog_key (tree_at room 1) many.catalog n) (sym catalog_many) (load_low catalog_key few.catalog many.catalog (tree_at room 1) three catalog)
+    catalog_low : tree_load catalog_key (tree_at room 1) few.catalog 0 ≤ load_at wanted room 1
+    catalog_low = subst (λ n. tree_load catalog_key (tree_at room 1) few.catalog 0 ≤ tree_load catalog_key (tree_at room 1) (slice_index wanted.edits 1) n) (sym catalog_many) (load_low catalog_key few.catalog (slice_index wanted.edits 1) (tree_at room 1) three catalog)
 
-    updates_low : few.updates * node_sectors (tree_at room 1) ≤ many.updates * node_sectors (tree_at room 1)
+    updates_low : few.updates * node_sectors (tree_at room 1) ≤ wanted.updates * node_sectors (tree_at room 1)
     updates_low = mul-le-mul_right (node_sectors (tree_at room 1)) updates
 
     -- the plan
@@ -108,14 +108,14 @@ module _ (says : LoadSaysEnough) (of_parts : LoadIsOfParts) (enough : GrowsByEno
 
     load_then : load_of (needs_of_edits few) room still ≤ is.load
     unfolding load_of
-    load_then = let parts = of_parts (needs_of_edits many) room is.load is.grow afforded in omega (arith, parts, catalog_low, attributes_low, updates_low, bitmap_none)
+    load_then = let parts = of_parts wanted room is.load is.grow afforded in omega (arith, parts, catalog_low, attributes_low, updates_low, bitmap_none)
 
     nothing_missing : resource_refusal (needs_of_edits few) room still ≡ None
     nothing_missing =
         (λ i. first_refusal
         (where_ (le-ltb 4294967295 (room.next_id + few.ids) (omega (arith, afforded.ids, ids)) i) (refusal.NoIds room.next_id)
         ∷ deep_refusal extents_key (tree_at room 0) 0
-        ∷ where_ (not_deep catalog_key few.catalog many.catalog (tree_at room 1) three catalog afforded.catalog i) (refusal.TooDeep (tree_at room 1).depth)
+        ∷ where_ (not_deep catalog_key few.catalog (slice_index wanted.edits 1) (tree_at room 1) three catalog afforded.catalog i) (refusal.TooDeep (tree_at room 1).depth)
         ∷ where_ (deep_attributes i) (refusal.TooDeep (tree_at room 2).depth)
         ∷ where_ (not (0 == 0) && ((tree_at room 0).extents == 8)) (refusal.OverflowFull 8)
         ∷ where_ (le-ltb room.free (0 + growth_blocks still room) (omega (arith, blocks_none)) i) (refusal.NoSpace room.free (0 + growth_blocks still room))

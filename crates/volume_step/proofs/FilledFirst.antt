@@ -20,6 +20,7 @@ use Rattle.hfs_volume.specs.declared.cost.Cost.TheVariants as cost
 use Rattle.volume_base.specs.Room.{capacity_of}
 use Rattle.volume_base.specs.declared.volume.Filling.{Filling}
 use Rattle.volume_base.specs.declared.volume.Volume.{Volume}
+use Rattle.volume_base.specs.Holding.{IsLaidOutAs}
 use Rattle.volume_space.specs.Zeroing.{done_of, is_growth_of}
 use Rattle.volume_space.specs.declared.ahead.Growth.{Growth}
 use Rattle.volume_space.specs.declared.ahead.Growth.TheVariants as growing
@@ -64,7 +65,7 @@ fills_steps capacity number asked before after affords uncut many fills =
     inr (inr (record { no_refusal = affords.no_refusal; no_surplus = uncut; load = affords.load; affords = affords.affords; many = many; fills = fills }))
 
 pub fills_place : (before after : Content) → FillsZeros before after → KeepsJournal before after
-fills_place before after fills = journal_kept before after (subst (λ (l : VolumeState). Keeps (volume_of before) l) (sym fills.volume) (keeps_none (volume_of before)))
+fills_place before after fills = journal_kept before after (subst (λ (l : VolumeState). Keeps (volume_of before) l) (sym fills.volume) (keeps_none (volume_of before))).forks
 
 -- ---- a commit is wanted first
 

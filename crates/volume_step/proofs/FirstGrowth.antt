@@ -1,7 +1,7 @@
 -- The tree that grows ahead of a command is the first of those that its load of the blocks that may be taken counts.
-use Rattle.std.proofs.Common.{◌≡◌, ℕ, ◌==◌, Bool, true, false, not, List, [], ◌∷◌, refl, sym, ◌∙◌, ap, subst}
+use Rattle.std.proofs.Common.{◌≡◌, ℕ, ◌==◌, ◌&&◌, Bool, true, false, not, List, [], ◌∷◌, refl, sym, ◌∙◌, ap, subst}
 use Rattle.std.specs.Prelude.{◌||◌, nat_lt, slice_index, Ok, Option, None, Some, if◌then◌else◌}
-use Rattle.std.proofs.lemmas.Bool.{eqb-true}
+use Rattle.std.proofs.lemmas.Bool.{and_parts, eqb-true}
 use Rattle.jnl_format.specs.Recovery.{Content}
 use Rattle.hfs_language.specs.declared.command.Command.{Command}
 use Rattle.hfs_language.specs.declared.reply.Reply.{Reply}
@@ -11,10 +11,9 @@ use Rattle.hfs_model.specs.declared.plain.PlainTree.{PlainTree}
 use Rattle.hfs_volume.specs.Content.{VolumeState, volume_of}
 use Rattle.hfs_volume.specs.Cost.{load_refusal}
 use Rattle.hfs_volume.specs.TreeOf.{tree_of}
-use Rattle.hfs_volume.specs.Weight.{Data, changes_nothing, cut_load, data_of, edits_of, free_blocks, needs_cut, room_with, weight_with}
+use Rattle.hfs_volume.specs.Weight.{Data, changes_nothing, cut_load, data_of, free_blocks, needs_cut, room_with, weight_with}
 use Rattle.hfs_volume.specs.declared.cost.Cost.{Cost}
 use Rattle.hfs_volume.specs.declared.cost.Cost.TheVariants as cost
-use Rattle.volume_base.specs.Fitting.{needs_of}
 use Rattle.volume_base.specs.Weighing.{joined, refused_or, weighed}
 use Rattle.volume_base.specs.declared.weighing.Weight.{Weight}
 use Rattle.volume_base.specs.declared.weighing.Weight.TheVariants as answer
@@ -25,7 +24,7 @@ use Rattle.volume_step.specs.declared.judging.Verdict.TheVariants as verdict
 use Rattle.volume_step.proofs.Idle.{idle_load}
 use Rattle.volume_step.proofs.Judged.{first_attributes, first_catalog, first_extents, none, some}
 use Rattle.volume_step.proofs.Loaded.{cut_none, cut_weighs}
-use Rattle.volume_step.proofs.Ready.{edits_load, of_cost, plan_same}
+use Rattle.volume_step.proofs.Ready.{grows_same}
 use Rattle.volume_step.proofs.ReadyData.{data_growth, data_weight}
 
 -- ---- as much grows, whichever blocks count as free
@@ -37,15 +36,12 @@ module _ (capacity : ℕ) (one other : List Bool) (volume : VolumeState) (tree :
     cut_flat free s list needs costs =
         cut_none (load_refusal (cut_load (room_with capacity free volume)) (room_with capacity free volume).capacity) (cut_load (room_with capacity free volume)) s list (sym (cut_weighs capacity free volume tree asked unread needs) ∙ costs)
 
-    edits_alike : data_of tree asked ≡ None → grow ≡ more
-    edits_alike no_data = by (only_reads asked || changes_nothing tree asked) refl
+    edits_alike : data_of tree asked ≡ None → slice_index grow 2 ≡ slice_index more 2 → grow ≡ more
+    edits_alike no_data third = by (only_reads asked || changes_nothing tree asked) refl
       where
         by : (b : Bool) → (only_reads asked || changes_nothing tree asked) ≡ b → grow ≡ more
         by true idle = (idle_load capacity one volume tree asked idle n grow is).1 ∙ sym (idle_load capacity other volume tree asked idle m more also).1
-        by false works =
-            (of_cost (needs_of (edits_of tree asked)) (room_with capacity one volume) n grow (edits_load capacity one volume tree asked works no_data n grow is)).1
-            ∙ plan_same (needs_of (edits_of tree asked)) capacity one other volume
-            ∙ sym (of_cost (needs_of (edits_of tree asked)) (room_with capacity other volume) m more (edits_load capacity other volume tree asked works no_data m more also)).1
+        by false works = grows_same capacity one other volume tree asked works no_data n m grow more is also third
 
     data_alike : (put : Data) → data_of tree asked ≡ Some put → needs_cut volume (data_of tree asked) ≡ false → slice_index grow 0 ≡ slice_index more 0 → grow ≡ more
     data_alike put puts uncut same =
@@ -53,12 +49,12 @@ module _ (capacity : ℕ) (one other : List Bool) (volume : VolumeState) (tree :
         ∙ (λ i. same i ∷ 0 ∷ 0 ∷ [])
         ∙ sym (data_growth capacity other volume put m more (sym (data_weight capacity other volume tree asked put puts (ap (needs_cut volume) (sym puts) ∙ uncut)) ∙ also))
 
-    grow_alike : slice_index grow 0 ≡ slice_index more 0 → grow ≡ more
-    grow_alike same = by (needs_cut volume (data_of tree asked)) refl (data_of tree asked) refl
+    grow_alike : slice_index grow 0 ≡ slice_index more 0 → slice_index grow 2 ≡ slice_index more 2 → grow ≡ more
+    grow_alike same third = by (needs_cut volume (data_of tree asked)) refl (data_of tree asked) refl
       where
         by : (b : Bool) → needs_cut volume (data_of tree asked) ≡ b → (d : Option Data) → data_of tree asked ≡ d → grow ≡ more
         by true needs d puts = cut_flat one n grow needs is ∙ sym (cut_flat other m more needs also)
-        by false uncut None puts = edits_alike puts
+        by false uncut None puts = edits_alike puts third
         by false uncut (Some put) puts = data_alike put puts uncut same
 
 -- ---- the verdict
@@ -80,12 +76,13 @@ module _ (capacity : ℕ) (takable free : List Bool) (content : Content) (asked 
 
   of_costs : (one : Cost) → weight_with capacity free (volume_of content) (tree_of content) asked ≡ one → GrowsTheFirst (verdict_of (joined one (cost.Load n grow)) spare) grow
   of_costs (cost.Refused why) is = tt
-  of_costs (cost.Load m more) is = by (slice_index more 0 == slice_index grow 0) refl
+  of_costs (cost.Load m more) is = by ((slice_index more 0 == slice_index grow 0) && (slice_index more 2 == slice_index grow 2)) refl
     where
-      by : (b : Bool) → (slice_index more 0 == slice_index grow 0) ≡ b → GrowsTheFirst (verdict_of (if b then answer.Load n more else answer.CommitFirst) spare) grow
+      by : (b : Bool) → ((slice_index more 0 == slice_index grow 0) && (slice_index more 2 == slice_index grow 2)) ≡ b → GrowsTheFirst (verdict_of (if b then answer.Load n more else answer.CommitFirst) spare) grow
       by true same =
+          let parts = and_parts (slice_index more 0 == slice_index grow 0) (slice_index more 2 == slice_index grow 2) same in
           subst (λ (l : List ℕ). GrowsTheFirst (verdict_of (answer.Load n l) spare) grow)
-          (sym (grow_alike capacity free takable (volume_of content) (tree_of content) asked unread m n more grow is costs (eqb-true (slice_index more 0) (slice_index grow 0) same))) by_grow
+          (sym (grow_alike capacity free takable (volume_of content) (tree_of content) asked unread m n more grow is costs (eqb-true (slice_index more 0) (slice_index grow 0) parts.0) (eqb-true (slice_index more 2) (slice_index grow 2) parts.1))) by_grow
       by false same = tt
 
   of_reply : (said : Reply) (weighs : Weight) → GrowsTheFirst (verdict_of weighs spare) grow → GrowsTheFirst (verdict_of (refused_or said weighs) spare) grow

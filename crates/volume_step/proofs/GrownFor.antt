@@ -32,6 +32,7 @@ module _ (wanted : TreeWanted) (capacity : ℕ) (shrunk : Option ℕ) (before af
       some = some_nodes wanted.tree wanted.more awaits.2.grow awaits.2.first awaits.2.some;
       grows = subst (λ (l : List ℕ). GrowsTrees l (volume_of before) (volume_of after)) (sym awaits.2.first) ahead.grows;
       files = ahead.files;
+      values = ahead.values;
       keeps = ahead.keeps;
     };
     own = tt;

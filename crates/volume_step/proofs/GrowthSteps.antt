@@ -56,6 +56,7 @@ module _ (tree : WhichTree) (more capacity number : ℕ) (asked : Command) (befo
     some = some_nodes tree more waits.grow waits.first waits.some;
     grows = subst (λ (l : List ℕ). GrowsTrees l (volume_of before) (volume_of after)) (sym waits.first) ahead.grows;
     files = ahead.files;
+    values = ahead.values;
     keeps = ahead.keeps;
   }
 

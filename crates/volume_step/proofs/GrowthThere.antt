@@ -1,7 +1,7 @@
 -- Ahead of a command that isn't refused no tree grows that isn't there: where there is no attributes file no folder or file has an attribute.
-use Rattle.std.proofs.Common.{◌≡◌, ◌<◌, ℕ, Bool, true, false, List, [], ◌∷◌, length, map, refl, sym, ◌∙◌, ap, arith}
+use Rattle.std.proofs.Common.{◌≡◌, ◌<◌, ℕ, Bool, true, false, List, [], ◌∷◌, ◌+◌, length, map, refl, sym, ◌∙◌, ap, arith}
 use Rattle.std.specs.List.{Contains}
-use Rattle.std.specs.Prelude.{find, nat_lt, not, ok_or, slice_index, Option, None, Some, Result, Ok, Err, if◌then◌else◌}
+use Rattle.std.specs.Prelude.{find, nat_lt, not, sum, ok_or, slice_index, Option, None, Some, Result, Ok, Err, if◌then◌else◌}
 use Rattle.std.proofs.lemmas.Bool.{true≢false}
 use Rattle.jnl_format.specs.Recovery.{Content}
 use Rattle.btree_node.specs.Levels.{Pair}
@@ -17,11 +17,11 @@ use Rattle.hfs_model.specs.declared.plain.PlainEntry.{PlainEntry}
 use Rattle.hfs_model.specs.declared.plain.PlainNode.{PlainNode}
 use Rattle.hfs_model.specs.declared.plain.PlainTree.{PlainTree}
 use Rattle.hfs_volume.specs.Content.{VolumeState, attributes_of, has_attributes, records_of, volume_of}
-use Rattle.hfs_volume.specs.Cost.{attributes_key, growth, tree_at}
+use Rattle.hfs_volume.specs.Cost.{attributes_key, growth, overflow_records, tree_at}
 use Rattle.hfs_volume.specs.Reclaim.{first_growth}
 use Rattle.hfs_volume.specs.Records.{attribute_of}
-use Rattle.hfs_volume.specs.TreeOf.{file_bytes, plain_attributes, tree_in, tree_of}
-use Rattle.hfs_volume.specs.Weight.{Edits, attribute_count, data_of, edits_of, lacks_tree, ln_edits, mv_edits, over_edits, place_edits, rm_edits, rm_edits_at, rmdir_edits, room_with, weight_with}
+use Rattle.hfs_volume.specs.TreeOf.{bytes_in, plain_attributes, tree_in, tree_of, valued}
+use Rattle.hfs_volume.specs.Weight.{Edits, attribute_count, data_of, edits_of, lacks_tree, ln_edits, further_records, mv_edits, over_edits, place_edits, removed_values, rm_edits, rm_edits_at, rmdir_edits, room_with, runs_for, values_of_node, weight_with, with_values}
 use Rattle.hfs_volume.specs.declared.cost.Cost.TheVariants as cost
 use Rattle.hfs_volume.proofs.Flat.{found_some}
 use Rattle.btree_file.specs.Standing.{pairs_in}
@@ -36,7 +36,7 @@ use Rattle.volume_space.specs.declared.ahead.WhichTree.TheVariants as which
 use Rattle.volume_space.proofs.FewerEdits.{none_lacks}
 use Rattle.volume_step.proofs.Done.{step_fine}
 use Rattle.volume_step.proofs.Idle.{grows_works}
-use Rattle.volume_step.proofs.Ready.{edits_load, not_lacking, of_cost}
+use Rattle.volume_step.proofs.Ready.{edits_load, needs_now, not_lacking, of_cost}
 
 -- ---- trees without attributes
 
@@ -131,15 +131,56 @@ no_edits volume tree without bare (command.At moment) fine has = refl
 no_edits volume tree without bare command.Df fine has = refl
 no_edits volume tree without bare command.Sync fine has = refl
 
+-- nor do values go with a folder
+no_removed : (free : List Bool) (volume : VolumeState) (tree : PlainTree) → AreBare tree → (many : ℕ) (r : Result PlainEntry Refusal) → slice_index (with_values free (removed_values volume tree r) (record { ids = 0; edits = 0 ∷ 2 ∷ many ∷ []; updates = 1; new_blocks = 0; old_blocks = 0; runs = 0 })).edits 2 ≡ many
+no_removed free volume tree bare many (Ok entry) = by (node_at tree entry.id) (bare entry.id)
+  where
+    by : (found : Option PlainNode) → ((node : PlainNode) → found ≡ Some node → node.attributes ≡ []) → slice_index (with_values free (values_of_node volume found) (record { ids = 0; edits = 0 ∷ 2 ∷ many ∷ []; updates = 1; new_blocks = 0; old_blocks = 0; runs = 0 })).edits 2 ≡ many
+    by None each = refl
+    by (Some node) each =
+        let none : sum (map (λ (a : PlainAttribute). further_records volume node.id a.name) node.attributes) ≡ 0 = ap (λ (l : List PlainAttribute). sum (map (λ (a : PlainAttribute). further_records volume node.id a.name) l)) (each node refl) in
+        let one : overflow_records (runs_for 0 free) ≡ 0 = refl in
+        omega (arith, none, one)
+no_removed free volume tree bare many (Err why) = refl
+
+-- and it needs no edit of one for values
+no_values : (free : List Bool) (volume : VolumeState) (tree : PlainTree) (asked : Command) → has_attributes volume.head ≡ false → AreBare tree → is_refusal (step tree asked).0 ≡ false → lacks_tree volume asked ≡ false
+    → slice_index (needs_now free volume tree asked).edits 2 ≡ (edits_of tree asked).attributes
+no_values free volume tree (command.Mkdir path) without bare fine has = refl
+no_values free volume tree (command.Create path) without bare fine has = refl
+no_values free volume tree (command.Rm path) without bare fine has = refl
+no_values free volume tree (command.Rmdir path) without bare fine has = removal_values (to_rmdir tree path)
+  where
+    removal_values : (r : Result PlainEntry Refusal) → slice_index (with_values free (removed_values volume tree r) (needs_of (rmdir_edits tree r))).edits 2 ≡ (rmdir_edits tree r).attributes
+    removal_values (Ok entry) = no_removed free volume tree bare _ (Ok entry)
+    removal_values (Err why) = refl
+no_values free volume tree (command.Mv from to) without bare fine has = refl
+no_values free volume tree (command.Ln from to) without bare fine has = refl
+no_values free volume tree (command.Write path from value) without bare fine has = refl
+no_values free volume tree (command.Read path from long) without bare fine has = refl
+no_values free volume tree (command.Trunc path size) without bare fine has = refl
+no_values free volume tree (command.Ls path) without bare fine has = refl
+no_values free volume tree (command.Stat path) without bare fine has = refl
+no_values free volume tree (command.Chmod path mode) without bare fine has = refl
+no_values free volume tree (command.SetAttr path name value) without bare fine has = absurd (true≢false (sym (ap not without) ∙ has))
+no_values free volume tree (command.GetAttr path name) without bare fine has = refl
+no_values free volume tree (command.DelAttr path name) without bare fine has =
+    absurd (true≢false (sym (none_found tree bare path name (λ pair. (reply.Ok, marked pair.0.id (with_changed pair.0.id (without_attribute name) tree)))) ∙ fine))
+no_values free volume tree (command.LsAttr path) without bare fine has = refl
+no_values free volume tree (command.At moment) without bare fine has = refl
+no_values free volume tree command.Df without bare fine has = refl
+no_values free volume tree command.Sync without bare fine has = refl
+
 -- ---- a volume without an attributes file
 
-nodes_are : (content : Content) (n : PlainNode) → Contains (tree_of content).nodes n → n.attributes ≡ plain_attributes (attributes_of (volume_of content)) n.id
+nodes_are : (content : Content) (n : PlainNode) → Contains (tree_of content).nodes n → n.attributes ≡ plain_attributes (valued (bytes_in content) (attributes_of (volume_of content))) n.id
 unfolding tree_of tree_in
-nodes_are content n stands = node_attributes (attributes_of (volume_of content)) (records_of (volume_of content)) (file_bytes content) n stands
+nodes_are content n stands = node_attributes (valued (bytes_in content) (attributes_of (volume_of content))) (records_of (volume_of content)) (bytes_in content) n stands
 
 are_bare : (v : Volume) (content : Content) → IsSettled v content → has_attributes v.header ≡ false → AreBare (tree_of content)
+unfolding valued
 are_bare v content settled without id node found =
-    nodes_are content node (found_some (is_node id) (tree_of content).nodes node found).0 ∙ ap (λ (l : List Pair). plain_attributes (map attribute_of l) node.id) no_pairs
+    nodes_are content node (found_some (is_node id) (tree_of content).nodes node found).0 ∙ ap (λ (l : List Pair). plain_attributes (valued (bytes_in content) (map attribute_of l)) node.id) no_pairs
   where
     no_pairs : (volume_of content).attribute_pairs ≡ []
     no_pairs = ap (λ (l : VolumeState). l.attribute_pairs) settled.lists ∙ ap (λ b. if b then pairs_in (sectors_of_tree v.attributes.file) content else []) without
@@ -169,9 +210,10 @@ growth_there v content settled asked unread no_data fine capacity free n grow co
         let head : has_attributes (volume_of content).head ≡ false = ap (λ (l : VolumeState). has_attributes l.head) settled.lists ∙ without in
         let works = grows_works capacity free (volume_of content) (tree_of content) asked n grow costs which.Attributes more some first in
         let none = no_edits (volume_of content) (tree_of content) head (are_bare v content settled without) asked (step_fine (tree_of content) asked fine) (not_lacking capacity free (volume_of content) (tree_of content) asked works no_data n grow costs) in
-        let plan = (of_cost (needs_of (edits_of (tree_of content) asked)) (room_with capacity free (volume_of content)) n grow (edits_load capacity free (volume_of content) (tree_of content) asked works no_data n grow costs)).1 in
+        let none_valued = no_values free (volume_of content) (tree_of content) asked head (are_bare v content settled without) (step_fine (tree_of content) asked fine) (not_lacking capacity free (volume_of content) (tree_of content) asked works no_data n grow costs) in
+        let plan = (of_cost (needs_now free (volume_of content) (tree_of content) asked) (room_with capacity free (volume_of content)) n grow (edits_load capacity free (volume_of content) (tree_of content) asked works no_data n grow costs)).1 in
         let third : slice_index grow 2 ≡ 0 =
         ap (λ (l : List ℕ). slice_index l 2) plan
-        ∙ ap (λ k. growth (room_with capacity free (volume_of content)).block attributes_key (tree_at (room_with capacity free (volume_of content)) 2) k) none
+        ∙ ap (λ k. growth (room_with capacity free (volume_of content)).block attributes_key (tree_at (room_with capacity free (volume_of content)) 2) k) (none_valued ∙ none)
         ∙ none_lacks (room_with capacity free (volume_of content)).block attributes_key (tree_at (room_with capacity free (volume_of content)) 2) in
         absurd (omega (arith, some, third_first grow more some first, third))

@@ -10,7 +10,7 @@ use Rattle.hfs_model.specs.declared.plain.PlainTree.{PlainTree}
 use Rattle.hfs_volume.specs.Content.{VolumeState}
 use Rattle.hfs_volume.specs.Cost.{cost_of}
 use Rattle.hfs_volume.specs.Reclaim.{first_growth}
-use Rattle.hfs_volume.specs.Weight.{Data, changes_nothing, cut_cost, data_of, edits, edits_of, lacks_tree, needs_cut, needs_for, room_with, weight_with}
+use Rattle.hfs_volume.specs.Weight.{Data, changes_nothing, cut_cost, data_of, edits, edits_of, lacks_tree, needs_cut, needs_for, room_with, values_of, weight_with, with_values}
 use Rattle.hfs_volume.specs.declared.cost.Cost.{Cost}
 use Rattle.hfs_volume.specs.declared.cost.Cost.TheVariants as cost
 use Rattle.volume_space.specs.Growing.{alone}
@@ -45,7 +45,7 @@ idle_weight capacity free volume tree asked idle =
     λ i. if idle i then cost.Load 0 (0 ∷ 0 ∷ 0 ∷ [])
     else if needs_cut volume (data_of tree asked) then cut_cost (room_with capacity free volume)
     else if lacks_tree volume asked then cost.Refused refusal.NoTree
-    else cost_of (needs_for free volume (edits_of tree asked) (data_of tree asked)) (room_with capacity free volume)
+    else cost_of (with_values free (values_of volume tree asked) (needs_for free volume (edits_of tree asked) (data_of tree asked))) (room_with capacity free volume)
 
 abbrev load_in : Cost → ℕ
 load_in (cost.Refused why) = 0
@@ -98,6 +98,28 @@ data_edits tree (command.LsAttr p) put is = absurd (let no : None ≡ Some put =
 data_edits tree (command.At n) put is = absurd (let no : None ≡ Some put = is in cc no)
 data_edits tree command.Df put is = absurd (let no : None ≡ Some put = is in cc no)
 data_edits tree command.Sync put is = absurd (let no : None ≡ Some put = is in cc no)
+
+-- nor does it change a value
+pub data_values : (volume : VolumeState) (tree : PlainTree) (asked : Command) (put : Data) → data_of tree asked ≡ Some put → values_of volume tree asked ≡ None
+data_values volume tree (command.Write path from value) put is = refl
+data_values volume tree (command.Trunc path size) put is = refl
+data_values volume tree (command.Mkdir p) put is = absurd (let no : None ≡ Some put = is in cc no)
+data_values volume tree (command.Create p) put is = absurd (let no : None ≡ Some put = is in cc no)
+data_values volume tree (command.Rm p) put is = absurd (let no : None ≡ Some put = is in cc no)
+data_values volume tree (command.Rmdir p) put is = absurd (let no : None ≡ Some put = is in cc no)
+data_values volume tree (command.Mv p q) put is = absurd (let no : None ≡ Some put = is in cc no)
+data_values volume tree (command.Ln p q) put is = absurd (let no : None ≡ Some put = is in cc no)
+data_values volume tree (command.Read p n m) put is = absurd (let no : None ≡ Some put = is in cc no)
+data_values volume tree (command.Ls p) put is = absurd (let no : None ≡ Some put = is in cc no)
+data_values volume tree (command.Stat p) put is = absurd (let no : None ≡ Some put = is in cc no)
+data_values volume tree (command.Chmod p m) put is = absurd (let no : None ≡ Some put = is in cc no)
+data_values volume tree (command.SetAttr p n v) put is = absurd (let no : None ≡ Some put = is in cc no)
+data_values volume tree (command.GetAttr p n) put is = absurd (let no : None ≡ Some put = is in cc no)
+data_values volume tree (command.DelAttr p n) put is = absurd (let no : None ≡ Some put = is in cc no)
+data_values volume tree (command.LsAttr p) put is = absurd (let no : None ≡ Some put = is in cc no)
+data_values volume tree (command.At n) put is = absurd (let no : None ≡ Some put = is in cc no)
+data_values volume tree command.Df put is = absurd (let no : None ≡ Some put = is in cc no)
+data_values volume tree command.Sync put is = absurd (let no : None ≡ Some put = is in cc no)
 
 pub cut_works : (volume : VolumeState) (tree : PlainTree) (asked : Command) → needs_cut volume (data_of tree asked) ≡ true → (only_reads asked || changes_nothing tree asked) ≡ false
 cut_works volume tree asked needs = by (data_of tree asked) refl needs

@@ -1,6 +1,6 @@
 -- A verdict stands by what the command weighs.
 use Rattle.std.proofs.Common.{◌≡◌, ◌<◌, ℕ, zero, suc, Bool, true, false, List, [], ◌∷◌, inl, inr, refl, sym, ◌∙◌, ap, subst, arith}
-use Rattle.std.specs.Prelude.{◌==◌, ◌||◌, nat_lt, not, is_some, IfSome, Option, None, Some, Ok, slice_index, if◌then◌else◌}
+use Rattle.std.specs.Prelude.{◌&&◌, ◌==◌, ◌||◌, nat_lt, not, is_some, IfSome, Option, None, Some, Ok, slice_index, if◌then◌else◌}
 use Rattle.std.proofs.lemmas.Bool.{eqb-true, le-ltb, lt-ltb, true≢false}
 use Rattle.jnl_format.specs.Recovery.{Content}
 use Rattle.hfs_language.specs.declared.command.Command.{Command}
@@ -13,7 +13,7 @@ use Rattle.hfs_volume.specs.Content.{volume_of}
 use Rattle.hfs_volume.specs.Cost.{cost_of, cost_or, load_of, load_refusal, plan_of, resource_refusal}
 use Rattle.hfs_volume.specs.Reclaim.{first_growth}
 use Rattle.hfs_volume.specs.TreeOf.{tree_of}
-use Rattle.hfs_volume.specs.Weight.{changes_nothing, cut_cost, cut_load, data_of, edits_of, free_blocks, lacks_tree, needs_cut, needs_for, room_with, weight, weight_with}
+use Rattle.hfs_volume.specs.Weight.{changes_nothing, cut_cost, cut_load, data_of, edits_of, free_blocks, lacks_tree, needs_cut, needs_for, room_with, values_of, weight, weight_with, with_values}
 use Rattle.hfs_volume.specs.declared.cost.Cost.{Cost}
 use Rattle.hfs_volume.specs.declared.cost.Cost.TheVariants as cost
 use Rattle.hfs_volume.specs.declared.cost.Needs.{Needs}
@@ -58,7 +58,7 @@ pub three : (capacity : ℕ) (content : Content) (asked : Command) (s : ℕ) (gr
 unfolding weight_with
 three capacity content asked s grow is =
     three_choice (only_reads asked || changes_nothing (tree_of content) asked) (needs_cut (volume_of content) (data_of (tree_of content) asked)) (lacks_tree (volume_of content) asked) (room_with capacity (free_blocks (volume_of content)) (volume_of content))
-    (needs_for (free_blocks (volume_of content)) (volume_of content) (edits_of (tree_of content) asked) (data_of (tree_of content) asked)) s grow is
+    (with_values (free_blocks (volume_of content)) (values_of (volume_of content) (tree_of content) asked) (needs_for (free_blocks (volume_of content)) (volume_of content) (edits_of (tree_of content) asked) (data_of (tree_of content) asked))) s grow is
 
 pub some : (n : ℕ) → (n == 0) ≡ false → 0 < n
 some zero is = absurd (true≢false is)
@@ -113,7 +113,7 @@ module _ (capacity : ℕ) (takable : List Bool) (content : Content) (asked : Com
   of_costs : refuses (tree_of content) (Ok asked) ≡ false → (one other : Cost) → weight capacity (volume_of content) (tree_of content) asked ≡ one → IsJudged (verdict_of (joined one other) spare) capacity asked content
   of_costs fine (cost.Refused why) other is = inr (fine, is)
   of_costs fine (cost.Load s grow) (cost.Refused why) is = tt
-  of_costs fine (cost.Load s grow) (cost.Load t more) is = by (slice_index grow 0 == slice_index more 0)
+  of_costs fine (cost.Load s grow) (cost.Load t more) is = by ((slice_index grow 0 == slice_index more 0) && (slice_index grow 2 == slice_index more 2))
     where
       by : (b : Bool) → IsJudged (verdict_of (if b then answer.Load t grow else answer.CommitFirst) spare) capacity asked content
       by true = of_load fine s t grow is

@@ -1,25 +1,28 @@
 -- What commands that put no data keep of a volume: the blocks of each fork, the nodes of each tree, the journal's place, and what the header says of the volume.
-use Rattle.std.proofs.Common.{◌≡◌, ℕ, ◌*◌, ◌/◌, List, [], ◌∷◌, ◌++◌, length, take, inl, inr, refl, sym, ◌∙◌, ap, subst, arith}
-use Rattle.std.specs.Prelude.{find}
+use Rattle.std.proofs.Common.{◌≡◌, ℕ, ◌*◌, ◌/◌, Bool, true, false, List, [], ◌∷◌, ◌++◌, length, take, map, inl, inr, refl, sym, ◌∙◌, ap, subst, arith}
+use Rattle.std.specs.Prelude.{find, nat_lt}
 use Rattle.std.proofs.Math.Nat.{div-le_self}
 use Rattle.std.proofs.lemmas.List.{take_all}
 use Rattle.jnl_format.specs.Keeping.{IsSame}
 use Rattle.volume_header.specs.declared.header.VolumeHeader.{VolumeHeader}
 use Rattle.btree_node.specs.Levels.{Pair}
 use Rattle.cat_records.specs.declared.record.EntryFields.{EntryFields}
-use Rattle.hfs_volume.specs.Attributing.{SetsAttribute, DeletesAttribute, at_moment}
-use Rattle.hfs_volume.specs.Changes.{ChangesValue, HasSameNodes, InAttributes}
+use Rattle.hfs_volume.specs.Attributing.{DeletesAttribute, at_moment}
+use Rattle.hfs_volume.specs.Changes.{ChangesValue, HasSameNodes, InAttributes, InValues, with_free}
 use Rattle.hfs_volume.specs.Commands.{ChangesFields, ChangesMode, HasNewMode, with_fields}
-use Rattle.hfs_volume.specs.Content.{VolumeState, overflow_in_volume, records_of}
+use Rattle.hfs_volume.specs.Content.{TreeFacts, VolumeState, overflow_in_volume, records_of}
 use Rattle.hfs_volume.specs.Forks.{all_forks, data_kind, file_forks, special_forks, extents_id, catalog_id, attributes_id}
-use Rattle.hfs_volume.specs.Reclaim.{GrowsBy, GrowsTrees, blocks_at, blocks_found, is_fork}
+use Rattle.hfs_volume.specs.Reclaim.{GrowsBy, GrowsTrees, SameValues, blocks_at, blocks_found, is_fork}
+use Rattle.hfs_volume.specs.Records.{attribute_of}
+use Rattle.hfs_volume.specs.Values.{longest_inline, value_blocks}
 use Rattle.hfs_volume.proofs.Making.{placed_splits}
 use Rattle.hfs_volume.proofs.Swapping.{Splits}
 use Rattle.volume_space.specs.Cutting.{KeepsTrees}
+use Rattle.volume_values.specs.Valuing.{SetsAsLists, SetsOwned}
 use Rattle.volume_step.proofs.Forks.{forks_swapped}
 
--- what stays of a volume's lists
-pub record Keeps (old new : VolumeState) : Type 0 where
+-- what stays of a volume's lists, though values of attributes may change
+pub record KeepsForks (old new : VolumeState) : Type 0 where
   pub blocks : (id kind : ℕ) → blocks_at new id kind ≡ blocks_at old id kind
   pub extents : new.extents_tree.shape.total ≡ old.extents_tree.shape.total
   pub catalog : new.catalog_tree.shape.total ≡ old.catalog_tree.shape.total
@@ -28,14 +31,23 @@ pub record Keeps (old new : VolumeState) : Type 0 where
   pub flags : new.head.attributes ≡ old.head.attributes
   pub same : IsSame old.head new.head
 
+-- The same; and no attribute is changed.
+pub record Keeps (old new : VolumeState) : Type 0 where
+  pub forks : KeepsForks old new
+  pub pairs : new.attribute_pairs ≡ old.attribute_pairs
+
+-- so every value has the blocks that it had
+pub values_same : (old new : VolumeState) → Keeps old new → SameValues old new
+values_same old new keeps id name = ap (λ (l : List Pair). value_blocks (map attribute_of l) id name) keeps.pairs
+
 same_header : (head : VolumeHeader) → IsSame head head
 same_header head = record { signature = refl; version = refl; last_mounted = refl; info_block = refl; block_size = refl; total_blocks = refl; bit_12 = refl; bit_13 = refl; bit_15 = refl }
 
 pub keeps_none : (volume : VolumeState) → Keeps volume volume
-keeps_none volume = record { blocks = λ id kind. refl; extents = refl; catalog = refl; attributes = refl; journal = refl; flags = refl; same = same_header volume.head }
+keeps_none volume = record { forks = record { blocks = λ id kind. refl; extents = refl; catalog = refl; attributes = refl; journal = refl; flags = refl; same = same_header volume.head }; pairs = refl }
 
-pub keeps_both : (a b c : VolumeState) → Keeps a b → Keeps b c → Keeps a c
-keeps_both a b c p q = record {
+pub forks_both : (a b c : VolumeState) → KeepsForks a b → KeepsForks b c → KeepsForks a c
+forks_both a b c p q = record {
   blocks = λ id kind. q.blocks id kind ∙ p.blocks id kind;
   extents = q.extents ∙ p.extents;
   catalog = q.catalog ∙ p.catalog;
@@ -55,6 +67,9 @@ keeps_both a b c p q = record {
   };
 }
 
+pub keeps_both : (a b c : VolumeState) → Keeps a b → Keeps b c → Keeps a c
+keeps_both a b c p q = record { forks = forks_both a b c p.forks q.forks; pairs = q.pairs ∙ p.pairs }
+
 -- ---- the trees don't grow
 
 grows_by : (more : ℕ) (old new : List ℕ) → more ≡ 0 → new ≡ old → GrowsBy more old new
@@ -66,7 +81,7 @@ grows_by more old new none same = record {
 nothing : (size block : ℕ) → 0 * size / block ≡ 0
 nothing size block = omega (arith, div-le_self (0 * size) block)
 
-pub grows_none : (old new : VolumeState) → Keeps old new → GrowsTrees (0 ∷ 0 ∷ 0 ∷ []) old new
+pub grows_none : (old new : VolumeState) → KeepsForks old new → GrowsTrees (0 ∷ 0 ∷ 0 ∷ []) old new
 grows_none old new keeps = record {
   extents = record { nodes = omega (arith, keeps.extents); blocks = grows_by _ _ _ (nothing old.extents_tree.shape.node_size old.head.block_size) (keeps.blocks extents_id data_kind) };
   catalog = record { nodes = omega (arith, keeps.catalog); blocks = grows_by _ _ _ (nothing old.catalog_tree.shape.node_size old.head.block_size) (keeps.blocks catalog_id data_kind) };
@@ -92,13 +107,16 @@ forks_are old new rest same id kind =
 -- a change of the catalog that keeps the forks
 pub catalog_keeps : (old new : VolumeState) → new ≡ record old { catalog_pairs = new.catalog_pairs; catalog_tree = new.catalog_tree } → HasSameNodes old.catalog_tree new.catalog_tree → ((id kind : ℕ) → blocks_at new id kind ≡ blocks_at old id kind) → Keeps old new
 catalog_keeps old new rest nodes blocks = record {
-  blocks = blocks;
-  extents = ap (λ (v : VolumeState). v.extents_tree.shape.total) rest;
-  catalog = nodes.total;
-  attributes = ap (λ (v : VolumeState). v.attributes_tree.shape.total) rest;
-  journal = ap (λ (v : VolumeState). v.journal) rest;
-  flags = ap (λ (v : VolumeState). v.head.attributes) rest;
-  same = subst (λ (h : VolumeHeader). IsSame old.head h) (sym (ap (λ (v : VolumeState). v.head) rest)) (same_header old.head);
+  forks = record {
+    blocks = blocks;
+    extents = ap (λ (v : VolumeState). v.extents_tree.shape.total) rest;
+    catalog = nodes.total;
+    attributes = ap (λ (v : VolumeState). v.attributes_tree.shape.total) rest;
+    journal = ap (λ (v : VolumeState). v.journal) rest;
+    flags = ap (λ (v : VolumeState). v.head.attributes) rest;
+    same = subst (λ (h : VolumeHeader). IsSame old.head h) (sym (ap (λ (v : VolumeState). v.head) rest)) (same_header old.head);
+  };
+  pairs = ap (λ (v : VolumeState). v.attribute_pairs) rest;
 }
 
 module _ (id : ℕ) (Changes : EntryFields → EntryFields → Type 0) (old new : VolumeState) (does : ChangesFields id Changes old new) where
@@ -123,18 +141,21 @@ moment_blocks moment old id kind = refl
 
 pub moment_keeps : (moment : ℕ) (old : VolumeState) → Keeps old (at_moment moment old)
 moment_keeps moment old = record {
-  blocks = λ id kind. moment_blocks moment old id kind;
-  extents = refl;
-  catalog = refl;
-  attributes = refl;
-  journal = refl;
-  flags = refl;
-  same = record { signature = refl; version = refl; last_mounted = refl; info_block = refl; block_size = refl; total_blocks = refl; bit_12 = refl; bit_13 = refl; bit_15 = refl };
+  forks = record {
+    blocks = λ id kind. moment_blocks moment old id kind;
+    extents = refl;
+    catalog = refl;
+    attributes = refl;
+    journal = refl;
+    flags = refl;
+    same = record { signature = refl; version = refl; last_mounted = refl; info_block = refl; block_size = refl; total_blocks = refl; bit_12 = refl; bit_13 = refl; bit_15 = refl };
+  };
+  pairs = refl;
 }
 
 -- ---- changes of attributes
 
-pub attributes_keep : (Changes : List Pair → List Pair → Type 0) (old new : VolumeState) → InAttributes Changes old new → Keeps old new
+pub attributes_keep : (Changes : List Pair → List Pair → Type 0) (old new : VolumeState) → InAttributes Changes old new → KeepsForks old new
 attributes_keep Changes old new does = record {
   blocks = λ id kind. ap (λ (v : VolumeState). blocks_at v id kind) does.rest;
   extents = ap (λ (v : VolumeState). v.extents_tree.shape.total) does.rest;
@@ -145,10 +166,34 @@ attributes_keep Changes old new does = record {
   same = subst (λ (h : VolumeHeader). IsSame old.head h) (sym (ap (λ (v : VolumeState). v.head) does.rest)) (same_header old.head);
 }
 
-pub set_keeps : (id : ℕ) (name value : List ℕ) (old new : VolumeState) → SetsAttribute id name value old new → Keeps old new
-set_keeps id name value old new does =
-    keeps_both old does.bared new (attributes_keep _ old does.bared does.bares)
-    (keeps_both does.bared does.added new (attributes_keep _ does.bared does.added does.adds) (fields_keep id _ does.added new does.marks))
+-- Values take blocks and give some back: of forks there are those that there were.
+valued_blocks : (free next : ℕ) (pairs : List Pair) (nodes : TreeFacts) (bits : List Bool) (old : VolumeState) (id kind : ℕ)
+    → blocks_at (record old { head = with_free free next old.head; attribute_pairs = pairs; attributes_tree = nodes; bits = bits }) id kind ≡ blocks_at old id kind
+unfolding all_forks
+valued_blocks free next pairs nodes bits old id kind = refl
 
-pub delete_keeps : (id : ℕ) (name : List ℕ) (old new : VolumeState) → DeletesAttribute id name old new → Keeps old new
-delete_keeps id name old new does = keeps_both old does.bared new (attributes_keep _ old does.bared does.bares) (fields_keep id _ does.bared new does.marks)
+freed_header : (free next : ℕ) (head : VolumeHeader) → IsSame head (with_free free next head)
+freed_header free next head = record { signature = refl; version = refl; last_mounted = refl; info_block = refl; block_size = refl; total_blocks = refl; bit_12 = refl; bit_13 = refl; bit_15 = refl }
+
+pub values_keep : (Changes : List Pair → List Pair → Type 0) (fresh freed : List ℕ) (old new : VolumeState) → InValues Changes fresh freed old new → KeepsForks old new
+values_keep Changes fresh freed old new does = record {
+  blocks = λ id kind. ap (λ (v : VolumeState). blocks_at v id kind) does.rest ∙ valued_blocks does.free does.next new.attribute_pairs new.attributes_tree new.bits old id kind;
+  extents = ap (λ (v : VolumeState). v.extents_tree.shape.total) does.rest;
+  catalog = ap (λ (v : VolumeState). v.catalog_tree.shape.total) does.rest;
+  attributes = does.nodes.total;
+  journal = ap (λ (v : VolumeState). v.journal) does.rest;
+  flags = ap (λ (v : VolumeState). v.head.attributes) does.rest;
+  same = subst (λ (h : VolumeHeader). IsSame old.head h) (sym (ap (λ (v : VolumeState). v.head) does.rest)) (freed_header does.free does.next old.head);
+}
+
+pub set_keeps : (id : ℕ) (name value : List ℕ) (old new : VolumeState) → SetsOwned id name value old new → KeepsForks old new
+set_keeps id name value old new does = by (nat_lt longest_inline (length value)) does
+  where
+    by : (long : Bool) → SetsAsLists long id name value old new → KeepsForks old new
+    by false it =
+        forks_both old it.bared new (values_keep _ _ _ old it.bared it.bares)
+        (forks_both it.bared it.added new (attributes_keep _ it.bared it.added it.adds) (fields_keep id _ it.added new it.marks).forks)
+    by true pair = let it = pair.1 in forks_both old it.set new (values_keep _ _ _ old it.set it.sets) (fields_keep id _ it.set new it.marks).forks
+
+pub delete_keeps : (id : ℕ) (name : List ℕ) (old new : VolumeState) → DeletesAttribute id name old new → KeepsForks old new
+delete_keeps id name old new does = forks_both old does.bared new (values_keep _ _ _ old does.bared does.bares) (fields_keep id _ does.bared new does.marks).forks

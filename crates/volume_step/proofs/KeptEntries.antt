@@ -12,7 +12,7 @@ use Rattle.hfs_model.specs.Step.{Place, private_name}
 use Rattle.hfs_model.specs.declared.plain.PlainEntry.{PlainEntry}
 use Rattle.hfs_volume.specs.Blocks.{HasSizes, forks_of}
 use Rattle.hfs_volume.specs.Changes.{ChangesValue, DropsEntry, InCatalog, MovesEntry}
-use Rattle.hfs_volume.specs.Commands.{ChangesFields, DropsAttributes, IsMarkedAlone, IsMarkedLinked, IsNewValue, IsRecounted, IsRecountedAlone, IsTouched, MakesEntry, RemovesFolder, entry_in, with_counts, with_fields, with_folder_removed, with_made, without_attributes}
+use Rattle.hfs_volume.specs.Commands.{ChangesFields, IsMarkedAlone, IsMarkedLinked, IsNewValue, IsRecounted, IsRecountedAlone, IsTouched, MakesEntry, RemovesFolder, entry_in, with_counts, with_fields, with_folder_removed, with_made}
 use Rattle.hfs_volume.specs.Content.{VolumeState, overflow_in_volume, records_of}
 use Rattle.hfs_volume.specs.Entries.{IsUserId}
 use Rattle.hfs_volume.specs.Forks.{Owned, all_forks, blocks_owned, data_kind, file_forks, forks_in, resource_kind, special_forks}
@@ -32,7 +32,7 @@ use Rattle.hfs_volume.proofs.Sides.{OneMore, count_more, entries_more, entry_cas
 use Rattle.hfs_volume.proofs.Swapping.{Splits}
 use Rattle.volume_names.specs.PrivateFolder.{OpensPrivate, with_one_folder}
 use Rattle.volume_step.proofs.Forks.{forks_swapped, found_more, found_moved}
-use Rattle.volume_step.proofs.Kept.{Keeps, attributes_keep, catalog_keeps, fields_keep, forks_are, keeps_both, keeps_none}
+use Rattle.volume_step.proofs.Kept.{Keeps, KeepsForks, catalog_keeps, fields_keep, forks_are, forks_both, keeps_both, keeps_none, values_keep}
 
 -- ---- other numbers in the header
 
@@ -42,13 +42,16 @@ made_blocks folder old id kind = refl
 
 made_head : (folder : Bool) (old : VolumeState) → Keeps old (record old { head = with_made folder old.head })
 made_head folder old = record {
-  blocks = λ id kind. made_blocks folder old id kind;
-  extents = refl;
-  catalog = refl;
-  attributes = refl;
-  journal = refl;
-  flags = refl;
-  same = record { signature = refl; version = refl; last_mounted = refl; info_block = refl; block_size = refl; total_blocks = refl; bit_12 = refl; bit_13 = refl; bit_15 = refl };
+  forks = record {
+    blocks = λ id kind. made_blocks folder old id kind;
+    extents = refl;
+    catalog = refl;
+    attributes = refl;
+    journal = refl;
+    flags = refl;
+    same = record { signature = refl; version = refl; last_mounted = refl; info_block = refl; block_size = refl; total_blocks = refl; bit_12 = refl; bit_13 = refl; bit_15 = refl };
+  };
+  pairs = refl;
 }
 
 -- ---- a new folder or file
@@ -217,13 +220,16 @@ removed_blocks old id kind = refl
 
 removed_head : (old : VolumeState) → Keeps old (record old { head = with_folder_removed old.head })
 removed_head old = record {
-  blocks = λ id kind. removed_blocks old id kind;
-  extents = refl;
-  catalog = refl;
-  attributes = refl;
-  journal = refl;
-  flags = refl;
-  same = record { signature = refl; version = refl; last_mounted = refl; info_block = refl; block_size = refl; total_blocks = refl; bit_12 = refl; bit_13 = refl; bit_15 = refl };
+  forks = record {
+    blocks = λ id kind. removed_blocks old id kind;
+    extents = refl;
+    catalog = refl;
+    attributes = refl;
+    journal = refl;
+    flags = refl;
+    same = record { signature = refl; version = refl; last_mounted = refl; info_block = refl; block_size = refl; total_blocks = refl; bit_12 = refl; bit_13 = refl; bit_15 = refl };
+  };
+  pairs = refl;
 }
 
 folder_forks : (value : CatRecord) → is_folder value ≡ true → forks_in value ≡ []
@@ -232,21 +238,24 @@ folder_forks (File f) is = absurd (true≢false (sym is))
 folder_forks (Thread t) is = refl
 
 module _ (id : ℕ) (old new : VolumeState) (does : RemovesFolder id old new) (folder : is_folder does.entry.value ≡ true) where
-  abbrev bared : VolumeState
-  bared = without_attributes old new
+  abbrev counted_less : VolumeState
+  counted_less = record does.bared { head = with_folder_removed does.bared.head }
 
-  gone : OneMore does.entry (records_of does.dropped) (records_of bared)
-  gone = one_more does.drops.changes (named_entry (records_of old) does.entry does.stands)
+  records_same : records_of counted_less ≡ records_of old
+  records_same = ap (λ (v : VolumeState). records_of v) does.bares.rest
 
-  dropped_blocks : (n kind : ℕ) → blocks_at does.dropped n kind ≡ blocks_at bared n kind
-  dropped_blocks n kind = forks_are bared does.dropped does.drops.rest (sym (none_more gone (folder_forks does.entry.value folder))) n kind
+  gone : OneMore does.entry (records_of does.dropped) (records_of counted_less)
+  gone = one_more does.drops.changes (subst (λ l. Contains (entries_of l) does.entry → is_empty does.entry.name ≡ false) (sym records_same) (named_entry (records_of old) does.entry) (subst (λ l. Contains (entries_of l) does.entry) (sym records_same) does.stands))
 
-  pub removed_keeps : Keeps old new
+  dropped_blocks : (n kind : ℕ) → blocks_at does.dropped n kind ≡ blocks_at counted_less n kind
+  dropped_blocks n kind = forks_are counted_less does.dropped does.drops.rest (sym (none_more gone (folder_forks does.entry.value folder))) n kind
+
+  pub removed_keeps : KeepsForks old new
   removed_keeps =
-      keeps_both old (record old { head = with_folder_removed old.head }) new (removed_head old)
-      (keeps_both (record old { head = with_folder_removed old.head }) bared new (attributes_keep (DropsAttributes id) (record old { head = with_folder_removed old.head }) bared does.bares)
-      (keeps_both bared does.dropped new (catalog_keeps bared does.dropped does.drops.rest does.drops.nodes dropped_blocks)
-      (fields_keep does.entry.parent (IsTouched old.head.modify_date 0 1) does.dropped new does.counts)))
+      forks_both old does.bared new (values_keep _ _ _ old does.bared does.bares)
+      (keeps_both does.bared counted_less new (removed_head does.bared)
+      (keeps_both counted_less does.dropped new (catalog_keeps counted_less does.dropped does.drops.rest does.drops.nodes dropped_blocks)
+      (fields_keep does.entry.parent (IsTouched old.head.modify_date 0 1) does.dropped new does.counts))).forks
 
 -- ---- a file that loses its only name
 
@@ -256,13 +265,16 @@ counted_blocks next files folders old id kind = refl
 
 pub counted_head : (next files folders : ℕ) (old : VolumeState) → Keeps old (record old { head = with_counts next files folders old.head })
 counted_head next files folders old = record {
-  blocks = λ id kind. counted_blocks next files folders old id kind;
-  extents = refl;
-  catalog = refl;
-  attributes = refl;
-  journal = refl;
-  flags = refl;
-  same = record { signature = refl; version = refl; last_mounted = refl; info_block = refl; block_size = refl; total_blocks = refl; bit_12 = refl; bit_13 = refl; bit_15 = refl };
+  forks = record {
+    blocks = λ id kind. counted_blocks next files folders old id kind;
+    extents = refl;
+    catalog = refl;
+    attributes = refl;
+    journal = refl;
+    flags = refl;
+    same = record { signature = refl; version = refl; last_mounted = refl; info_block = refl; block_size = refl; total_blocks = refl; bit_12 = refl; bit_13 = refl; bit_15 = refl };
+  };
+  pairs = refl;
 }
 
 -- a name of a numbered file isn't empty

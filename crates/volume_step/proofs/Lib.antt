@@ -27,4 +27,5 @@ pub mod Served
 pub mod Shortened
 pub mod StepGrowth
 pub mod Unfilled
+pub mod Valued
 pub mod Widening

@@ -17,7 +17,7 @@ use Rattle.volume_names.specs.Linking.{HasLinked}
 use Rattle.volume_step.specs.Steps.{Affords, KeepsJournal, StepsTo}
 use Rattle.volume_step.specs.declared.outcome.Outcome.TheVariants as outcome
 use Rattle.volume_step.proofs.Done.{done_steps, first_free, line_free, said_ok}
-use Rattle.volume_step.proofs.Kept.{Keeps, keeps_both}
+use Rattle.volume_step.proofs.Kept.{Keeps, keeps_both, values_same}
 use Rattle.volume_step.proofs.KeptEntries.{opened_keeps}
 use Rattle.volume_step.proofs.KeptFirst.{first_keeps}
 use Rattle.volume_step.proofs.KeptLinks.{more_keeps}
@@ -40,8 +40,8 @@ module _ (capacity number : ℕ) (from to : List (List ℕ)) (before after : Con
     link_steps changes told =
         let it = lists fine_link in
         let free = first_free (is_private_path from) (is_private_path to) (line_free (tree_of before) (command.Ln from to) affords.no_refusal) in
-        done_steps capacity number (command.Ln from to) before after sound_before sound_after affords said refl refl reply_is tree keeps_link changes
+        done_steps capacity number (command.Ln from to) before after sound_before sound_after affords said refl refl reply_is tree keeps_link.forks (values_same (volume_of before) (volume_of after) keeps_link) changes
         (told free.0 free.1 (it.entry, it.place) it.allowed ∙ ap (of_pair number change.Linked) (sym it.allowed))
 
     pub link_place : KeepsJournal before after
-    link_place = journal_kept before after keeps_link
+    link_place = journal_kept before after keeps_link.forks

@@ -15,7 +15,7 @@ use Rattle.hfs_model.specs.declared.plain.PlainTree.{PlainTree}
 use Rattle.hfs_volume.specs.Content.{VolumeState, volume_of}
 use Rattle.hfs_volume.specs.Cost.{cost_of, cost_or, load_of, load_refusal, node_sectors, plan_of, tree_at}
 use Rattle.hfs_volume.specs.TreeOf.{tree_of}
-use Rattle.hfs_volume.specs.Weight.{Data, changes_nothing, cut_cost, cut_load, data_of, edits, edits_of, free_blocks, lacks_tree, needs_cut, needs_for, room_with, weight, weight_with}
+use Rattle.hfs_volume.specs.Weight.{Data, changes_nothing, cut_cost, cut_load, data_of, edits, edits_of, free_blocks, lacks_tree, needs_cut, needs_for, room_with, values_of, weight, weight_with, with_values}
 use Rattle.hfs_volume.specs.declared.cost.Cost.{Cost}
 use Rattle.hfs_volume.specs.declared.cost.Cost.TheVariants as cost
 use Rattle.hfs_volume.specs.declared.cost.Needs.{Needs}
@@ -31,9 +31,9 @@ use Rattle.volume_weights.specs.DataWeighing.{WaitsForCut}
 use Rattle.volume_runs.specs.Rest.{cut_puts}
 use Rattle.volume_step.specs.Anew.{FitsAlike}
 use Rattle.volume_step.specs.Loads.{IsWithinLoad}
-use Rattle.volume_step.specs.Steps.{Affords, LacksCutRoom, WaitsForGrowth}
+use Rattle.volume_step.specs.Steps.{Affords, LacksCutRoom, WaitsForGrowth, takes_none}
 use Rattle.volume_step.proofs.Idle.{alone_none, cut_works, idle_load}
-use Rattle.volume_step.proofs.Ready.{catalog_node as catalog_is, edits_load, load_low, of_cost}
+use Rattle.volume_step.proofs.Ready.{catalog_node as catalog_is, edits_load, load_low, needs_now, of_cost, same_values}
 
 -- ---- one load, whichever blocks count as free
 
@@ -43,25 +43,26 @@ unfolding load_of room_with
 load_same needs capacity one other volume = refl
 
 -- what a command weighs that puts no data
-same_load : (capacity : ℕ) (one other : List Bool) (volume : VolumeState) (tree : PlainTree) (asked : Command) → data_of tree asked ≡ None → (n m : ℕ) (grow more : List ℕ)
+same_load : (capacity : ℕ) (one other : List Bool) (volume : VolumeState) (tree : PlainTree) (asked : Command) → data_of tree asked ≡ None → takes_none (values_of volume tree asked) ≡ true → (n m : ℕ) (grow more : List ℕ)
     → weight_with capacity one volume tree asked ≡ cost.Load n grow → weight_with capacity other volume tree asked ≡ cost.Load m more → n ≡ m
-same_load capacity one other volume tree asked no_data n m grow more is also = by (only_reads asked || changes_nothing tree asked) refl
+same_load capacity one other volume tree asked no_data none_taken n m grow more is also = by (only_reads asked || changes_nothing tree asked) refl
   where
     by : (b : Bool) → (only_reads asked || changes_nothing tree asked) ≡ b → n ≡ m
     by true idle = (idle_load capacity one volume tree asked idle n grow is).0 ∙ sym (idle_load capacity other volume tree asked idle m more also).0
     by false works =
-        (of_cost (needs_of (edits_of tree asked)) (room_with capacity one volume) n grow (edits_load capacity one volume tree asked works no_data n grow is)).0
-        ∙ load_same (needs_of (edits_of tree asked)) capacity one other volume
-        ∙ sym (of_cost (needs_of (edits_of tree asked)) (room_with capacity other volume) m more (edits_load capacity other volume tree asked works no_data m more also)).0
+        (of_cost (needs_now one volume tree asked) (room_with capacity one volume) n grow (edits_load capacity one volume tree asked works no_data n grow is)).0
+        ∙ ap (λ (k : Needs). load_of k (room_with capacity one volume) (plan_of k (room_with capacity one volume))) (same_values one other (values_of volume tree asked) (needs_of (edits_of tree asked)) none_taken)
+        ∙ load_same (needs_now other volume tree asked) capacity one other volume
+        ∙ sym (of_cost (needs_now other volume tree asked) (room_with capacity other volume) m more (edits_load capacity other volume tree asked works no_data m more also)).0
 
 -- ---- a command that puts no data
 
-pub within_now : (asked : Command) (v : Volume) (a c : Space) → only_reads asked ≡ false → data_of (tree_of a.content) asked ≡ None → Affords (capacity_of v) asked a.content
+pub within_now : (asked : Command) (v : Volume) (a c : Space) → only_reads asked ≡ false → data_of (tree_of a.content) asked ≡ None → takes_none (values_of (volume_of a.content) (tree_of a.content) asked) ≡ true → Affords (capacity_of v) asked a.content
     → ((n : ℕ) (grow : List ℕ) → weight (capacity_of v) (volume_of a.content) (tree_of a.content) asked ≡ cost.Load n grow → a.spare ≤ c.spare + n) → IsWithinLoad asked v a c
-within_now asked v a c unread no_data affords loads load grow is = omega (
+within_now asked v a c unread no_data none_taken affords loads load grow is = omega (
   arith,
   loads affords.load (0 ∷ 0 ∷ 0 ∷ []) affords.affords,
-  same_load (capacity_of v) (takable_of v) (free_blocks (volume_of a.content)) (volume_of a.content) (tree_of a.content) asked no_data load affords.load grow (0 ∷ 0 ∷ 0 ∷ []) is affords.affords,
+  same_load (capacity_of v) (takable_of v) (free_blocks (volume_of a.content)) (volume_of a.content) (tree_of a.content) asked no_data none_taken load affords.load grow (0 ∷ 0 ∷ 0 ∷ []) is affords.affords,
 )
 
 -- behind reads
@@ -72,9 +73,9 @@ within_behind asked v w a b c reads tells within load grow is = omega (
   within load grow ((λ i. weight_with (reads.keeps.capacity i) (takable_in (reads.keeps.map i)) (volume_of (reads.looks.content tells i)) (tree_of (reads.looks.content tells i)) asked) ∙ is),
 )
 
-pub within : (asked : Command) (v w : Volume) (a b c : Space) → ReadsVolume v w a b → IsTrue a.tells → only_reads asked ≡ false → data_of (tree_of a.content) asked ≡ None → Affords (capacity_of v) asked a.content
+pub within : (asked : Command) (v w : Volume) (a b c : Space) → ReadsVolume v w a b → IsTrue a.tells → only_reads asked ≡ false → data_of (tree_of a.content) asked ≡ None → takes_none (values_of (volume_of a.content) (tree_of a.content) asked) ≡ true → Affords (capacity_of v) asked a.content
     → ((n : ℕ) (grow : List ℕ) → weight (capacity_of w) (volume_of b.content) (tree_of b.content) asked ≡ cost.Load n grow → b.spare ≤ c.spare + n) → IsWithinLoad asked v a c
-within asked v w a b c reads tells unread no_data affords loads = within_now asked v a c unread no_data affords (λ n grow is. omega (
+within asked v w a b c reads tells unread no_data none_taken affords loads = within_now asked v a c unread no_data none_taken affords (λ n grow is. omega (
   arith,
   reads.looks.spare,
   loads n grow ((λ i. weight (reads.keeps.capacity i) (volume_of (reads.looks.content tells i)) (tree_of (reads.looks.content tells i)) asked) ∙ is),
@@ -131,7 +132,7 @@ cut_weighs capacity free volume tree asked changes cuts =
     λ i. if cut_works volume tree asked cuts i then cost.Load 0 (0 ∷ 0 ∷ 0 ∷ [])
     else if cuts i then cut_cost (room_with capacity free volume)
     else if lacks_tree volume asked then cost.Refused refusal.NoTree
-    else cost_of (needs_for free volume (edits_of tree asked) (data_of tree asked)) (room_with capacity free volume)
+    else cost_of (with_values free (values_of volume tree asked) (needs_for free volume (edits_of tree asked) (data_of tree asked))) (room_with capacity free volume)
 
 -- it puts no more than the command's load
 pub cut_loads : (asked : Command) (v : Volume) (a b : Space) → only_reads asked ≡ false → WaitsForCut a.content asked → TakesCutLoad (capacity_of v) (volume_of a.content) a.spare b.spare → IsWithinLoad asked v a b

@@ -21,8 +21,8 @@ use Rattle.volume_base.proofs.Framed.{handed}
 use Rattle.volume_base.proofs.FoundEntry.{ok_so}
 use Rattle.volume_base.proofs.Seeing.{cause_since}
 use Rattle.volume_base.proofs.Still.{own_still}
-use Rattle.volume_space.specs.Spilling.{IsLaidOutAs}
-use Rattle.volume_space.specs.Standing.{HoldsOn}
+use Rattle.volume_base.specs.Holding.{IsLaidOutAs}
+use Rattle.volume_base.specs.Holding.{HoldsOn}
 use Rattle.volume_space.specs.Zeroing.{Fills}
 use Rattle.volume_step.specs.Performing.{Performs}
 use Rattle.volume_step.specs.Steps.{OwnOf}

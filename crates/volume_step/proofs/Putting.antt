@@ -1,5 +1,5 @@
 -- `write` of bytes and `trunc` to a larger size: what they answer, and what watchers are told.
-use Rattle.std.proofs.Common.{◌≡◌, ◌≢◌, ◌<◌, ◌≤◌, ℕ, ◌*◌, ◌/◌, inl, Bool, true, false, List, [], ◌∷◌, length, take, refl, sym, ◌∙◌, ap, subst, arith}
+use Rattle.std.proofs.Common.{◌≡◌, ◌≢◌, ◌<◌, ◌≤◌, ℕ, ◌*◌, ◌/◌, inl, Bool, true, false, List, [], ◌∷◌, length, take, refl, sym, ◌∙◌, ap, subst, arith, map}
 use Rattle.std.specs.Prelude.{◌||◌, nat_lt, is_some, not, Option, Some, None, Result, Ok, Err, if◌then◌else◌}
 use Rattle.std.proofs.Math.Nat.{div-le_self}
 use Rattle.std.proofs.lemmas.Bool.{le-ltb, ltb-true, true≢false}
@@ -24,13 +24,14 @@ use Rattle.hx_bytes.specs.declared.extents.ForkRecord.{ForkRecord}
 use Rattle.fork_map.specs.Blocks.{blocks_of}
 use Rattle.hfs_model.specs.Sorted.{kept}
 use Rattle.hfs_volume.specs.Content.{VolumeState, overflow_in_volume, volume_of}
-use Rattle.hfs_volume.specs.Data.{PutsInFork}
+use Rattle.hfs_volume.specs.Data.{PutsInFork, PutsInValues}
 use Rattle.hfs_volume.specs.Forks.{all_forks, attributes_id, blocks_owned, catalog_id, data_kind, extents_id, is_of}
-use Rattle.hfs_volume.specs.Reclaim.{GrowsBy, GrowsTrees, blocks_at}
+use Rattle.hfs_volume.specs.Reclaim.{GrowsBy, GrowsTrees, blocks_at, SameValues}
 use Rattle.hfs_volume.specs.Sound.{IsSound}
 use Rattle.hfs_volume.specs.TreeOf.{tree_of}
 use Rattle.hfs_volume.specs.Weight.{Data, changes_nothing, data_of, grown_data, needs_cut, written_data}
-use Rattle.hfs_volume.specs.Writing.{RewritesFile, with_free}
+use Rattle.hfs_volume.specs.Changes.{with_free}
+use Rattle.hfs_volume.specs.Writing.{RewritesFile}
 use Rattle.hfs_volume.proofs.Reaching.{then_ok, unless_ok}
 use Rattle.volume_runs.specs.Run.{DoesLine, reply_to, shrunk_by}
 use Rattle.volume_runs.specs.Told.{changes_of, of_entry}
@@ -41,6 +42,9 @@ use Rattle.volume_step.specs.declared.outcome.Outcome.TheVariants as outcome
 use Rattle.volume_step.proofs.Done.{line_free, line_ok, or_none, reached_node}
 use Rattle.volume_step.proofs.Idle.{works_unread}
 use Rattle.volume_step.proofs.Served.{Comes, changes_told, reply_step, steps}
+use Rattle.hfs_volume.specs.Records.{attribute_of}
+use Rattle.hfs_volume.specs.Values.{value_blocks}
+use Rattle.btree_node.specs.Levels.{Pair}
 
 -- ---- the lists
 
@@ -102,6 +106,9 @@ module _ (id from count : ℕ) (fresh : List ℕ) (old new : VolumeState) (does 
   journal_is : new.journal ≡ old.journal
   journal_is = ap (λ (v : VolumeState). v.journal) does.dates.changes.rest ∙ ap (λ (v : VolumeState). v.journal) does.puts.puts.rest
 
+  values_stay : SameValues old new
+  values_stay id name = ap (λ (l : List Pair). value_blocks (map attribute_of l) id name) (ap (λ (v : VolumeState). v.attribute_pairs) does.dates.changes.rest ∙ ap (λ (v : VolumeState). v.attribute_pairs) does.puts.puts.rest)
+
   flags_are : new.head.attributes ≡ old.head.attributes
   flags_are = ap (λ (h : VolumeHeader). h.attributes) head_is
 
@@ -109,6 +116,28 @@ module _ (id from count : ℕ) (fresh : List ℕ) (old new : VolumeState) (does 
   numbers_are = subst (λ (h : VolumeHeader). IsSame old.head h) (sym head_is) (same_numbers does.puts.free does.puts.next old.head)
 
 -- ---- a command that put data
+
+-- a command that puts data leaves every value its blocks
+values_put : (tree : PlainTree) (asked : Command) (old new : VolumeState) (put : Data) → data_of tree asked ≡ Some put → SameValues old new → PutsInValues tree asked old new
+values_put tree (command.Mkdir p) old new put is same = absurd (let no : None ≡ Some put = is in cc no)
+values_put tree (command.Create p) old new put is same = absurd (let no : None ≡ Some put = is in cc no)
+values_put tree (command.Rm p) old new put is same = absurd (let no : None ≡ Some put = is in cc no)
+values_put tree (command.Rmdir p) old new put is same = absurd (let no : None ≡ Some put = is in cc no)
+values_put tree (command.Mv p q) old new put is same = absurd (let no : None ≡ Some put = is in cc no)
+values_put tree (command.Ln p q) old new put is same = absurd (let no : None ≡ Some put = is in cc no)
+values_put tree (command.Write p n v) old new put is same = same
+values_put tree (command.Trunc p n) old new put is same = same
+values_put tree (command.Read p n m) old new put is same = absurd (let no : None ≡ Some put = is in cc no)
+values_put tree (command.Ls p) old new put is same = absurd (let no : None ≡ Some put = is in cc no)
+values_put tree (command.Stat p) old new put is same = absurd (let no : None ≡ Some put = is in cc no)
+values_put tree (command.Chmod p m) old new put is same = absurd (let no : None ≡ Some put = is in cc no)
+values_put tree (command.SetAttr p n v) old new put is same = absurd (let no : None ≡ Some put = is in cc no)
+values_put tree (command.GetAttr p n) old new put is same = absurd (let no : None ≡ Some put = is in cc no)
+values_put tree (command.DelAttr p n) old new put is same = absurd (let no : None ≡ Some put = is in cc no)
+values_put tree (command.LsAttr p) old new put is same = absurd (let no : None ≡ Some put = is in cc no)
+values_put tree (command.At n) old new put is same = absurd (let no : None ≡ Some put = is in cc no)
+values_put tree command.Df old new put is same = absurd (let no : None ≡ Some put = is in cc no)
+values_put tree command.Sync old new put is same = absurd (let no : None ≡ Some put = is in cc no)
 
 module _ (capacity number : ℕ) (asked : Command) (before after : Content) (sound_before : IsSound before) (sound_after : IsSound after) (affords : Affords capacity asked before) (said : Reply) (works : (only_reads asked || changes_nothing (tree_of before) asked) ≡ false)
     (reply_is : said ≡ (step_line (tree_of before) (Ok asked)).0) (tree : tree_of after ≡ (step_line (tree_of before) (Ok asked)).1) (lists : said ≡ reply.Ok → HasData asked before after)
@@ -134,6 +163,7 @@ module _ (capacity number : ℕ) (asked : Command) (before after : Content) (sou
                   no_surplus = ap (needs_cut (volume_of before)) it.is_asked ∙ it.no_cut;
                   grows = trees_stay it.put.id _ _ it.fresh (volume_of before) (volume_of after) it.rewrites it.user;
                   forks = subst (λ d. PutsInFork d (volume_of before) (volume_of after)) (sym it.is_asked) it.forks;
+                  values = values_put (tree_of before) asked (volume_of before) (volume_of after) it.put it.is_asked (values_stay it.put.id _ _ it.fresh (volume_of before) (volume_of after) it.rewrites it.user);
                   reads = λ rests. absurd (true≢false (sym rests ∙ works));
                 },
               );

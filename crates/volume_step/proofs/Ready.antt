@@ -1,7 +1,7 @@
 -- A command that fits now wants no commit.
-use Rattle.std.proofs.Common.{◌≡◌, ◌≢◌, inr, ◌<◌, ◌≤◌, ℕ, ◌+◌, ◌*◌, ◌/◌, min, Bool, true, false, List, [], ◌∷◌, length, refl, sym, ◌∙◌, ap, subst, arith}
+use Rattle.std.proofs.Common.{◌≡◌, ◌≢◌, ◌⊎◌, inl, inr, ◌<◌, ◌≤◌, ℕ, ◌+◌, ◌*◌, ◌/◌, min, Bool, true, false, List, [], ◌∷◌, length, refl, sym, ◌∙◌, ap, subst, arith}
 use Rattle.std.specs.Prelude.{◌==◌, ◌&&◌, ◌^◌, ◌||◌, nat_le, nat_lt, not, slice_index, is_some, IfOk, IsTrue, Option, None, Some, Result, Ok, Err, if◌then◌else◌}
-use Rattle.std.proofs.lemmas.Bool.{and_parts, eq-eqb, le-ltb, leb-true, true≢false}
+use Rattle.std.proofs.lemmas.Bool.{and_parts, eq-eqb, eqb-true, le-ltb, leb-true, true≢false}
 use Rattle.hx_bytes.specs.declared.faults.Trouble.{Trouble}
 use Rattle.jnl_format.specs.Recovery.{Content}
 use Rattle.sector_disk.specs.Space.{Space}
@@ -25,14 +25,15 @@ use Rattle.hfs_model.specs.Step.{is_refusal, most_bytes, most_size, on, only_rea
 use Rattle.hfs_model.specs.declared.plain.PlainNode.{PlainNode}
 use Rattle.hfs_model.specs.declared.plain.PlainTree.{PlainTree}
 use Rattle.hfs_volume.specs.Content.{VolumeState, has_attributes, volume_of}
-use Rattle.hfs_volume.specs.Cost.{cost_of, cost_or, load_of, node_sectors, plan_of, resource_refusal, tree_at}
+use Rattle.hfs_volume.specs.Cost.{catalog_key, cost_of, cost_or, extents_key, growth, load_of, node_sectors, overflow_records, plan_of, resource_refusal, takes_extent, tree_at}
 use Rattle.hfs_volume.specs.Reclaim.{first_growth}
 use Rattle.hfs_volume.specs.TreeOf.{tree_of}
-use Rattle.hfs_volume.specs.Weight.{Data, changes_nothing, cut_cost, data_of, edits_of, free_blocks, lacks_tree, needs_cut, needs_for, room_with, weight, weight_with, written_data}
+use Rattle.hfs_volume.specs.Weight.{Data, changes_nothing, cut_cost, data_of, edits_of, free_blocks, lacks_tree, needs_cut, needs_for, room_with, runs_for, values_of, weight, weight_with, with_values, written_data}
 use Rattle.hfs_volume.specs.declared.cost.Cost.{Cost}
 use Rattle.hfs_volume.specs.declared.cost.Cost.TheVariants as cost
 use Rattle.hfs_volume.specs.declared.cost.Needs.{Needs}
 use Rattle.hfs_volume.specs.declared.cost.Room.{Room}
+use Rattle.hfs_volume.specs.declared.cost.ValueChange.{ValueChange}
 use Rattle.volume_base.specs.Fitting.{is_met, needs_of, takable_in, takable_of}
 use Rattle.volume_base.specs.Looking.{ReadsVolume}
 use Rattle.volume_base.specs.Room.{capacity_of}
@@ -47,7 +48,7 @@ use Rattle.volume_space.specs.declared.ahead.Growth.{Growth}
 use Rattle.volume_space.specs.declared.ahead.Growth.TheVariants as growing
 use Rattle.volume_space.specs.declared.ahead.WhichTree.{WhichTree}
 use Rattle.volume_space.specs.declared.ahead.WhichTree.TheVariants as which
-use Rattle.volume_step.specs.Steps.{Affords, FitsNow, IsDoneOk, IsMet, IsTaken, grown, verdict_of}
+use Rattle.volume_step.specs.Steps.{Affords, FitsNow, IsDoneOk, IsMet, IsTaken, grown, takes_none, verdict_of}
 use Rattle.volume_step.specs.declared.judging.Verdict.TheVariants as verdict
 use Rattle.volume_step.specs.declared.outcome.Outcome.{Outcome}
 use Rattle.volume_step.specs.declared.outcome.Outcome.TheVariants as outcome
@@ -114,6 +115,37 @@ met_low needs room spare met = by (cost_of needs room) refl met
     by (cost.Refused why) is same = absurd (true≢false (sym same))
     by (cost.Load n grow) is same = let low = load_low needs room n grow is in let here = fits grow n same in omega (arith, low, here)
 
+-- what a command needs that puts no data, where the blocks that are free are these
+abbrev pub needs_now : List Bool → VolumeState → PlainTree → Command → Needs
+needs_now free volume tree asked = with_values free (values_of volume tree asked) (needs_of (edits_of tree asked))
+
+-- values add to the edits of the attributes file alone
+pub values_updates : (free : List Bool) (change : Option ValueChange) (needs : Needs) → (with_values free change needs).updates ≡ needs.updates
+values_updates free None needs = refl
+values_updates free (Some change) needs = refl
+
+values_extents : (free : List Bool) (change : Option ValueChange) (needs : Needs) → slice_index (with_values free change needs).edits 0 ≡ slice_index needs.edits 0
+values_extents free None needs = refl
+values_extents free (Some change) needs = refl
+
+values_catalog : (free : List Bool) (change : Option ValueChange) (needs : Needs) → slice_index (with_values free change needs).edits 1 ≡ slice_index needs.edits 1
+values_catalog free None needs = refl
+values_catalog free (Some change) needs = refl
+
+-- where no value takes blocks it is the same, whichever are free
+pub same_values : (one other : List Bool) (change : Option ValueChange) (needs : Needs) → takes_none change ≡ true → with_values one change needs ≡ with_values other change needs
+same_values one other None needs none = refl
+same_values one other (Some change) needs none =
+    λ i. record needs {
+      edits = slice_index needs.edits 0 ∷ slice_index needs.edits 1 ∷ (slice_index needs.edits 2 + change.records + overflow_records (runs i)) ∷ [];
+      new_blocks = change.blocks;
+      old_blocks = change.freed;
+      runs = runs i;
+    }
+  where
+    runs : runs_for change.blocks one ≡ runs_for change.blocks other
+    runs = let nothing = eqb-true change.blocks 0 none in ap (λ n. runs_for n one) nothing ∙ sym (ap (λ n. runs_for n other) nothing)
+
 -- a moment wants a sector
 pub moment_fits : (moment : ℕ) (v : Volume) (a : Space) → IsMet (command.At moment) v a → 1 ≤ a.spare
 moment_fits moment v a met = let it = met_low (needs_of (edits_of (tree_of a.content) (command.At moment))) (room_with (capacity_of v) (takable_of v) (volume_of a.content)) a.spare met in omega (arith, it)
@@ -125,9 +157,9 @@ catalog_node capacity free v content settled = ap (λ (l : VolumeState). l.catal
 
 pub update_fits : (asked : Command) (v w : Volume) (a b : Space) → ReadsVolume v w a b → IsTrue a.tells → IsSettled w b.content → (edits_of (tree_of a.content) asked).updates ≡ 1 → IsMet asked v a → w.catalog.file.shape.node_size / 512 ≤ b.spare
 update_fits asked v w a b reads tells settled one met =
-    let low = met_low (needs_of (edits_of (tree_of a.content) asked)) (room_with (capacity_of v) (takable_of v) (volume_of a.content)) a.spare met in
+    let low = met_low (needs_now (takable_of v) (volume_of a.content) (tree_of a.content) asked) (room_with (capacity_of v) (takable_of v) (volume_of a.content)) a.spare met in
     let node = catalog_node (capacity_of v) (takable_of v) w a.content (subst (λ (c : Content). IsSettled w c) (reads.looks.content tells) settled) in
-    let updates = ap (λ n. n * node_sectors (tree_at (room_with (capacity_of v) (takable_of v) (volume_of a.content)) 1)) one in
+    let updates = ap (λ n. n * node_sectors (tree_at (room_with (capacity_of v) (takable_of v) (volume_of a.content)) 1)) (values_updates (takable_of v) (values_of (volume_of a.content) (tree_of a.content) asked) (needs_of (edits_of (tree_of a.content) asked)) ∙ one) in
     omega (arith, low, node, updates, reads.looks.spare)
 
 -- ---- what a command that puts no data weighs
@@ -136,14 +168,14 @@ module _ (capacity : ℕ) (free : List Bool) (volume : VolumeState) (tree : Plai
   abbrev room : Room
   room = room_with capacity free volume
 
-  edits_weigh : weight_with capacity free volume tree asked ≡ (if lacks_tree volume asked then cost.Refused refusal.NoTree else cost_of (needs_of (edits_of tree asked)) room)
+  edits_weigh : weight_with capacity free volume tree asked ≡ (if lacks_tree volume asked then cost.Refused refusal.NoTree else cost_of (needs_now free volume tree asked) room)
   unfolding weight_with
-  edits_weigh = λ i. if works i then cost.Load 0 (0 ∷ 0 ∷ 0 ∷ []) else (if needs_cut volume (no_data i) then cut_cost room else if lacks_tree volume asked then cost.Refused refusal.NoTree else cost_of (needs_for free volume (edits_of tree asked) (no_data i)) room)
+  edits_weigh = λ i. if works i then cost.Load 0 (0 ∷ 0 ∷ 0 ∷ []) else (if needs_cut volume (no_data i) then cut_cost room else if lacks_tree volume asked then cost.Refused refusal.NoTree else cost_of (with_values free (values_of volume tree asked) (needs_for free volume (edits_of tree asked) (no_data i))) room)
 
-  pub edits_load : (n : ℕ) (grow : List ℕ) → weight_with capacity free volume tree asked ≡ cost.Load n grow → cost_of (needs_of (edits_of tree asked)) room ≡ cost.Load n grow
+  pub edits_load : (n : ℕ) (grow : List ℕ) → weight_with capacity free volume tree asked ≡ cost.Load n grow → cost_of (needs_now free volume tree asked) room ≡ cost.Load n grow
   edits_load n grow is = by (lacks_tree volume asked) (sym edits_weigh ∙ is)
     where
-      by : (b : Bool) → (if b then cost.Refused refusal.NoTree else cost_of (needs_of (edits_of tree asked)) room) ≡ cost.Load n grow → cost_of (needs_of (edits_of tree asked)) room ≡ cost.Load n grow
+      by : (b : Bool) → (if b then cost.Refused refusal.NoTree else cost_of (needs_now free volume tree asked) room) ≡ cost.Load n grow → cost_of (needs_now free volume tree asked) room ≡ cost.Load n grow
       by true same = absurd (cc same)
       by false same = same
 
@@ -151,14 +183,14 @@ module _ (capacity : ℕ) (free : List Bool) (volume : VolumeState) (tree : Plai
   pub not_lacking : (n : ℕ) (grow : List ℕ) → weight_with capacity free volume tree asked ≡ cost.Load n grow → lacks_tree volume asked ≡ false
   not_lacking n grow is = by (lacks_tree volume asked) refl (sym edits_weigh ∙ is)
     where
-      by : (b : Bool) → lacks_tree volume asked ≡ b → (if b then cost.Refused refusal.NoTree else cost_of (needs_of (edits_of tree asked)) room) ≡ cost.Load n grow → lacks_tree volume asked ≡ false
+      by : (b : Bool) → lacks_tree volume asked ≡ b → (if b then cost.Refused refusal.NoTree else cost_of (needs_now free volume tree asked) room) ≡ cost.Load n grow → lacks_tree volume asked ≡ false
       by true lacks same = absurd (cc same)
       by false has same = has
 
 -- where no tree grows its edits are met
 pub met_now : (asked : Command) (v : Volume) (a : Space) → (only_reads asked || changes_nothing (tree_of a.content) asked) ≡ false → (now : FitsNow asked v a) → now.grow ≡ 0 ∷ 0 ∷ 0 ∷ [] → IsMet asked v a
 met_now asked v a works now none_grow =
-    met_load (cost_of (needs_of (edits_of (tree_of a.content) asked)) (room_with (capacity_of v) (takable_of v) (volume_of a.content))) now.load a.spare
+    met_load (cost_of (needs_now (takable_of v) (volume_of a.content) (tree_of a.content) asked) (room_with (capacity_of v) (takable_of v) (volume_of a.content))) now.load a.spare
     (edits_load (capacity_of v) (takable_of v) (volume_of a.content) (tree_of a.content) asked works now.no_data now.load now.grow now.costs ∙ ap (cost.Load now.load) none_grow) now.within
 
 -- so a command is done that fits now, or changes nothing
@@ -177,11 +209,74 @@ pub plan_same : (needs : Needs) (capacity : ℕ) (one other : List Bool) (volume
 unfolding room_with
 plan_same needs capacity one other volume = refl
 
+-- and the catalog does, whichever do
+catalog_same : (capacity : ℕ) (one other : List Bool) (volume : VolumeState) (tree : PlainTree) (asked : Command)
+    → slice_index (plan_of (needs_now one volume tree asked) (room_with capacity one volume)).grow 1 ≡ slice_index (plan_of (needs_now other volume tree asked) (room_with capacity other volume)).grow 1
+unfolding room_with
+catalog_same capacity one other volume tree asked =
+    ap (λ n. growth (room_with capacity one volume).block catalog_key (tree_at (room_with capacity one volume) 1) n)
+    (values_catalog one (values_of volume tree asked) (needs_of (edits_of tree asked)) ∙ sym (values_catalog other (values_of volume tree asked) (needs_of (edits_of tree asked))))
+
+-- the extents overflow file does where the attributes file does
+extents_same : (capacity : ℕ) (one other : List Bool) (volume : VolumeState) (tree : PlainTree) (asked : Command)
+    → slice_index (plan_of (needs_now one volume tree asked) (room_with capacity one volume)).grow 2 ≡ slice_index (plan_of (needs_now other volume tree asked) (room_with capacity other volume)).grow 2
+    → slice_index (plan_of (needs_now one volume tree asked) (room_with capacity one volume)).grow 0 ≡ slice_index (plan_of (needs_now other volume tree asked) (room_with capacity other volume)).grow 0
+unfolding room_with
+extents_same capacity one other volume tree asked third =
+    λ i. growth (room_with capacity one volume).block extents_key (tree_at (room_with capacity one volume) 0)
+    (edits i + takes_extent (tree_at (room_with capacity one volume) 1) (catalog_same capacity one other volume tree asked i) + takes_extent (tree_at (room_with capacity one volume) 2) (third i))
+  where
+    edits : slice_index (needs_now one volume tree asked).edits 0 ≡ slice_index (needs_now other volume tree asked).edits 0
+    edits = values_extents one (values_of volume tree asked) (needs_of (edits_of tree asked)) ∙ sym (values_extents other (values_of volume tree asked) (needs_of (edits_of tree asked)))
+
+module _ (capacity : ℕ) (one other : List Bool) (volume : VolumeState) (tree : PlainTree) (asked : Command) (works : (only_reads asked || changes_nothing tree asked) ≡ false) (no_data : data_of tree asked ≡ None) (n m : ℕ) (grow more : List ℕ)
+    (is : weight_with capacity one volume tree asked ≡ cost.Load n grow) (also : weight_with capacity other volume tree asked ≡ cost.Load m more)
+  where
+    one_costs : cost_of (needs_now one volume tree asked) (room_with capacity one volume) ≡ cost.Load n grow
+    one_costs = edits_load capacity one volume tree asked works no_data n grow is
+
+    other_costs : cost_of (needs_now other volume tree asked) (room_with capacity other volume) ≡ cost.Load m more
+    other_costs = edits_load capacity other volume tree asked works no_data m more also
+
+    -- where the attributes file does each does
+    pub grows_same : slice_index grow 2 ≡ slice_index more 2 → grow ≡ more
+    grows_same third =
+        three_of (needs_now one volume tree asked) (room_with capacity one volume) n grow one_costs
+        ∙ (λ i. first i ∷ second i ∷ third i ∷ [])
+        ∙ sym (three_of (needs_now other volume tree asked) (room_with capacity other volume) m more other_costs)
+      where
+        one_plan : grow ≡ (plan_of (needs_now one volume tree asked) (room_with capacity one volume)).grow
+        one_plan = (of_cost (needs_now one volume tree asked) (room_with capacity one volume) n grow one_costs).1
+
+        other_plan : more ≡ (plan_of (needs_now other volume tree asked) (room_with capacity other volume)).grow
+        other_plan = (of_cost (needs_now other volume tree asked) (room_with capacity other volume) m more other_costs).1
+
+        first : slice_index grow 0 ≡ slice_index more 0
+        first =
+            ap (λ l. slice_index l 0) one_plan
+            ∙ extents_same capacity one other volume tree asked (sym (ap (λ l. slice_index l 2) one_plan) ∙ third ∙ ap (λ l. slice_index l 2) other_plan)
+            ∙ sym (ap (λ l. slice_index l 0) other_plan)
+
+        second : slice_index grow 1 ≡ slice_index more 1
+        second =
+            ap (λ l. slice_index l 1) one_plan
+            ∙ catalog_same capacity one other volume tree asked
+            ∙ sym (ap (λ l. slice_index l 1) other_plan)
+
+    -- and where no value takes blocks
+    pub grows_none_taken : takes_none (values_of volume tree asked) ≡ true → grow ≡ more
+    grows_none_taken none_taken =
+        (of_cost (needs_now one volume tree asked) (room_with capacity one volume) n grow one_costs).1
+        ∙ ap (λ (k : Needs). (plan_of k (room_with capacity one volume)).grow) (same_values one other (values_of volume tree asked) (needs_of (edits_of tree asked)) none_taken)
+        ∙ plan_same (needs_now other volume tree asked) capacity one other volume
+        ∙ sym (of_cost (needs_now other volume tree asked) (room_with capacity other volume) m more other_costs).1
+
 module _ (capacity : ℕ) (takable : List Bool) (content : Content) (asked : Command) (spare : ℕ) (unread : only_reads asked ≡ false) (no_data : data_of (tree_of content) asked ≡ None) (n : ℕ) (grow : List ℕ)
     (costs : weight_with capacity takable (volume_of content) (tree_of content) asked ≡ cost.Load n grow) (within : n ≤ spare)
+    (alike : (takes_none (values_of (volume_of content) (tree_of content) asked) ≡ true) ⊎ ((m : ℕ) (other : List ℕ) → weight capacity (volume_of content) (tree_of content) asked ≡ cost.Load m other → slice_index other 2 ≡ slice_index grow 2))
   where
     abbrev needs : Needs
-    needs = needs_of (edits_of (tree_of content) asked)
+    needs = needs_now takable (volume_of content) (tree_of content) asked
 
     abbrev idle : Bool
     idle = only_reads asked || changes_nothing (tree_of content) asked
@@ -216,15 +311,16 @@ module _ (capacity : ℕ) (takable : List Bool) (content : Content) (asked : Com
       where
         by : (b : Bool) → idle ≡ b → other ≡ grow
         by true rests = (idle_load capacity (free_blocks (volume_of content)) (volume_of content) (tree_of content) asked rests m other is).1 ∙ sym (idle_load capacity takable (volume_of content) (tree_of content) asked rests n grow costs).1
-        by false works =
-            (of_cost needs (room_with capacity (free_blocks (volume_of content)) (volume_of content)) m other (edits_load capacity (free_blocks (volume_of content)) (volume_of content) (tree_of content) asked works no_data m other is)).1
-            ∙ plan_same needs capacity (free_blocks (volume_of content)) takable (volume_of content) ∙ sym (of_cost needs (room_with capacity takable (volume_of content)) n grow (taken_costs works)).1
+        by false works = elim alike [
+          | inl none_taken ↦ grows_none_taken capacity (free_blocks (volume_of content)) takable (volume_of content) (tree_of content) asked works no_data m n other grow is costs none_taken
+          | inr same ↦ grows_same capacity (free_blocks (volume_of content)) takable (volume_of content) (tree_of content) asked works no_data m n other grow is costs (same m other is)
+        ]
 
     of_costs : (one : Cost) → weight capacity (volume_of content) (tree_of content) asked ≡ one → IsTaken (verdict_of (joined one (cost.Load n grow)) spare) grow
     of_costs (cost.Refused why) is = tt
     of_costs (cost.Load m other) is =
         subst (λ (l : List ℕ). IsTaken (verdict_of (joined (cost.Load m l) (cost.Load n grow)) spare) grow) (sym (same_grow m other is))
-        (subst (λ b. IsTaken (verdict_of (if b then answer.Load n grow else answer.CommitFirst) spare) grow) (sym (eq-eqb (slice_index grow 0) (slice_index grow 0) refl)) by_grow)
+        (subst (λ b. IsTaken (verdict_of (if b then answer.Load n grow else answer.CommitFirst) spare) grow) (sym (λ i. eq-eqb (slice_index grow 0) (slice_index grow 0) refl i && eq-eqb (slice_index grow 2) (slice_index grow 2) refl i)) by_grow)
 
     of_reply : (said : Reply) (weighs : Weight) → IsTaken (verdict_of weighs spare) grow → IsTaken (verdict_of (refused_or said weighs) spare) grow
     of_reply (reply.No why) weighs takes = tt
@@ -299,7 +395,7 @@ pub wants_now : (asked : Command) (v w : Volume) (a b : Space) → ReadsVolume v
 wants_now asked v w a b reads tells unread now tree more some first there =
     let still = now_still asked v w a b reads tells now in
     record {
-      needs = needs_of (edits_of (tree_of b.content) asked);
+      needs = needs_now (takable_of w) (volume_of b.content) (tree_of b.content) asked;
       capacity = capacity_of w;
       load = still.0.load;
       grow = still.0.grow;

@@ -17,7 +17,7 @@ use Rattle.hfs_model.specs.declared.plain.PlainTree.{PlainTree}
 use Rattle.hfs_volume.specs.Content.{VolumeState, volume_of}
 use Rattle.hfs_volume.specs.Cost.{attributes_key, catalog_key, cost_of, tree_at}
 use Rattle.hfs_volume.specs.TreeOf.{tree_of}
-use Rattle.hfs_volume.specs.Weight.{Data, cut_cost, data_of, edits, edits_of, free_blocks, lacks_tree, needs_cut, needs_for, room_with, weight, weight_with, most_zeros, zero_blocks}
+use Rattle.hfs_volume.specs.Weight.{Data, cut_cost, data_of, edits, edits_of, free_blocks, lacks_tree, needs_cut, needs_for, room_with, weight, weight_with, most_zeros, zero_blocks, with_values}
 use Rattle.hfs_volume.specs.declared.cost.Cost.{Cost}
 use Rattle.hfs_volume.specs.declared.cost.Cost.TheVariants as cost
 use Rattle.volume_base.specs.DataWeighing.{needs_data}
@@ -35,7 +35,7 @@ use Rattle.volume_step.specs.declared.judging.Verdict.TheVariants as verdict
 use Rattle.volume_step.specs.declared.outcome.Outcome.{Outcome}
 use Rattle.volume_step.specs.declared.outcome.Outcome.TheVariants as outcome
 use Rattle.volume_space.proofs.FewerEdits.{none_lacks}
-use Rattle.volume_step.proofs.Idle.{data_edits}
+use Rattle.volume_step.proofs.Idle.{data_edits, data_values}
 use Rattle.volume_step.proofs.Judged.{three_of}
 use Rattle.volume_step.proofs.Ready.{catalog_node, load_low, of_cost}
 
@@ -106,7 +106,8 @@ pub data_weight : (capacity : ℕ) (free : List Bool) (volume : VolumeState) (tr
 unfolding weight_with
 data_weight capacity free volume tree asked put is uncut =
     let it = data_edits tree asked put is in
-    (λ i. if it.1 i then cost.Load 0 (0 ∷ 0 ∷ 0 ∷ []) else (if needs_cut volume (is i) then cut_cost (room_with capacity free volume) else if it.2 volume i then cost.Refused refusal.NoTree else cost_of (needs_for free volume (it.0 i) (is i)) (room_with capacity free volume)))
+    let none_valued = data_values volume tree asked put is in
+    (λ i. if it.1 i then cost.Load 0 (0 ∷ 0 ∷ 0 ∷ []) else (if needs_cut volume (is i) then cut_cost (room_with capacity free volume) else if it.2 volume i then cost.Refused refusal.NoTree else cost_of (with_values free (none_valued i) (needs_for free volume (it.0 i) (is i))) (room_with capacity free volume)))
     ∙ ap (λ b. if b then cut_cost (room_with capacity free volume) else cost_of (needs_data free volume put) (room_with capacity free volume)) uncut
 
 -- ahead of data no other tree grows than the extents overflow file

@@ -28,7 +28,7 @@ use Rattle.volume_step.specs.Steps.{KeepsJournal}
 use Rattle.volume_step.specs.Tidying.{ReclaimsAs}
 use Rattle.volume_step.proofs.Done.{same_place}
 use Rattle.volume_step.proofs.Forks.{found_more}
-use Rattle.volume_step.proofs.Kept.{Keeps, attributes_keep, catalog_keeps, cut_grows_none, fields_keep, grows_none, keeps_both}
+use Rattle.volume_step.proofs.Kept.{Keeps, KeepsForks, catalog_keeps, cut_grows_none, fields_keep, grows_none, keeps_both, values_keep}
 use Rattle.volume_step.proofs.Served.{journal_kept}
 
 -- ---- what stays
@@ -39,13 +39,16 @@ less_blocks old id kind = refl
 
 less_head : (old : VolumeState) → Keeps old (one_file_less old)
 less_head old = record {
-  blocks = λ id kind. less_blocks old id kind;
-  extents = refl;
-  catalog = refl;
-  attributes = refl;
-  journal = refl;
-  flags = refl;
-  same = record { signature = refl; version = refl; last_mounted = refl; info_block = refl; block_size = refl; total_blocks = refl; bit_12 = refl; bit_13 = refl; bit_15 = refl };
+  forks = record {
+    blocks = λ id kind. less_blocks old id kind;
+    extents = refl;
+    catalog = refl;
+    attributes = refl;
+    journal = refl;
+    flags = refl;
+    same = record { signature = refl; version = refl; last_mounted = refl; info_block = refl; block_size = refl; total_blocks = refl; bit_12 = refl; bit_13 = refl; bit_15 = refl };
+  };
+  pairs = refl;
 }
 
 module _ (id : ℕ) (old new : VolumeState) (sound : IsSoundVolume old) (shaped : IsShaped old) (does : DropsOrphanEntry id old new) where
@@ -105,8 +108,8 @@ module _ (halves : (volume : VolumeState) → SoundIsBoth volume) (capacity : �
   dropped_keeps : HasDropped capacity shrunk before after → Keeps (volume_of before) (volume_of after)
   dropped_keeps was = drop_keeps was.waiting.id (volume_of before) (volume_of after) sound ((halves (volume_of before)).0 sound).0 was.waiting.drops
 
-  bared_keeps : HasBared capacity shrunk before after → Keeps (volume_of before) (volume_of after)
-  bared_keeps was = attributes_keep (DropsAttribute was.waiting.id was.waiting.name) (volume_of before) (volume_of after) was.waiting.bares
+  bared_keeps : HasBared capacity shrunk before after → KeepsForks (volume_of before) (volume_of after)
+  bared_keeps was = values_keep (DropsAttribute was.waiting.id was.waiting.name) [] _ (volume_of before) (volume_of after) was.waiting.bares
 
   dropped : HasDropped capacity shrunk before after → Reclaims capacity shrunk before after
   dropped was = record {
@@ -115,7 +118,7 @@ module _ (halves : (volume : VolumeState) → SoundIsBoth volume) (capacity : �
     load = was.affords.load;
     grow = 0 ∷ 0 ∷ 0 ∷ [];
     affords = was.affords.affords;
-    grows = grows_none (volume_of before) (volume_of after) (dropped_keeps was);
+    grows = grows_none (volume_of before) (volume_of after) (dropped_keeps was).forks;
     does = was.waiting.does;
     keeps = record { sound = sound_after; tree = was.waiting.tree };
   }
@@ -150,7 +153,7 @@ module _ (halves : (volume : VolumeState) → SoundIsBoth volume) (capacity : �
   reclaimed (inr (inr was)) = cut was
 
   placed : HasDropped capacity shrunk before after ⊎ (HasBared capacity shrunk before after ⊎ HasCut capacity shrunk before after) → KeepsJournal before after
-  placed (inl was) = journal_kept before after (dropped_keeps was)
+  placed (inl was) = journal_kept before after (dropped_keeps was).forks
   placed (inr (inl was)) = journal_kept before after (bared_keeps was)
   placed (inr (inr was)) = cut_place before after was.cuts.keeps
 

@@ -12,25 +12,25 @@ use Rattle.hfs_language.specs.declared.refusal.Refusal.TheVariants as refusal
 use Rattle.hfs_language.specs.declared.reply.Change.{Change}
 use Rattle.hfs_language.specs.declared.reply.Reply.{Reply}
 use Rattle.hfs_language.specs.declared.reply.Reply.TheVariants as reply
-use Rattle.hfs_model.specs.Step.{Place, Step, facts_of, is_private, is_refusal, linked, listed, listed_attribute, made, marked, moved_over, on, only_reads, refuses, removed, removed_folder, resized, step, step_line, to_attribute, to_folder, to_link, to_make, to_mv, to_node, to_read, to_rm, to_rmdir, to_set, to_trunc, to_write, written}
+use Rattle.hfs_model.specs.Step.{Place, Step, facts_of, is_private, is_refusal, linked, listed, listed_attribute, made, marked, moved_over, on, only_reads, refuses, removed, removed_folder, resized, step, step_line, to_attribute, to_folder, to_link, to_make, to_mv, to_node, to_read, to_rm, to_rmdir, to_set, to_trunc, to_value, to_write, written}
 use Rattle.hfs_model.specs.Plain.{entries_in, with_attribute, with_changed, without_attribute}
 use Rattle.hfs_model.specs.declared.plain.PlainAttribute.{PlainAttribute}
 use Rattle.hfs_model.specs.declared.plain.PlainEntry.{PlainEntry}
 use Rattle.hfs_model.specs.declared.plain.PlainNode.{PlainNode}
 use Rattle.hfs_model.specs.declared.plain.PlainTree.{PlainTree}
-use Rattle.hfs_volume.specs.Content.{volume_of}
+use Rattle.hfs_volume.specs.Content.{VolumeState, volume_of}
 use Rattle.hfs_volume.specs.Cost.{cost_of}
-use Rattle.hfs_volume.specs.Data.{PutsInFork}
+use Rattle.hfs_volume.specs.Data.{PutsInFork, PutsInValues}
 use Rattle.volume_runs.specs.Run.{DoesLine, Entry, IsAnswered, IsDone, LacksResource, is_ok, reply_to}
 use Rattle.hfs_volume.specs.Sound.{IsSound}
 use Rattle.volume_runs.specs.Told.{changes_of}
 use Rattle.hfs_volume.specs.TreeOf.{tree_of}
-use Rattle.hfs_volume.specs.Weight.{changes_nothing, cut_cost, data_of, edits_of, free_blocks, lacks_tree, needs_cut, needs_for, room_with, weight, weight_with}
+use Rattle.hfs_volume.specs.Weight.{changes_nothing, cut_cost, data_of, edits_of, free_blocks, lacks_tree, needs_cut, needs_for, room_with, values_of, weight, weight_with, with_values}
 use Rattle.hfs_volume.specs.declared.cost.Cost.TheVariants as cost
 use Rattle.volume_step.specs.Steps.{Affords, IsJudged, KeepsJournal, StepsTo}
 use Rattle.volume_step.specs.declared.judging.Verdict.TheVariants as verdict
 use Rattle.volume_step.specs.declared.outcome.Outcome.TheVariants as outcome
-use Rattle.volume_step.proofs.Kept.{Keeps, grows_none, keeps_none}
+use Rattle.volume_step.proofs.Kept.{KeepsForks, grows_none, keeps_none}
 
 -- ---- steps
 
@@ -107,7 +107,7 @@ reads_kept : (tree : PlainTree) (asked : Command) → only_reads asked ≡ true 
 reads_kept tree (command.Read path from long) is = read_is tree (λ (file : PlainNode). reply.Content (take long (drop from file.bytes))) (to_read tree path long)
 reads_kept tree (command.Ls path) is = read_is tree (λ (folder : PlainNode). reply.Listing (map listed (entries_in tree folder.id))) (to_folder tree path)
 reads_kept tree (command.Stat path) is = read_is tree (λ (node : PlainNode). reply.Facts (facts_of tree node)) (to_node tree path)
-reads_kept tree (command.GetAttr path name) is = read_is tree (λ (pair : PlainNode × PlainAttribute). reply.Content pair.1.value) (to_attribute tree path name)
+reads_kept tree (command.GetAttr path name) is = read_is tree (λ (pair : PlainNode × PlainAttribute). reply.Content pair.1.value) (to_value tree path name)
 reads_kept tree (command.LsAttr path) is = read_is tree (λ (node : PlainNode). reply.Listing (map listed_attribute node.attributes)) (to_node tree path)
 reads_kept tree command.Df is = refl
 reads_kept tree command.Sync is = refl
@@ -207,12 +207,34 @@ module _ (capacity number : ℕ) (asked : Command) (said : Reply) (before after 
       changes_asked (Ok it) = changes_of number (tree_of before) it
       changes_asked (Err why) = []
 
+-- a command that reads leaves every value its blocks
+values_read : (tree : PlainTree) (asked : Command) (volume : VolumeState) → only_reads asked ≡ true → PutsInValues tree asked volume volume
+values_read tree (command.Mkdir p) volume reads = λ id name. refl
+values_read tree (command.Create p) volume reads = λ id name. refl
+values_read tree (command.Rm p) volume reads = λ id name. refl
+values_read tree (command.Rmdir p) volume reads = absurd (true≢false (sym reads))
+values_read tree (command.Mv p q) volume reads = λ id name. refl
+values_read tree (command.Ln p q) volume reads = λ id name. refl
+values_read tree (command.Write p n v) volume reads = λ id name. refl
+values_read tree (command.Trunc p n) volume reads = λ id name. refl
+values_read tree (command.Read p n m) volume reads = λ id name. refl
+values_read tree (command.Ls p) volume reads = λ id name. refl
+values_read tree (command.Stat p) volume reads = λ id name. refl
+values_read tree (command.Chmod p m) volume reads = λ id name. refl
+values_read tree (command.SetAttr p n v) volume reads = absurd (true≢false (sym reads))
+values_read tree (command.GetAttr p n) volume reads = λ id name. refl
+values_read tree (command.DelAttr p n) volume reads = absurd (true≢false (sym reads))
+values_read tree (command.LsAttr p) volume reads = λ id name. refl
+values_read tree (command.At n) volume reads = λ id name. refl
+values_read tree command.Df volume reads = λ id name. refl
+values_read tree command.Sync volume reads = λ id name. refl
+
 -- a command that reads weighs nothing
 weighs_nothing : (capacity : ℕ) (content : Content) (asked : Command) → only_reads asked ≡ true → weight capacity (volume_of content) (tree_of content) asked ≡ cost.Load 0 (0 ∷ 0 ∷ 0 ∷ [])
 unfolding weight_with
 weighs_nothing capacity content asked reads = ap (λ b. if b || changes_nothing (tree_of content) asked then cost.Load 0 (0 ∷ 0 ∷ 0 ∷ []) else (if needs_cut (volume_of content) (data_of (tree_of content) asked) then cut_cost (room_with capacity (free_blocks (volume_of content)) (volume_of content))
     else if lacks_tree (volume_of content) asked then cost.Refused refusal.NoTree
-    else cost_of (needs_for (free_blocks (volume_of content)) (volume_of content) (edits_of (tree_of content) asked) (data_of (tree_of content) asked)) (room_with capacity (free_blocks (volume_of content)) (volume_of content)))) reads
+    else cost_of (with_values (free_blocks (volume_of content)) (values_of (volume_of content) (tree_of content) asked) (needs_for (free_blocks (volume_of content)) (volume_of content) (edits_of (tree_of content) asked) (data_of (tree_of content) asked))) (room_with capacity (free_blocks (volume_of content)) (volume_of content)))) reads
 
 module _ (capacity : ℕ) (asked : Command) (before : Content) (sound : IsSound before) where
   -- a refusal, of the step or for want of a resource
@@ -255,8 +277,9 @@ module _ (capacity : ℕ) (asked : Command) (before : Content) (sound : IsSound 
         load = 0;
         affords = weighs_nothing capacity before asked reads;
         no_surplus = ap (needs_cut (volume_of before)) (no_data (tree_of before) asked reads);
-        grows = grows_none (volume_of before) (volume_of before) (keeps_none (volume_of before));
+        grows = grows_none (volume_of before) (volume_of before) (keeps_none (volume_of before)).forks;
         forks = subst (λ d. PutsInFork d (volume_of before) (volume_of before)) (sym (no_data (tree_of before) asked reads)) (λ id kind other. refl);
+        values = values_read (tree_of before) asked (volume_of before) reads;
         reads = λ _. refl;
       }
 
@@ -269,8 +292,8 @@ module _ (capacity : ℕ) (asked : Command) (before : Content) (sound : IsSound 
 
 -- a command that was done, and puts no data
 pub done_as : (capacity : ℕ) (asked : Command) (said : Reply) (before after : Content) → IsSound before → IsSound after → only_reads asked ≡ false → (IsTrue (only_reads asked || changes_nothing (tree_of before) asked) → after ≡ before) → data_of (tree_of before) asked ≡ None → Affords capacity asked before
-    → said ≡ (step_line (tree_of before) (Ok asked)).0 → tree_of after ≡ (step_line (tree_of before) (Ok asked)).1 → Keeps (volume_of before) (volume_of after) → Comes capacity asked said before after
-done_as capacity asked said before after sound_before sound_after no_read still no_put affords reply_is tree keeps = record {
+    → said ≡ (step_line (tree_of before) (Ok asked)).0 → tree_of after ≡ (step_line (tree_of before) (Ok asked)).1 → KeepsForks (volume_of before) (volume_of after) → PutsInValues (tree_of before) asked (volume_of before) (volume_of after) → Comes capacity asked said before after
+done_as capacity asked said before after sound_before sound_after no_read still no_put affords reply_is tree keeps values = record {
   is = λ line spells. record {
     sound_before = sound_before;
     sound_after = sound_after;
@@ -285,6 +308,7 @@ done_as capacity asked said before after sound_before sound_after no_read still 
           no_surplus = ap (needs_cut (volume_of before)) no_put;
           grows = grows_none (volume_of before) (volume_of after) keeps;
           forks = subst (λ d. PutsInFork d (volume_of before) (volume_of after)) (sym no_put) (λ id kind other. keeps.blocks id kind);
+          values = values;
           reads = still;
         },
       );
@@ -294,6 +318,6 @@ done_as capacity asked said before after sound_before sound_after no_read still 
 
 -- ---- the journal's place
 
-pub journal_kept : (before after : Content) → Keeps (volume_of before) (volume_of after) → KeepsJournal before after
+pub journal_kept : (before after : Content) → KeepsForks (volume_of before) (volume_of after) → KeepsJournal before after
 unfolding volume_of
 journal_kept before after keeps = record { journal = keeps.journal; locked = ap is_locked keeps.flags; heading = keeps.same }

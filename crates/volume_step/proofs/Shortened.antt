@@ -21,13 +21,13 @@ use Rattle.hfs_volume.specs.Sound.{IsSound}
 use Rattle.volume_runs.specs.Told.{of_entry}
 use Rattle.hfs_volume.specs.TreeOf.{tree_of}
 use Rattle.hfs_volume.specs.Weight.{Data, data_of, grown_data, written_data}
-use Rattle.hfs_volume.specs.Writing.{with_free}
+use Rattle.hfs_volume.specs.Changes.{with_free}
 use Rattle.hfs_volume.proofs.Reaching.{then_ok, unless_ok}
 use Rattle.volume_space.specs.Resizing.{IsShortened}
 use Rattle.volume_step.specs.Steps.{Affords, KeepsJournal, StepsTo}
 use Rattle.volume_step.specs.declared.outcome.Outcome.TheVariants as outcome
 use Rattle.volume_step.proofs.Done.{done_steps, line_free, line_ok, or_none, reached_node}
-use Rattle.volume_step.proofs.Kept.{Keeps, keeps_none}
+use Rattle.volume_step.proofs.Kept.{Keeps, keeps_none, values_same}
 use Rattle.volume_step.proofs.Served.{journal_kept}
 
 -- the file of a step that isn't refused
@@ -55,13 +55,16 @@ shortened_keeps path size before after it =
     let dates = it.rewrites.dates.changes in
     let head : (volume_of after).head ≡ with_free puts.free puts.next (volume_of before).head = ap (λ (v : VolumeState). v.head) dates.rest ∙ ap (λ (v : VolumeState). v.head) puts.puts.rest in
     record {
-      blocks = it.blocks;
-      extents = ap (λ (v : VolumeState). v.extents_tree.shape.total) dates.rest ∙ puts.puts.extents_nodes.total;
-      catalog = dates.nodes.total ∙ puts.puts.catalog_nodes.total;
-      attributes = ap (λ (v : VolumeState). v.attributes_tree.shape.total) dates.rest ∙ ap (λ (v : VolumeState). v.attributes_tree.shape.total) puts.puts.rest;
-      journal = ap (λ (v : VolumeState). v.journal) dates.rest ∙ ap (λ (v : VolumeState). v.journal) puts.puts.rest;
-      flags = ap (λ (h : VolumeHeader). h.attributes) head;
-      same = subst (λ (h : VolumeHeader). IsSame (volume_of before).head h) (sym head) (same_numbers puts.free puts.next (volume_of before).head);
+      forks = record {
+        blocks = it.blocks;
+        extents = ap (λ (v : VolumeState). v.extents_tree.shape.total) dates.rest ∙ puts.puts.extents_nodes.total;
+        catalog = dates.nodes.total ∙ puts.puts.catalog_nodes.total;
+        attributes = ap (λ (v : VolumeState). v.attributes_tree.shape.total) dates.rest ∙ ap (λ (v : VolumeState). v.attributes_tree.shape.total) puts.puts.rest;
+        journal = ap (λ (v : VolumeState). v.journal) dates.rest ∙ ap (λ (v : VolumeState). v.journal) puts.puts.rest;
+        flags = ap (λ (h : VolumeHeader). h.attributes) head;
+        same = subst (λ (h : VolumeHeader). IsSame (volume_of before).head h) (sym head) (same_numbers puts.free puts.next (volume_of before).head);
+      };
+      pairs = ap (λ (v : VolumeState). v.attribute_pairs) dates.rest ∙ ap (λ (v : VolumeState). v.attribute_pairs) puts.puts.rest;
     }
 
 -- ---- `trunc`
@@ -80,11 +83,11 @@ module _ (capacity number : ℕ) (path : List (List ℕ)) (size : ℕ) (before a
     trunc_steps changes told =
         let it = lists fine in
         let at = reached_node (tree_of before) path it.file (about (tree_of before) path size it.file it.allowed).1 in
-        done_steps capacity number (command.Trunc path size) before after sound_before sound_after affords said refl (no_data (tree_of before) path size it.file it.allowed it.short) reply_is tree keeps changes
+        done_steps capacity number (command.Trunc path size) before after sound_before sound_after affords said refl (no_data (tree_of before) path size it.file it.allowed it.short) reply_is tree keeps.forks (values_same (volume_of before) (volume_of after) keeps) changes
         (told (or_none (is_private_path path) (line_free (tree_of before) (command.Trunc path size) affords.no_refusal)) at.0 at.1 ∙ ap (of_entry number change.Content) (sym at.1))
 
     pub trunc_place : KeepsJournal before after
-    trunc_place = journal_kept before after keeps
+    trunc_place = journal_kept before after keeps.forks
 
 -- ---- `write` of no byte
 
@@ -115,7 +118,7 @@ pub nothing_steps : (capacity number : ℕ) (path : List (List ℕ)) (from : ℕ
 nothing_steps capacity number path from value before empty sound affords changes none =
     subst (λ v. StepsTo (outcome.Answered reply.Ok changes) capacity number (command.Write path from v) before before) (sym (none_is value empty))
     (done_steps capacity number (command.Write path from []) before before sound sound here reply.Ok refl (nothing_put (tree_of before) path from) (sym (line_ok (tree_of before) (command.Write path from []) refl here.no_refusal)) (same_tree (tree_of before) path from)
-    (keeps_none (volume_of before)) changes none)
+    (keeps_none (volume_of before)).forks (values_same (volume_of before) (volume_of before) (keeps_none (volume_of before))) changes none)
   where
     here : Affords capacity (command.Write path from []) before
     here = subst (λ v. Affords capacity (command.Write path from v) before) (none_is value empty) affords

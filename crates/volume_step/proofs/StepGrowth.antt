@@ -14,7 +14,7 @@ use Rattle.hfs_volume.specs.Forks.{data_kind, resource_kind}
 use Rattle.hfs_volume.specs.Reclaim.{CutOrphan, CutShrunk, DropAttribute, DropOrphan, Reclaim, bare_step, first_attribute, first_growth, has_blocks, has_surplus_left, least, next_reclaim, orphan_steps, reclaim_cost, reclaim_cost_with, shrunk_step}
 use Rattle.hfs_volume.specs.Links.{orphans_of}
 use Rattle.hfs_volume.specs.Records.{attribute_of}
-use Rattle.hfs_volume.specs.Weight.{cut_load, edits, file_blocks, free_blocks, needs_for, room_with}
+use Rattle.hfs_volume.specs.Weight.{cut_load, edits, file_blocks, free_blocks, needs_for, room_with, value_change, with_values}
 use Rattle.hfs_volume.specs.declared.cost.Cost.{Cost}
 use Rattle.hfs_volume.specs.declared.cost.Cost.TheVariants as cost
 use Rattle.hfs_volume.specs.declared.cost.Needs.{Needs}
@@ -86,7 +86,7 @@ step_needs capacity volume (CutShrunk id) load grow is tree more some first =
     absurd (alone_none tree more grow (cut_none (load_refusal (cut_load (room_with capacity (free_blocks volume) volume)) (room_with capacity (free_blocks volume) volume).capacity) (cut_load (room_with capacity (free_blocks volume) volume)) load grow is) some first)
 step_needs capacity volume (CutOrphan id kind) load grow is tree more some first =
     absurd (alone_none tree more grow (cut_none (load_refusal (cut_load (room_with capacity (free_blocks volume) volume)) (room_with capacity (free_blocks volume) volume).capacity) (cut_load (room_with capacity (free_blocks volume) volume)) load grow is) some first)
-step_needs capacity volume (DropAttribute id name) load grow is tree more some first = (needs_for (free_blocks volume) volume (edits 0 0 1 1) None, is)
+step_needs capacity volume (DropAttribute id name) load grow is tree more some first = (with_values (free_blocks volume) (Some (value_change volume id name 0)) (needs_for (free_blocks volume) volume (edits 0 0 1 1) None), is)
 step_needs capacity volume (DropOrphan id) load grow is tree more some first = (needs_for (free_blocks volume) volume (edits 0 2 0 1) None, is)
 
 -- the attributes file grows for an attribute alone

@@ -19,7 +19,7 @@ use Rattle.hfs_volume.specs.Forks.{per_block_of}
 use Rattle.volume_header.specs.declared.header.VolumeHeader.{VolumeHeader}
 use Rattle.volume_space.specs.Growing.{IsOwnOrFree}
 use Rattle.volume_base.specs.Looking.{ReadsVolume}
-use Rattle.volume_space.specs.Spilling.{IsLaidOutAs}
+use Rattle.volume_base.specs.Holding.{IsLaidOutAs}
 use Rattle.volume_base.specs.Standing.{own_sectors}
 use Rattle.volume_base.specs.Touching.{Looks, Touches}
 use Rattle.volume_base.specs.declared.volume.Volume.{Volume}

@@ -9,8 +9,8 @@ use Rattle.volume_base.specs.Room.{capacity_of}
 use Rattle.volume_base.specs.Service.{IsInService}
 use Rattle.volume_base.specs.Touching.{Touches}
 use Rattle.volume_base.specs.declared.volume.Volume.{Volume}
-use Rattle.volume_space.specs.Spilling.{IsLaidOutAs}
-use Rattle.volume_space.specs.Standing.{HoldsOn}
+use Rattle.volume_base.specs.Holding.{IsLaidOutAs}
+use Rattle.volume_base.specs.Holding.{HoldsOn}
 
 -- A command was seen to, with an answer or a fault: what lies below followed, Disk comes only where that failed, the volume is in service, and behind an
 -- answer it serves, and loses no block that a content has in use. It put these sectors alone, or spilled into blocks that were free at the last commit,

@@ -11,16 +11,17 @@ use Rattle.hfs_language.specs.declared.reply.Change.{Change}
 use Rattle.hfs_language.specs.declared.reply.Reply.TheVariants as reply
 use Rattle.hfs_model.specs.Step.{refuses, step_line}
 use Rattle.hfs_volume.specs.Content.{volume_of}
-use Rattle.hfs_volume.specs.Reclaim.{CutsSurplus, FillsZeros, GrowsTrees, KeepsTree, SameFiles, first_growth}
+use Rattle.hfs_volume.specs.Reclaim.{CutsSurplus, FillsZeros, GrowsTrees, KeepsTree, SameFiles, SameValues, first_growth}
 use Rattle.volume_runs.specs.Rest.{cut_puts, file_written}
 use Rattle.volume_runs.specs.Run.{Entry, IsAnswered, IsServed, LacksResource, is_ok, or_before, shrunk_by}
 use Rattle.volume_runs.specs.Told.{changes_by}
 use Rattle.hfs_volume.specs.TreeOf.{tree_of}
-use Rattle.hfs_volume.specs.Weight.{Data, data_of, edits_of, free_blocks, most_zeros, needs_cut, room_with, weight, weight_with, zero_blocks}
+use Rattle.hfs_volume.specs.Weight.{Data, data_of, edits_of, free_blocks, most_zeros, needs_cut, room_with, values_of, weight, weight_with, zero_blocks}
 use Rattle.hfs_volume.specs.declared.cost.Cost.TheVariants as cost
+use Rattle.hfs_volume.specs.declared.cost.ValueChange.{ValueChange}
 use Rattle.sector_disk.specs.Space.{Space}
 use Rattle.volume_weights.specs.DataWeighing.{WaitsForCut}
-use Rattle.volume_base.specs.Fitting.{AreMet, takable_of}
+use Rattle.volume_base.specs.Fitting.{IsMetNow, takable_of}
 use Rattle.volume_space.specs.Growing.{IsOwnOrFree, alone}
 use Rattle.volume_base.specs.Room.{capacity_of}
 use Rattle.volume_base.specs.Standing.{own_sectors}
@@ -74,6 +75,7 @@ pub record GrowsFirst (capacity : ℕ) (asked : Command) (before after : Content
   pub some : 0 < slice_index grow 0 + slice_index grow 1 + slice_index grow 2
   pub grows : GrowsTrees (first_growth grow) (volume_of before) (volume_of after)
   pub files : SameFiles (volume_of before) (volume_of after)
+  pub values : SameValues (volume_of before) (volume_of after)
   pub keeps : KeepsTree before after
 
 -- The step doesn't refuse the command, no blocks past the size stand in its way, and nothing is missing for the whole of it; but it puts more zero
@@ -218,9 +220,9 @@ grown growing.CommitFirst = outcome.CommitFirst
 
 -- ---- what can be done now
 
--- the edits of a command can be made now
+-- the edits of a command can be made now, with what it does to values
 abbrev pub IsMet : Command → Volume → Space → Type 0
-IsMet asked volume space = AreMet (edits_of (tree_of space.content) asked) volume space
+IsMet asked volume space = IsMetNow asked volume space
 
 -- it was done, and answered with ok
 abbrev pub IsDoneOk : Outcome → Type 0
@@ -234,6 +236,17 @@ pub record FitsNow (asked : Command) (volume : Volume) (space : Space) : Type 0 
   pub grow : List ℕ
   pub costs : weight_with (capacity_of volume) (takable_of volume) (volume_of space.content) (tree_of space.content) asked ≡ cost.Load load grow
   pub within : load ≤ space.spare
+
+-- no block is taken for a value
+abbrev pub takes_none : Option ValueChange → Bool
+takes_none None = true
+takes_none (Some change) = change.blocks == 0
+
+-- The same; and where the command takes blocks for a value, of all that are free it costs the same growth of the attributes file.
+pub record FitsReady (asked : Command) (volume : Volume) (space : Space) : Type 0 where
+  pub now : FitsNow asked volume space
+  pub alike : (takes_none (values_of (volume_of space.content) (tree_of space.content) asked) ≡ true)
+      ⊎ ((load : ℕ) (grow : List ℕ) → weight (capacity_of volume) (volume_of space.content) (tree_of space.content) asked ≡ cost.Load load grow → slice_index grow 2 ≡ slice_index now.grow 2)
 
 -- A command has no more zero blocks than one step fills, or nothing was put since the last commit.
 abbrev pub HasFewZeros : Command → Volume → Space → Type 0

@@ -10,7 +10,7 @@ ghost use Rattle.volume_base.specs.Fitting.{takable_of};
 ghost use Rattle.volume_base.specs.Frame.{Looked, Serves};
 ghost use Rattle.volume_base.specs.Room.{capacity_of};
 ghost use Rattle.volume_step.specs.Anew.{FitsAlike};
-ghost use Rattle.volume_step.specs.Steps.{FitsNow, GrowsTheFirst, IsCutFirst, IsDirect, IsJudged, IsTaken, IsTakenAlike, PutsNow, growth_or, verdict_of};
+ghost use Rattle.volume_step.specs.Steps.{FitsReady, GrowsTheFirst, IsCutFirst, IsDirect, IsJudged, IsTaken, IsTakenAlike, PutsNow, growth_or, verdict_of};
 ghost use Rattle.volume_step.specs.declared.judging.Verdict.TheVariants as verdict;
 
 use hfs_language::{Command, Refusal};
@@ -95,7 +95,7 @@ pub(crate) fn judge<P: SectorSpace>(
     requires changes { only_reads command.now ≡ false }
     ensures judged { IsTrue (P.SectorView.space space.old).tells → IfOk result (λ verdict. IsJudged verdict (capacity_of volume.old) command.now (P.SectorView.space space.old).content) }
     // Where it fits now, no commit comes first.
-    ensures taken { IsTrue (P.SectorView.space space.old).tells → (now : FitsNow command.now volume.old (P.SectorView.space space.old)) → IfOk result (λ verdict. IsTaken verdict now.grow) }
+    ensures taken { IsTrue (P.SectorView.space space.old).tells → (ready : FitsReady command.now volume.old (P.SectorView.space space.old)) → IfOk result (λ verdict. IsTaken verdict ready.now.grow) }
     // Where it costs the same of all free blocks as of those that may be taken, neither does one; a cut may.
     ensures alike { IsTrue (P.SectorView.space space.old).tells → (now : FitsAlike command.now volume.old (P.SectorView.space space.old)) → IfOk result (λ verdict. IsTakenAlike verdict now.grow) }
     // A tree that grows first is the first of those that its load counts.

@@ -4,8 +4,9 @@ ghost use Rattle.hfs_language.specs.Written.{FitsPath};
 ghost use Rattle.hfs_language.specs.declared.command.Command.TheVariants as command;
 ghost use Rattle.hfs_volume.specs.Content.{has_attributes, volume_of};
 ghost use Rattle.hfs_volume.specs.Weight.{edits};
-ghost use Rattle.volume_base.specs.Fitting.{AreMet};
-ghost use Rattle.volume_base.specs.Frame.{Edits, Serves};
+ghost use Rattle.volume_base.specs.Fitting.{AreMetValued};
+ghost use Rattle.volume_base.specs.Frame.{Edits, Frees, Serves};
+ghost use Rattle.volume_base.specs.Weighing.{AreUsual};
 ghost use Rattle.volume_base.specs.Room.{capacity_of};
 ghost use Rattle.volume_step.specs.Loads.{IsWithinLoad};
 ghost use Rattle.volume_step.specs.Steps.{Affords, IsDoneOk, IsMet, KeepsJournal, StepsNow};
@@ -19,26 +20,28 @@ use std::alloc::Global;
 use tree_weights::{
     a_load_is_of_parts, a_load_says_enough, trees_grow_by_enough, trees_hold_three,
 };
-use volume_base::Volume;
-use volume_names::{bare_count, fits_bare, fits_lose, rm, rmdir};
+use volume_base::{OwnedValues, Volume};
+use volume_names::{fits_bare, fits_lose, rm, rmdir, values_to_remove};
 
-/// Removes a folder with so many attributes. Where the room that there is doesn't suffice, a commit comes first.
+/// Removes a folder with these attributes. Where the room that there is doesn't suffice, a commit comes first.
 fn remove_with<P: SectorSpace>(
     alloc: Global,
     volume: &mut Volume,
     space: &mut P,
     number: u64,
     path: &Path,
-    many: u32,
+    owned: OwnedValues,
 ) -> Result<Outcome, Trouble>
     requires serves { Serves volume.old (P.SectorView.space space.old) }
     requires fits { FitsPath path.now }
+    requires small { AreUsual owned.count owned.change }
+    requires gone { owned.change.blocks ≡ 0 }
     requires affords { IsTrue (P.SectorView.space space.old).tells → Affords (capacity_of volume.old) (command.Rmdir path.now) (P.SectorView.space space.old).content }
     ensures answered { IsTrue (P.SectorView.space space.old).tells → IfOk result (λ outcome. StepsNow outcome (capacity_of volume.old) number (command.Rmdir path.now) (P.SectorView.space space.old).content (P.SectorView.space space.new).content) }
-    ensures done { IsTrue (P.SectorView.space space.old).tells → AreMet (edits 0 2 many 1) volume.old (P.SectorView.space space.old) → (has_attributes (volume_of (P.SectorView.space space.old).content).head ≡ false → many ≡ 0) → IfOk result IsDoneOk }
+    ensures done { IsTrue (P.SectorView.space space.old).tells → AreMetValued (edits 0 2 owned.count 1) owned.change volume.old (P.SectorView.space space.old) → (has_attributes (volume_of (P.SectorView.space space.old).content).head ≡ false → owned.count ≡ 0) → IfOk result IsDoneOk }
     ensures place { IsTrue (P.SectorView.space space.old).tells → OnOk result (KeepsJournal (P.SectorView.space space.old).content (P.SectorView.space space.new).content) }
     ensures serves { OnOk result (Serves volume.new (P.SectorView.space space.new)) }
-    ensures edits { Edits P.SectorView.space P.SectorView.follows (P.SectorView.space space.old).spare volume.old volume.new space.old space.new result }
+    ensures frees { Frees P.SectorView.space P.SectorView.follows volume.old volume.new space.old space.new result }
     ensures loads { IsTrue (P.SectorView.space space.old).tells → IsWithinLoad (command.Rmdir path.now) volume.old (P.SectorView.space space.old) (P.SectorView.space space.new) }
 {
     a_load_says_enough();
@@ -49,7 +52,7 @@ fn remove_with<P: SectorSpace>(
     if !volume.fits_remove(space) {
         return Ok(Outcome::CommitFirst);
     }
-    if !fits_bare(volume, space, many) {
+    if !fits_bare(volume, space, owned) {
         return Ok(Outcome::CommitFirst);
     }
     let reply = rmdir(volume, alloc, space, path)?;
@@ -71,11 +74,12 @@ pub(crate) fn remove_folder<P: SectorSpace>(
     ensures done { IsTrue (P.SectorView.space space.old).tells → IsMet (command.Rmdir path.now) volume.old (P.SectorView.space space.old) → IfOk result IsDoneOk }
     ensures place { IsTrue (P.SectorView.space space.old).tells → OnOk result (KeepsJournal (P.SectorView.space space.old).content (P.SectorView.space space.new).content) }
     ensures serves { OnOk result (Serves volume.new (P.SectorView.space space.new)) }
-    ensures edits { Edits P.SectorView.space P.SectorView.follows (P.SectorView.space space.old).spare volume.old volume.new space.old space.new result }
+    ensures frees { Frees P.SectorView.space P.SectorView.follows volume.old volume.new space.old space.new result }
     ensures loads { IsTrue (P.SectorView.space space.old).tells → IsWithinLoad (command.Rmdir path.now) volume.old (P.SectorView.space space.old) (P.SectorView.space space.new) }
 {
-    let many = bare_count(volume, alloc, space, path)?;
-    remove_with(alloc, volume, space, number, path, many)
+    sound_has_plain_tree();
+    let owned = values_to_remove(volume, alloc, space, path)?;
+    remove_with(alloc, volume, space, number, path, owned)
 }
 
 /// Removes a file. Where the room doesn't suffice by numbers alone, a commit comes first.

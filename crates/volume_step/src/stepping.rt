@@ -7,7 +7,7 @@ ghost use Rattle.hfs_model.specs.Step.{only_reads};
 ghost use Rattle.hfs_model.specs.declared.plain.PlainTree.{PlainTree};
 ghost use Rattle.hfs_volume.specs.Aside.{IsJournalSector};
 ghost use Rattle.hfs_volume.specs.Weight.{changes_nothing, data_of, needs_cut};
-ghost use Rattle.volume_base.specs.Frame.{Edits, Serves};
+ghost use Rattle.volume_base.specs.Frame.{Frees, Serves};
 ghost use Rattle.volume_base.specs.Keeping.{shrunk_of};
 ghost use Rattle.volume_base.specs.Room.{capacity_of};
 ghost use Rattle.volume_space.specs.Writing.{is_data_met};
@@ -15,7 +15,7 @@ ghost use Rattle.volume_space.specs.Zeroing.{HasFilled};
 ghost use Rattle.volume_step.specs.Performing.{Performs};
 ghost use Rattle.volume_step.specs.Anew.{FitsAlike, FitsAnew, IsAnew};
 ghost use Rattle.volume_step.specs.Loads.{IsWithinLoad};
-ghost use Rattle.volume_step.specs.Steps.{Affords, FillsMore, FitsNow, GoesFurther, HasFewLeft, IsDoneOk, IsMet, KeepsGrowth, KeepsJournal, LacksCutRoom, OwnOf, PutsNow, ShrinksAs, StepsNow, StepsTo};
+ghost use Rattle.volume_step.specs.Steps.{Affords, FillsMore, FitsNow, FitsReady, GoesFurther, HasFewLeft, IsDoneOk, IsMet, KeepsGrowth, KeepsJournal, LacksCutRoom, OwnOf, PutsNow, ShrinksAs, StepsNow, StepsTo};
 ghost use Rattle.volume_step.specs.declared.outcome.Outcome.TheVariants as outcome;
 
 use crate::answering::{answer, only_reads, refusal};
@@ -37,8 +37,8 @@ use std::alloc::Global;
 use volume_base::Volume;
 use volume_space::Zeros;
 
-/// Does a command for which nothing is missing, and which gives no file other bytes; it is done where its edits are met. None of the others
-/// comes here.
+/// Does a command for which nothing is missing, and which gives no file other bytes, nor an attribute a value; it is done where its edits are met. None
+/// of the others comes here.
 fn perform_without_data<P: SectorSpace>(
     alloc: Global,
     volume: &mut Volume,
@@ -56,16 +56,13 @@ fn perform_without_data<P: SectorSpace>(
     ensures plain { OnOk result ((tree : PlainTree) → data_of tree command.now ≡ None) }
     ensures place { IsTrue (P.SectorView.space space.old).tells → OnOk result (KeepsJournal (P.SectorView.space space.old).content (P.SectorView.space space.new).content) }
     ensures loads { IsTrue (P.SectorView.space space.old).tells → IsWithinLoad command.now volume.old (P.SectorView.space space.old) (P.SectorView.space space.new) }
-    ensures edits { Edits P.SectorView.space P.SectorView.follows (P.SectorView.space space.old).spare volume.old volume.new space.old space.new result }
+    ensures frees { Frees P.SectorView.space P.SectorView.follows volume.old volume.new space.old space.new result }
     ensures serves { OnOk result (Serves volume.new (P.SectorView.space space.new)) }
     ensures shrunk { IsTrue (P.SectorView.space space.old).tells → IfOk result (λ outcome. ShrinksAs outcome command.now (P.SectorView.space space.old).content (shrunk_of volume.old) (shrunk_of volume.new)) }
 {
     match command {
         Command::At(moment) => date(alloc, volume, space, number, *moment),
         Command::Chmod { path, mode } => set_mode(alloc, volume, space, number, path, *mode),
-        Command::SetAttr { path, name, value } => {
-            set_attribute(alloc, volume, space, number, path, name, value.as_slice())
-        }
         Command::DelAttr { path, name } => {
             delete_attribute(alloc, volume, space, number, path, name)
         }
@@ -77,6 +74,7 @@ fn perform_without_data<P: SectorSpace>(
         Command::Ln(from, to) => link_file(alloc, volume, space, number, from, to),
         Command::Trunc { .. }
         | Command::Write { .. }
+        | Command::SetAttr { .. }
         | Command::Read { .. }
         | Command::Ls(_)
         | Command::Stat(_)
@@ -114,6 +112,9 @@ fn perform_now<P: SectorSpace>(
         Command::Trunc { path, size } => resize(alloc, volume, space, number, path, *size),
         Command::Write { path, from, value } => {
             write_value(alloc, volume, space, number, path, *from, value.as_slice())
+        }
+        Command::SetAttr { path, name, value } => {
+            set_attribute(alloc, volume, space, number, path, name, value.as_slice())
         }
         _ => perform_without_data(alloc, volume, space, number, command),
     }
@@ -205,7 +206,7 @@ fn change<P: SectorSpace>(
     requires changes { only_reads command.now ≡ false }
     ensures answered { IsTrue (P.SectorView.space space.old).tells → IfOk result (λ outcome. StepsTo outcome (capacity_of volume.old) number command.now (P.SectorView.space space.old).content (P.SectorView.space space.new).content) }
     // Where it is ready, no commit comes first.
-    ensures ready { IsTrue (P.SectorView.space space.old).tells → FitsNow command.now volume.old (P.SectorView.space space.old) → IfOk result (λ it. it ≢ outcome.CommitFirst) }
+    ensures ready { IsTrue (P.SectorView.space space.old).tells → FitsReady command.now volume.old (P.SectorView.space space.old) → IfOk result (λ it. it ≢ outcome.CommitFirst) }
     ensures puts { IsTrue (P.SectorView.space space.old).tells → PutsNow command.now volume.old (P.SectorView.space space.old) → IfOk result (λ it. it ≢ outcome.CommitFirst) }
     // Where it costs the same of all free blocks as of those that may be taken, none does either.
     ensures alike { IsTrue (P.SectorView.space space.old).tells → FitsAlike command.now volume.old (P.SectorView.space space.old) → IfOk result (λ it. it ≢ outcome.CommitFirst) }
@@ -258,7 +259,7 @@ pub fn step<P: SectorSpace>(
     ensures answered { IsTrue (P.SectorView.space space.old).tells → IfOk result (λ outcome. StepsTo outcome (capacity_of volume.old) number command.now (P.SectorView.space space.old).content (P.SectorView.space space.new).content) }
     // No commit comes first where the command reads alone; nor where it puts no data into a file, and what it costs of the blocks that may be taken
     // is a load that the room suffices for; nor where it puts data, and that is met.
-    ensures ready { IsTrue (P.SectorView.space space.old).tells → (only_reads command.now ≡ true) ⊎ (FitsNow command.now volume.old (P.SectorView.space space.old) ⊎ PutsNow command.now volume.old (P.SectorView.space space.old)) → IfOk result (λ it. it ≢ outcome.CommitFirst) }
+    ensures ready { IsTrue (P.SectorView.space space.old).tells → (only_reads command.now ≡ true) ⊎ (FitsReady command.now volume.old (P.SectorView.space space.old) ⊎ PutsNow command.now volume.old (P.SectorView.space space.old)) → IfOk result (λ it. it ≢ outcome.CommitFirst) }
     // On a transaction to which nothing was put none comes first where nothing is missing for the command.
     ensures anew { IsTrue (P.SectorView.space space.old).tells → IsAnew volume.old (P.SectorView.space space.old) → FitsAnew command.now volume.old (P.SectorView.space space.old).content → IfOk result (λ it. it ≢ outcome.CommitFirst) }
     // Where a cut goes ahead of it, one comes first only where there is too little room for the cut.

@@ -18,7 +18,7 @@ use Rattle.hfs_volume.specs.Blocks.{HasSizes}
 use Rattle.hfs_volume.specs.Content.{VolumeState, overflow_in_volume, records_of, volume_of}
 use Rattle.hfs_volume.specs.Forks.{data_kind, extents_of}
 use Rattle.hfs_volume.specs.Records.{Placed, entries_of, entry_of, id_in, id_of, is_empty, is_placed_at, is_thread, record_at}
-use Rattle.hfs_volume.specs.TreeOf.{file_bytes, tree_of}
+use Rattle.hfs_volume.specs.TreeOf.{bytes_in, tree_of}
 use Rattle.hfs_volume.specs.Weight.{extents_found, file_blocks, file_extents, file_fork}
 use Rattle.hfs_volume.proofs.Flat.{found_some, some_same}
 use Rattle.hfs_volume.proofs.Hiding.{same_entry}
@@ -44,9 +44,9 @@ file_or other _ = other
 module _ (v : Volume) (content : Content) (holds : HoldsTrees v content) (settled : IsSettled v content) (put : Put) (node : PlainNode) (there : Contains (tree_of content).nodes node) (kind : node.folder ≡ false) (number : node.id ≡ put.id)
     (long : length node.bytes ≡ put.old_size) (entry : Entry) (found : Some entry ≡ entry_by_id (lists_of v content).catalog_pairs put.id)
   where
-    its : IsFileOf (volume_of content) (file_bytes content) node
+    its : IsFileOf (volume_of content) (bytes_in content) node
     unfolding tree_of
-    its = file_of_node (volume_of content) settled.sound (settled_sorted v content holds settled) (file_bytes content) node there kind
+    its = file_of_node (volume_of content) settled.sound (settled_sorted v content holds settled) (bytes_in content) node there kind
 
     here : IsThere (lists_of v content).catalog_pairs put.id entry
     here = entry_there v content holds settled put.id node there number entry found

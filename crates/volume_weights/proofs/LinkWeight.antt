@@ -15,7 +15,7 @@ use Rattle.hfs_model.specs.declared.plain.PlainTree.{PlainTree}
 use Rattle.hfs_volume.specs.Books.{SoundHasPlainTree}
 use Rattle.hfs_volume.specs.Content.{VolumeState, attributes_of, volume_of}
 use Rattle.hfs_volume.specs.Cost.{cost_of}
-use Rattle.hfs_volume.specs.TreeOf.{file_bytes, tree_in, tree_of}
+use Rattle.hfs_volume.specs.TreeOf.{bytes_in, tree_in, tree_of, valued}
 use Rattle.hfs_volume.specs.Weight.{Edits as Asked, edits, edits_of, folders_made, free_blocks, ln_edits, needs_for, room_with, weight, weight_with}
 use Rattle.hfs_volume.proofs.Named.{to_ln_is}
 use Rattle.volume_weights.specs.Linking.{first_edits, link_weighed, more_edits}
@@ -90,17 +90,17 @@ module _ (law : SoundHasPlainTree) (v : Volume) (content : Content) (holds : Hol
     (said : Result Node Refusal) (found : said ≡ node_in (lists_of v content).catalog_pairs v.private from) (takable : List Bool)
   where
     abbrev IsIt : Node → PlainNode → Type 0
-    IsIt = IsNode (volume_of content) settled.sound (settled_sorted v content holds settled) (tree_of content) (entries_are content) (settled_is_plain law v content holds settled) (attributes_of (volume_of content)) (file_bytes content) (nodes_are content)
+    IsIt = IsNode (volume_of content) settled.sound (settled_sorted v content holds settled) (tree_of content) (entries_are content) (settled_is_plain law v content holds settled) (valued (bytes_in content) (attributes_of (volume_of content))) (bytes_in content) (nodes_are content)
 
     agrees : Agree IsIt said (to_node (tree_of content) from)
     agrees =
         subst (λ (r : Result Node Refusal). Agree IsIt r (to_node (tree_of content) from)) (sym (found ∙ (λ i. node_in (sym (ap (λ (l : VolumeState). l.catalog_pairs) settled.lists) i) (settled.private i) from)))
-        (node_same (volume_of content) settled.sound (settled_sorted v content holds settled) (tree_of content) (entries_are content) (settled_is_plain law v content holds settled) (attributes_of (volume_of content)) (file_bytes content) (nodes_are content) from
+        (node_same (volume_of content) settled.sound (settled_sorted v content holds settled) (tree_of content) (entries_are content) (settled_is_plain law v content holds settled) (valued (bytes_in content) (attributes_of (volume_of content))) (bytes_in content) (nodes_are content) from
         (not_own (tree_of content) from to fine) fits)
 
     reaches : (pair : PlainEntry × Place) → to_ln (tree_of content) from to ≡ Ok pair → reached (tree_of content) from ≡ Ok pair.0
     unfolding tree_of
-    reaches pair is = (to_ln_is (volume_of content) (file_bytes content) settled.sound from to pair.0 pair.1 is (goal_not_own (tree_in (volume_of content) (file_bytes content)) from to fine)).0.reached_at
+    reaches pair is = (to_ln_is (volume_of content) (bytes_in content) settled.sound from to pair.0 pair.1 is (goal_not_own (tree_in (volume_of content) (bytes_in content)) from to fine)).0.reached_at
 
     private_here : is_some v.private ≡ (tree_of content).has_private
     private_here = ap (λ (o : Option ℕ). is_some o) settled.private ∙ sym (has_private_is content)

@@ -23,7 +23,7 @@ use Rattle.hfs_volume.specs.Books.{SoundHasPlainTree}
 use Rattle.hfs_volume.specs.Content.{VolumeState, attributes_of, records_of, volume_of}
 use Rattle.hfs_volume.specs.Cost.{cost_of}
 use Rattle.hfs_volume.specs.Links.{private_id}
-use Rattle.hfs_volume.specs.TreeOf.{file_bytes, tree_in, tree_of}
+use Rattle.hfs_volume.specs.TreeOf.{bytes_in, tree_in, tree_of, valued}
 use Rattle.hfs_volume.specs.Weight.{Edits as Asked, edits, edits_of, folders_made, free_blocks, needs_for, rm_edits, rm_edits_at, room_with, weight, weight_with}
 use Rattle.volume_base.specs.Lists.{lists_of}
 use Rattle.volume_base.specs.Losing.{lose_edits}
@@ -194,12 +194,12 @@ module _ (law : SoundHasPlainTree) (v : Volume) (content : Content) (holds : Hol
     plain = settled_is_plain law v content holds settled
 
     abbrev IsIt : Node → PlainNode → Type 0
-    IsIt = IsNode (volume_of content) settled.sound (settled_sorted v content holds settled) (tree_of content) (entries_are content) (settled_is_plain law v content holds settled) (attributes_of (volume_of content)) (file_bytes content) (nodes_are content)
+    IsIt = IsNode (volume_of content) settled.sound (settled_sorted v content holds settled) (tree_of content) (entries_are content) (settled_is_plain law v content holds settled) (valued (bytes_in content) (attributes_of (volume_of content))) (bytes_in content) (nodes_are content)
 
     agrees : Agree IsIt said (to_node (tree_of content) path)
     agrees =
         subst (λ (r : Result Node Refusal). Agree IsIt r (to_node (tree_of content) path)) (sym (found ∙ (λ i. node_in (sym (ap (λ (l : VolumeState). l.catalog_pairs) settled.lists) i) (settled.private i) path)))
-        (node_same (volume_of content) settled.sound (settled_sorted v content holds settled) (tree_of content) (entries_are content) (settled_is_plain law v content holds settled) (attributes_of (volume_of content)) (file_bytes content) (nodes_are content) path not_own fits)
+        (node_same (volume_of content) settled.sound (settled_sorted v content holds settled) (tree_of content) (entries_are content) (settled_is_plain law v content holds settled) (valued (bytes_in content) (attributes_of (volume_of content))) (bytes_in content) (nodes_are content) path not_own fits)
 
     abbrev words_here : Weight
     words_here = weighed v.capacity takable (volume_of content) (tree_of content) (command.Rm path)

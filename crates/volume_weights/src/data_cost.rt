@@ -74,16 +74,6 @@ fn file_of_record(rec: &CatRecord) -> Option<FileRecord>
     }
 }
 
-/// How few of the runs of free blocks have so many blocks together.
-fn fewest(volume: &Volume, free: FreeBlocks, count: u32) -> u32
-    ensures { result ≡ fewest_of count (free_runs (free_in free volume.now.map)) }
-{
-    match free {
-        FreeBlocks::All => volume.map.fewest_all(count),
-        FreeBlocks::Takable => volume.map.fewest(count),
-    }
-}
-
 /// What data needs that is put into a file whose fork has so many extents.
 fn needs_put(volume: &Volume, free: FreeBlocks, extents: u32, put: Put) -> Needs
     requires usual { are_usual volume.now.header.block_size put ≡ true }
@@ -91,7 +81,7 @@ fn needs_put(volume: &Volume, free: FreeBlocks, extents: u32, put: Put) -> Needs
     ensures small { AreSmall result }
 {
     let (new_blocks, old_blocks) = blocks_of_put(volume.header.block_size, put);
-    let runs = fewest(volume, free, new_blocks as u32) as u64;
+    let runs = volume.fewest(free, new_blocks as u32) as u64;
     Needs {
         ids: 0,
         edits: [count_extents_edits(extents, runs, new_blocks), 0, 0],

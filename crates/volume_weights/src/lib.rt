@@ -7,6 +7,7 @@ mod link_weight;
 mod lose_weight;
 mod move_weight;
 mod remove_weight;
+mod value_weight;
 mod weighing;
 mod weights;
 

@@ -1,6 +1,7 @@
 //! `weigh` of `rmdir`.
-ghost use Rattle.std.specs.Prelude.{◌≡◌, false, IsTrue, IfOk};
-ghost use Rattle.attributes.specs.Owned.{count_of};
+ghost use Rattle.std.specs.Prelude.{◌≡◌, false, IsTrue, IfOk, length};
+ghost use Rattle.attributes.specs.Owned.{names_of};
+ghost use Rattle.volume_base.specs.Values.{values_owned};
 ghost use Rattle.hfs_language.specs.Written.{FitsPath};
 ghost use Rattle.hfs_language.specs.declared.command.Command.TheVariants as command;
 ghost use Rattle.hfs_model.specs.Step.{is_private_path};
@@ -10,9 +11,9 @@ ghost use Rattle.volume_base.specs.Frame.{Looked, Serves};
 ghost use Rattle.volume_base.specs.Making.{path_to};
 ghost use Rattle.volume_base.specs.Room.{capacity_of, free_in};
 ghost use Rattle.volume_base.specs.declared.room.FreeBlocks.TheVariants as blocks;
-ghost use Rattle.volume_base.specs.Weighing.{edits_weighed, weighed};
+ghost use Rattle.volume_base.specs.Weighing.{values_weighed, weighed};
 
-use crate::weighing::weigh_edits;
+use crate::weighing::{weigh_edits, weigh_values};
 use hfs_language::{Path, Refusal};
 use hfs_volume::sound_has_plain_tree;
 use hx_bytes::{Trouble, Units};
@@ -29,22 +30,22 @@ fn weigh_removal<P: SectorSpace>(
 ) -> Result<Weight, Trouble>
     requires serves { Serves volume.old (P.SectorView.space space.old) }
     ensures exact { IsTrue (P.SectorView.space space.old).tells
-        → IfOk result (λ weighs. weighs ≡ edits_weighed (capacity_of volume.old) (free_in blocks.Takable volume.old.map) (volume_of (P.SectorView.space space.old).content)
-        (record { ids = 0; catalog = 2; attributes = count_of id (volume_of (P.SectorView.space space.old).content).attribute_pairs; updates = 1 })) }
+        → IfOk result (λ weighs. weighs ≡ values_weighed (capacity_of volume.old) (free_in blocks.Takable volume.old.map) (volume_of (P.SectorView.space space.old).content)
+        (record { ids = 0; catalog = 2; attributes = length (names_of id (volume_of (P.SectorView.space space.old).content).attribute_pairs); updates = 1 }) (values_owned (volume_of (P.SectorView.space space.old).content) id)) }
     ensures looked { Looked P.SectorView.space P.SectorView.follows volume.old volume.new space.old space.new result }
     ensures serves { Serves volume.new (P.SectorView.space space.new) }
 {
-    let owned = volume.tell_attributes(alloc, space, id)?;
-    if owned.len() > 0xFFFF_FFFF {
-        return Err(Trouble::Memory);
-    }
+    let owned = volume.owned_values(alloc, space, id)?;
     let edits = Edits {
         ids: 0,
         catalog: 2,
-        attributes: owned.len() as u32,
+        attributes: owned.count,
         updates: 1,
     };
-    Ok(weigh_edits(volume, space, edits))
+    if volume.header.attributes_fork.logical_size == 0 {
+        return Ok(weigh_edits(volume, space, edits));
+    }
+    Ok(weigh_values(volume, space, edits, owned.change))
 }
 
 /// What `rmdir` needs for the folder of a name under a path.

@@ -4,9 +4,9 @@ ghost use Rattle.hfs_volume.specs.Content.{volume_of, has_attributes};
 ghost use Rattle.volume_base.specs.Frame.{Serves};
 ghost use Rattle.volume_base.specs.Room.{capacity_of, free_in};
 ghost use Rattle.volume_base.specs.declared.room.FreeBlocks.TheVariants as blocks;
-ghost use Rattle.volume_base.specs.Weighing.{edits_weighed, joined};
+ghost use Rattle.volume_base.specs.Weighing.{AreUsual, edits_weighed, joined, values_weighed};
 
-use hfs_volume::Cost;
+use hfs_volume::{Cost, ValueChange};
 use sector_disk::SectorSpace;
 use volume_base::{Edits, FreeBlocks, Volume, Weight};
 
@@ -22,7 +22,7 @@ pub(crate) fn joined(all: Cost, takable: Cost) -> Weight
                 sectors,
                 grow: more,
             } => {
-                if grow[0] == more[0] {
+                if grow[0] == more[0] && grow[2] == more[2] {
                     Weight::Load { sectors, grow }
                 } else {
                     Weight::CommitFirst
@@ -40,5 +40,22 @@ pub(crate) fn weigh_edits<P: SectorSpace>(volume: &Volume, space: &P, edits: Edi
 {
     let all = volume.cost_of_edits(space, FreeBlocks::All, edits);
     let takable = volume.cost_of_edits(space, FreeBlocks::Takable, edits);
+    joined(all, takable)
+}
+
+/// What edits weigh that also change values: what all free blocks cost, and what those cost that may be taken.
+pub(crate) fn weigh_values<P: SectorSpace>(
+    volume: &Volume,
+    space: &P,
+    edits: Edits,
+    change: ValueChange,
+) -> Weight
+    requires serves { Serves volume.now (P.SectorView.space space.now) }
+    requires tree { IsTrue (P.SectorView.space space.now).tells → IsTrue (has_attributes volume.now.header) }
+    requires small { IsTrue (P.SectorView.space space.now).tells → AreUsual edits.attributes change }
+    ensures exact { IsTrue (P.SectorView.space space.now).tells → result ≡ values_weighed (capacity_of volume.now) (free_in blocks.Takable volume.now.map) (volume_of (P.SectorView.space space.now).content) edits change }
+{
+    let all = volume.cost_of_values(space, FreeBlocks::All, edits, change);
+    let takable = volume.cost_of_values(space, FreeBlocks::Takable, edits, change);
     joined(all, takable)
 }

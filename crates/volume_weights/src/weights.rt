@@ -17,6 +17,7 @@ use crate::link_weight::weigh_ln;
 use crate::lose_weight::weigh_rm;
 use crate::move_weight::weigh_mv;
 use crate::remove_weight::weigh_rmdir;
+use crate::value_weight::{weigh_delattr, weigh_setattr};
 use crate::weighing::weigh_edits;
 use hfs_language::{Command, Path, Refusal};
 use hfs_volume::sound_has_plain_tree;
@@ -67,82 +68,6 @@ fn weigh_chmod<P: SectorSpace>(
             };
             Ok(weigh_edits(volume, space, edits))
         }
-        Err(why) => Ok(Weight::Refused(why)),
-    }
-}
-
-/// What `setattr` needs.
-fn weigh_setattr<P: SectorSpace>(
-    volume: &mut Volume,
-    alloc: Global,
-    space: &mut P,
-    path: &Path,
-    value: &[u8],
-) -> Result<Weight, Trouble>
-    requires serves { Serves volume.old (P.SectorView.space space.old) }
-    requires fits { FitsPath path.now }
-    ensures answer { IsTrue (P.SectorView.space space.old).tells → (name : List ℕ)
-        → IfOk result (λ weighs. weighs ≡ weighed (capacity_of volume.old) (free_in blocks.Takable volume.old.map) (volume_of (P.SectorView.space space.old).content) (tree_of (P.SectorView.space space.old).content) (command.SetAttr path.now name value.now)) }
-    ensures looked { Looked P.SectorView.space P.SectorView.follows volume.old volume.new space.old space.new result }
-    ensures serves { Serves volume.new (P.SectorView.space space.new) }
-{
-    if is_private_path(path) {
-        return Ok(Weight::Refused(Refusal::Private));
-    }
-    sound_has_plain_tree();
-    match volume.owner(alloc, space, path)? {
-        Ok(_id) => {
-            if value.len() > 1700 {
-                return Ok(Weight::Refused(Refusal::AttributeTooLarge));
-            }
-            if volume.header.attributes_fork.logical_size == 0 {
-                return Ok(Weight::Refused(Refusal::NoTree));
-            }
-            let edits = Edits {
-                ids: 0,
-                catalog: 0,
-                attributes: 2,
-                updates: 1,
-            };
-            Ok(weigh_edits(volume, space, edits))
-        }
-        Err(why) => Ok(Weight::Refused(why)),
-    }
-}
-
-/// What `delattr` needs.
-fn weigh_delattr<P: SectorSpace>(
-    volume: &mut Volume,
-    alloc: Global,
-    space: &mut P,
-    path: &Path,
-    name: &Units,
-) -> Result<Weight, Trouble>
-    requires serves { Serves volume.old (P.SectorView.space space.old) }
-    requires fits { FitsPath path.now }
-    requires name { length name.now ≤ 127 }
-    ensures answer { IsTrue (P.SectorView.space space.old).tells
-        → IfOk result (λ weighs. weighs ≡ weighed (capacity_of volume.old) (free_in blocks.Takable volume.old.map) (volume_of (P.SectorView.space space.old).content) (tree_of (P.SectorView.space space.old).content) (command.DelAttr path.now name.now)) }
-    ensures looked { Looked P.SectorView.space P.SectorView.follows volume.old volume.new space.old space.new result }
-    ensures serves { Serves volume.new (P.SectorView.space space.new) }
-{
-    if is_private_path(path) {
-        return Ok(Weight::Refused(Refusal::Private));
-    }
-    sound_has_plain_tree();
-    match volume.owner(alloc, space, path)? {
-        Ok(id) => match volume.owned(alloc, space, id, name)? {
-            Some(_others) => {
-                let edits = Edits {
-                    ids: 0,
-                    catalog: 0,
-                    attributes: 1,
-                    updates: 1,
-                };
-                Ok(weigh_edits(volume, space, edits))
-            }
-            None => Ok(Weight::Refused(Refusal::NoAttribute)),
-        },
         Err(why) => Ok(Weight::Refused(why)),
     }
 }
@@ -262,8 +187,8 @@ pub fn weigh<P: SectorSpace>(
     match command {
         Command::At(_) => Ok(Some(weigh_at(volume, space))),
         Command::Chmod { path, .. } => Ok(Some(weigh_chmod(volume, alloc, space, path)?)),
-        Command::SetAttr { path, value, .. } => {
-            Ok(Some(weigh_setattr(volume, alloc, space, path, value.as_slice())?))
+        Command::SetAttr { path, name, value } => {
+            Ok(Some(weigh_setattr(volume, alloc, space, path, name, value.as_slice())?))
         }
         Command::DelAttr { path, name } => {
             Ok(Some(weigh_delattr(volume, alloc, space, path, name)?))

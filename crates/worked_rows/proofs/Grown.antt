@@ -11,7 +11,6 @@ use Rattle.btree_node.specs.Levels.{Pair}
 use Rattle.cat_records.specs.Keys.{extent_key_bytes}
 use Rattle.cat_records.specs.Records.{entry_of, entry_bytes}
 use Rattle.cat_records.specs.declared.record.EntryFields.{EntryFields}
-use Rattle.cat_records.specs.declared.record.FileRecord.{FileRecord}
 use Rattle.cat_records.specs.declared.record.CatRecord.TheVariants.{File}
 use Rattle.hfs_language.specs.declared.command.Command.TheVariants as command
 use Rattle.hfs_model.specs.Plain.{fresh_tree}
@@ -20,7 +19,7 @@ use Rattle.hfs_volume.specs.Forks.{extents_of, all_forks, data_kind}
 use Rattle.hfs_volume.specs.Content.{VolumeState}
 use Rattle.hfs_volume.specs.Reclaim.{blocks_at}
 use Rattle.hfs_volume.specs.Changes.{pair_of, thread_of}
-use Rattle.hfs_volume.specs.TreeOf.{tree_in, is_seen}
+use Rattle.hfs_volume.specs.TreeOf.{BytesOf, tree_in, is_seen, valued}
 use Rattle.hfs_volume.proofs.WorkedVolumes.{no_fork, fresh_head, fresh_catalog, facts, fresh_volume}
 use Rattle.worked_rows.proofs.Rows.{tree_after, grown_in_turn}
 
@@ -126,9 +125,9 @@ unfolding number_at number_bytes extents_at extents_bytes fork_bytes entry_of en
 cut_blocks = refl
 
 -- the tree that the commands leave
-abbrev zeros_of : FileRecord → List ℕ
-zeros_of file = replicate file.data_fork.logical_size 0
+abbrev zeros_of : BytesOf
+zeros_of = record { file = λ file. replicate file.data_fork.logical_size 0; value = λ size extents. replicate size 0 }
 
 grown_tree : tree_in grown zeros_of ≡ tree_after fresh_tree (Ok (command.Create (f ∷ [])) ∷ Ok (command.Create (g ∷ [])) ∷ grown_in_turn f g 0 9)
-unfolding number_at number_bytes extents_at extents_bytes fork_bytes entry_of entry_bytes placed_of attribute_of is_seen tree_in
+unfolding number_at number_bytes extents_at extents_bytes fork_bytes entry_of entry_bytes placed_of attribute_of is_seen valued tree_in
 grown_tree = refl

@@ -70,11 +70,17 @@ a_folder_moves : replies fresh_tree (Ok (command.Mkdir (a ∷ [])) ∷ Ok (comma
     ≡ oks 4 ++ reply.Listing (named false f ∷ []) ∷ folder_facts 19 1 493 ∷ reply.Listing [] ∷ reply.Ok ∷ file_facts 20 0 1 7 ∷ []
 a_folder_moves = refl
 
--- an attribute has 1,700 bytes at most, and is one of the file under each of its names
+-- a value may have a byte more than a record holds; an attribute is one of the file under each of its names
 attributes_of_a_file : replies fresh_tree (Ok (command.Create (a ∷ [])) ∷ Ok (command.SetAttr (a ∷ []) (codes "k") (replicate 1700 120)) ∷ Ok (command.SetAttr (a ∷ []) (codes "k") (replicate 1701 120)) ∷ Ok (command.SetAttr (a ∷ []) (codes "e") [])
     ∷ Ok (command.GetAttr (a ∷ []) (codes "e")) ∷ Ok (command.Ln (a ∷ []) (b ∷ [])) ∷ Ok (command.LsAttr (b ∷ [])) ∷ Ok (command.DelAttr (b ∷ []) (codes "k")) ∷ Ok (command.GetAttr (a ∷ []) (codes "k")) ∷ [])
-    ≡ reply.Ok ∷ reply.Ok ∷ refused refusal.AttributeTooLarge ∷ reply.Ok ∷ reply.Content [] ∷ reply.Ok ∷ reply.Listing (named false (codes "e") ∷ named false (codes "k") ∷ []) ∷ reply.Ok ∷ refused refusal.NoAttribute ∷ []
+    ≡ oks 4 ++ reply.Content [] ∷ reply.Ok ∷ reply.Listing (named false (codes "e") ∷ named false (codes "k") ∷ []) ∷ reply.Ok ∷ refused refusal.NoAttribute ∷ []
 attributes_of_a_file = refl
+
+-- the value of an attribute has 131,072 bytes at most; then it has one, and then there is none
+longest_value : replies fresh_tree (Ok (command.Create (a ∷ [])) ∷ Ok (command.SetAttr (a ∷ []) (codes "k") (replicate 131072 120)) ∷ Ok (command.SetAttr (a ∷ []) (codes "k") (replicate 131073 120)) ∷ Ok (command.SetAttr (a ∷ []) (codes "k") (codes "y"))
+    ∷ Ok (command.GetAttr (a ∷ []) (codes "k")) ∷ Ok (command.DelAttr (a ∷ []) (codes "k")) ∷ Ok (command.LsAttr (a ∷ [])) ∷ [])
+    ≡ oks 2 ++ refused refusal.AttributeTooLarge ∷ reply.Ok ∷ reply.Content (codes "y") ∷ reply.Ok ∷ reply.Listing [] ∷ []
+longest_value = refl
 
 -- ---- long names come and go
 

@@ -1,29 +1,27 @@
-use Rattle.std.proofs.Common.{ℕ, List, sym, subst, ◌∙◌}
-use Rattle.std.specs.Prelude.{IsTrue, Some}
-use Rattle.btree_node.specs.Keys.{attr_cmp}
+use Rattle.std.proofs.Common.{◌≡◌, List, sym, subst, ◌∙◌}
+use Rattle.std.specs.Prelude.{[], IsTrue, slice_index_or}
+use Rattle.btree_node.specs.Keys.{attr_file, attr_units}
+use Rattle.btree_node.specs.Levels.{Pair}
 use Rattle.btree_node.specs.Tree.{pairs_of}
-use Rattle.btree_edit.specs.Answers.{AnswersRemove}
-use Rattle.btree_edit.specs.Sorted.{RemovesPair}
 use Rattle.btree_edit.proofs.EditLaws.{edits_add, takes_both}
-use Rattle.attributes.specs.Owned.{DropsSome, IsFirst}
-use Rattle.attributes.specs.Values.{AreInline}
+use Rattle.attributes.specs.Dropping.{DropsOne, FindsFirst, IsFirstAt, is_named}
+use Rattle.attributes.specs.Values.{AreSpelled}
 use Rattle.attributes.proofs.BeforeEdits.{tree_read, pairs_read, reads_edit_nothing}
-use Rattle.attributes.proofs.Owned.{removal_of_first}
+use Rattle.attributes.proofs.Removing.{removal_of_first}
 use Rattle.attributes.proofs.dropping.drop_first.Goals as goal
 
 pub returns-in-None-clause-dropped : goal.returns-in-None-clause-dropped
 returns-in-None-clause-dropped g c tells =
     let s = g.N.NodeStore.state c.args.store.now in
-    let total = (g.met.N.NodeStore.well_formed c.args.store.now).total in (
-      pairs_read _ s (g.N.NodeStore.state c.first_of.new.store) c.first_of.ensures.reads tells total (c.requires.tree tells),
-      subst (IsFirst c.args.id (pairs_of s)) c.in-None.is (c.in_ok-first_of.ensures.first tells),
-    )
+    let total = (g.met.N.NodeStore.well_formed c.args.store.now).total in
+    let finds = subst (FindsFirst (is_named (attr_file c.args.key.now) (attr_units c.args.key.now)) (pairs_of s) c.args.blocks.now c.first_of.new.blocks) c.in-None.is (c.in_ok-first_of.ensures.found tells) in
+    (pairs_read _ s (g.N.NodeStore.state c.first_of.new.store) c.first_of.ensures.reads tells total (c.requires.tree tells), finds.0, finds.1)
 
 pub returns-in-None-clause-form : goal.returns-in-None-clause-form
 returns-in-None-clause-form g c tells =
     let s = g.N.NodeStore.state c.args.store.now in
     let total = (g.met.N.NodeStore.well_formed c.args.store.now).total in
-    subst AreInline (sym (pairs_read _ s (g.N.NodeStore.state c.first_of.new.store) c.first_of.ensures.reads tells total (c.requires.tree tells))) (c.requires.form tells)
+    subst AreSpelled (sym (pairs_read _ s (g.N.NodeStore.state c.first_of.new.store) c.first_of.ensures.reads tells total (c.requires.tree tells))) (c.requires.form tells)
 
 pub returns-in-None-clause-tree : goal.returns-in-None-clause-tree
 returns-in-None-clause-tree g c tells =
@@ -49,19 +47,22 @@ returns-in_ok-remove_key-in-Some-clause-dropped g c tells =
     let read = g.N.NodeStore.state c.first_of.new.store in
     let new = g.N.NodeStore.state c.remove_key.new.store in
     let tells_read : IsTrue read.tells = c.first_of.ensures.reads.same.tells ∙ tells in
-    let same = pairs_read _ s read c.first_of.ensures.reads tells (g.met.N.NodeStore.well_formed c.args.store.now).total (c.requires.tree tells) in
-    let first : IsFirst c.args.id (pairs_of s) (Some c.in-Some.key) = subst (IsFirst c.args.id (pairs_of s)) c.in-Some.is (c.in_ok-first_of.ensures.first tells) in
-    let answers = subst (λ (l : List ℕ). AnswersRemove attr_cmp l read c.in_ok-remove_key-in-Some.field-0) c.as_slice.ensures (c.in_ok-remove_key-in-Some.ensures.answer tells_read) in
-    let removes = subst (λ (l : List ℕ). RemovesPair attr_cmp l (pairs_of read) (pairs_of new) c.in_ok-remove_key-in-Some.field-0) c.as_slice.ensures (c.in_ok-remove_key-in-Some.ensures.pairs tells_read) in
-    subst (λ l. DropsSome c.args.id 1 l (pairs_of new)) same
-    (removal_of_first c.args.id c.in-Some.key read (pairs_of new) c.in_ok-remove_key-in-Some.field-0 (subst (λ l. IsFirst c.args.id l (Some c.in-Some.key)) (sym same) first) answers removes)
+    let total = (g.met.N.NodeStore.well_formed c.args.store.now).total in
+    let tree = tree_read _ s read c.first_of.ensures.reads tells total (c.requires.tree tells) in
+    let same = pairs_read _ s read c.first_of.ensures.reads tells total (c.requires.tree tells) in
+    let found = subst (FindsFirst (is_named (attr_file c.args.key.now) (attr_units c.args.key.now)) (pairs_of s) c.args.blocks.now c.first_of.new.blocks) c.in-Some.is (c.in_ok-first_of.ensures.found tells) in
+    let first = subst (λ l. IsFirstAt (is_named (attr_file c.args.key.now) (attr_units c.args.key.now)) l found.0) (sym same) found.1 in
+    let own = subst (λ (l : List Pair). (slice_index_or l found.0 ([], [])).0 ≡ c.in-Some.own) (sym same) found.2 in
+    let gone = removal_of_first (is_named (attr_file c.args.key.now) (attr_units c.args.key.now)) (c.as_slice.result.now) c.in-Some.own read (pairs_of new) c.in_ok-remove_key-in-Some.field-0 tree found.0 first own (sym c.as_slice.ensures)
+    (c.in_ok-remove_key-in-Some.ensures.answer tells_read) (c.in_ok-remove_key-in-Some.ensures.pairs tells_read) in
+    (slice_index_or (pairs_of s) found.0 ([], []), subst (λ l. DropsOne (is_named (attr_file c.args.key.now) (attr_units c.args.key.now)) (slice_index_or l found.0 ([], [])) l (pairs_of new)) same gone, found.3)
 
 pub returns-in_ok-remove_key-in-Some-clause-form : goal.returns-in_ok-remove_key-in-Some-clause-form
 returns-in_ok-remove_key-in-Some-clause-form g c tells =
     let s = g.N.NodeStore.state c.args.store.now in
     let total = (g.met.N.NodeStore.well_formed c.args.store.now).total in
     c.in_ok-remove_key-in-Some.ensures.form (c.first_of.ensures.reads.same.tells ∙ tells)
-    (subst AreInline (sym (pairs_read _ s (g.N.NodeStore.state c.first_of.new.store) c.first_of.ensures.reads tells total (c.requires.tree tells))) (c.requires.form tells))
+    (subst AreSpelled (sym (pairs_read _ s (g.N.NodeStore.state c.first_of.new.store) c.first_of.ensures.reads tells total (c.requires.tree tells))) (c.requires.form tells))
 
 pub returns-in_ok-remove_key-in-Some-clause-edits : goal.returns-in_ok-remove_key-in-Some-clause-edits
 returns-in_ok-remove_key-in-Some-clause-edits g c =

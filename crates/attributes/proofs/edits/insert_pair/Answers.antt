@@ -1,4 +1,4 @@
-use Rattle.std.proofs.Common.{◌≡◌, ◌≤◌, ◌+◌, arith}
+use Rattle.std.proofs.Common.{◌≤◌, ◌+◌}
 use Rattle.btree_edit.proofs.EditLaws.{room_for_one, takes_one}
 use Rattle.attributes.proofs.SingleEdits.{one_edit}
 use Rattle.attributes.proofs.edits.insert_pair.Goals as goal

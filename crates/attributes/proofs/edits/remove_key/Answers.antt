@@ -1,7 +1,7 @@
 use Rattle.std.proofs.Common.{◌≤◌, arith}
 use Rattle.btree_node.specs.Tree.{pairs_of}
 use Rattle.btree_edit.proofs.EditLaws.{room_for_one, takes_one}
-use Rattle.attributes.proofs.SingleEdits.{one_edit, removal_drops, removal_inline}
+use Rattle.attributes.proofs.SingleEdits.{one_edit, removal_spelled}
 use Rattle.attributes.proofs.edits.remove_key.Goals as goal
 
 pub remove-requires-clause-depth : goal.remove-requires-clause-depth
@@ -13,13 +13,10 @@ remove-requires-clause-free g c tells varying = (room_for_one 0 266 (g.N.NodeSto
 pub remove-requires-clause-room : goal.remove-requires-clause-room
 remove-requires-clause-room g c tells = (room_for_one 0 266 (g.N.NodeStore.state c.args.store.now) c.requires.room tells).room
 
-pub returns-clause-dropped : goal.returns-clause-dropped
-returns-clause-dropped g c tells inline start =
-    removal_drops c.remove.result c.args.key.now (g.N.NodeStore.state c.args.store.now) (pairs_of (g.N.NodeStore.state c.remove.new.store)) (c.requires.tree tells) inline start (c.remove.ensures.answer tells) (c.remove.ensures.pairs tells)
-
 pub returns-clause-form : goal.returns-clause-form
-returns-clause-form g c tells inline =
-    removal_inline c.remove.result c.args.key.now (g.N.NodeStore.state c.args.store.now) (pairs_of (g.N.NodeStore.state c.remove.new.store)) inline (c.remove.ensures.pairs tells)
+returns-clause-form g c tells spelled =
+    let s = g.N.NodeStore.state c.args.store.now in
+    removal_spelled c.remove.result c.args.key.now (pairs_of s) (pairs_of (g.N.NodeStore.state c.remove.new.store)) spelled (c.remove.ensures.pairs tells)
 
 pub returns-clause-takes : goal.returns-clause-takes
 returns-clause-takes g c = takes_one 266 (g.N.NodeStore.state c.args.store.now) (g.N.NodeStore.state c.remove.new.store) c.remove.ensures.does

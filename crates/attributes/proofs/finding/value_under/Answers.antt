@@ -1,27 +1,52 @@
-use Rattle.std.proofs.Common.{◌≡◌, true, sym, subst}
-use Rattle.std.specs.Prelude.{Some, IfOk, IsTrue}
+use Rattle.std.proofs.Common.{sym, ◌∙◌, ap, subst, arith}
+use Rattle.std.specs.Prelude.{IsTrue}
 use Rattle.btree_node.specs.Keys.{attr_cmp, attr_file, attr_units}
-use Rattle.btree_node.specs.Tree.{pairs_of}
 use Rattle.btree_edit.specs.Desk.{Finds}
-use Rattle.cat_records.specs.Attributes.{attr_of, is_attr}
-use Rattle.hfs_volume.specs.Records.{inline_bytes, is_inline}
-use Rattle.attributes.specs.Values.{value_at}
-use Rattle.attributes.proofs.Answers.{ok_is}
-use Rattle.attributes.proofs.Values.{found_holds, none_there}
+use Rattle.attributes.specs.Values.{AreValued, records_at, value_at}
+use Rattle.attributes.proofs.Answers.{if_ok, on_ok}
+use Rattle.attributes.proofs.BeforeEdits.{pairs_read, tree_read}
+use Rattle.attributes.proofs.Held.{holds_same}
+use Rattle.attributes.proofs.Told.{no_key_no_value}
 use Rattle.attributes.proofs.finding.value_under.Goals as goal
-
-pub returns-in-At-clause-found : goal.returns-in-At-clause-found
-returns-in-At-clause-found g c tells =
-    let s = g.N.NodeStore.state c.args.store.now in
-    let finds = subst (λ found. Finds attr_cmp c.args.key.now s c.find.new.desk found) c.in-At.is (c.in_ok-find.ensures.found tells) in
-    let holds = found_holds s c.find.new.desk c.args.key.now (c.requires.tree tells) (c.requires.form tells) c.requires.start finds.0 finds.1.0 finds.1.1 in
-    let value = c.value.ensures in
-    let read = subst (λ v. IfOk c.read_value.result (λ found. found ≡ Some (inline_bytes (attr_of v)))) value
-    (c.read_value.ensures.read (subst (λ v. IsTrue (is_attr v)) (sym value) holds.spelled) (subst (λ v. is_inline (attr_of v) ≡ true) (sym value) holds.inline)) in
-    ok_is c.read_value.result (Some (inline_bytes (attr_of c.find.new.desk.held.value))) (value_at (pairs_of s) (attr_file c.args.key.now) (attr_units c.args.key.now)) read (sym holds.found)
 
 pub returns-in-Absent-clause-found : goal.returns-in-Absent-clause-found
 returns-in-Absent-clause-found g c tells =
     let s = g.N.NodeStore.state c.args.store.now in
-    let finds = subst (λ found. Finds attr_cmp c.args.key.now s c.find.new.desk found) c.in-Absent.is (c.in_ok-find.ensures.found tells) in
-    sym (none_there c.args.key.now (pairs_of s) (c.requires.form tells) c.requires.start finds.0)
+    let finds = subst (Finds attr_cmp c.args.key.now s c.find.new.desk) c.in-Absent.is (c.in_ok-find.ensures.found tells) in
+    sym (no_key_no_value c.args.key.now s (c.requires.tree tells) (c.requires.form tells) c.requires.start finds.0)
+
+pub value_held-requires-clause-tree : goal.value_held-requires-clause-tree
+value_held-requires-clause-tree g c tells_read =
+    let s = g.N.NodeStore.state c.args.store.now in
+    let tells : IsTrue s.tells = sym c.find.ensures.reads.same.tells ∙ tells_read in
+    tree_read _ s (g.N.NodeStore.state c.find.new.store) c.find.ensures.reads tells (g.met.N.NodeStore.well_formed c.args.store.now).total (c.requires.tree tells)
+
+pub value_held-requires-clause-form : goal.value_held-requires-clause-form
+value_held-requires-clause-form g c tells_read =
+    let s = g.N.NodeStore.state c.args.store.now in
+    let tells : IsTrue s.tells = sym c.find.ensures.reads.same.tells ∙ tells_read in
+    subst AreValued (sym (pairs_read _ s (g.N.NodeStore.state c.find.new.store) c.find.ensures.reads tells (g.met.N.NodeStore.well_formed c.args.store.now).total (c.requires.tree tells))) (c.requires.form tells)
+
+pub value_held-requires-clause-held : goal.value_held-requires-clause-held
+value_held-requires-clause-held g c tells_read =
+    let s = g.N.NodeStore.state c.args.store.now in
+    let read = g.N.NodeStore.state c.find.new.store in
+    let tells : IsTrue s.tells = sym c.find.ensures.reads.same.tells ∙ tells_read in
+    let same = pairs_read _ s read c.find.ensures.reads tells (g.met.N.NodeStore.well_formed c.args.store.now).total (c.requires.tree tells) in
+    let finds = subst (Finds attr_cmp c.args.key.now s c.find.new.desk) c.in-At.is (c.in_ok-find.ensures.found tells) in
+    (finds.1.0, holds_same c.find.new.desk s read (sym same) finds.1.0 finds.1.1, finds.0)
+
+pub returns-in-At-clause-found : goal.returns-in-At-clause-found
+returns-in-At-clause-found g c tells =
+    let s = g.N.NodeStore.state c.args.store.now in
+    let read = g.N.NodeStore.state c.find.new.store in
+    let same = pairs_read _ s read c.find.ensures.reads tells (g.met.N.NodeStore.well_formed c.args.store.now).total (c.requires.tree tells) in
+    if_ok c.value_held.result (λ found is. is ∙ ap (λ l. value_at l (attr_file c.args.key.now) (attr_units c.args.key.now)) same) (c.value_held.ensures.found (c.find.ensures.reads.same.tells ∙ tells))
+
+pub returns-in-At-clause-loads : goal.returns-in-At-clause-loads
+returns-in-At-clause-loads g c tells =
+    let s = g.N.NodeStore.state c.args.store.now in
+    let read = g.N.NodeStore.state c.find.new.store in
+    let same = pairs_read _ s read c.find.ensures.reads tells (g.met.N.NodeStore.well_formed c.args.store.now).total (c.requires.tree tells) in
+    on_ok c.value_held.result (λ few. omega (arith, few, c.find.ensures.reads.loads, ap (λ h. h.depth) c.find.ensures.reads.shape, ap (λ l. records_at l (attr_file c.args.key.now) (attr_units c.args.key.now)) same))
+    (c.value_held.ensures.loads (c.find.ensures.reads.same.tells ∙ tells))

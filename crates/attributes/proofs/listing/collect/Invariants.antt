@@ -1,4 +1,4 @@
-use Rattle.std.proofs.Common.{◌≡◌, ◌≤◌, ◌+◌, length}
+use Rattle.std.proofs.Common.{◌≡◌, ◌≤◌, ◌+◌}
 use Rattle.std.specs.Prelude.{IsTrue}
 use Rattle.btree_node.specs.Keys.{IsAttrKey, attr_cmp}
 use Rattle.btree_node.specs.Node.{IsNode}
@@ -11,7 +11,6 @@ use Rattle.attributes.proofs.listing.collect.Given as goal
 abbrev pub invariant-loop-passed : goal.invariant-loop-passed
 invariant-loop-passed g l = let before = g.N.NodeStore.state l.fn.store in let now = g.N.NodeStore.state l.store in record {
   within : l._passed ≤ l.many;
-  count : length l.names ≡ l._passed;
   desk : IsDeskOf before.shape.node_size l.desk;
   well_formed : IsNode l.desk.node;
   pairs : IsTrue before.tells → pairs_of now ≡ pairs_of before;

@@ -1,39 +1,41 @@
-use Rattle.std.proofs.Common.{◌≡◌, ◌≤◌, ℕ, length, sym, ◌∙◌, ap, subst}
-use Rattle.std.specs.Prelude.{All}
+use Rattle.std.proofs.Common.{◌≡◌, ℕ, sym, ◌∙◌, ap, subst}
 use Rattle.std.specs.List.Sorted.{IsNonDecreasing}
 use Rattle.alloc_bitmap.specs.Apart.{times}
-use Rattle.btree_node.specs.Levels.{Pair}
 use Rattle.hfs_volume.specs.Attributes.{journal_extent, info_extent}
-use Rattle.fsck_core.specs.Attributes.{owner_count}
+use Rattle.fsck_core.specs.Attributes.{AreOwnersOf, owner_count}
 use Rattle.fsck_core.specs.Overflows.{overflows_in}
 use Rattle.fsck_core.proofs.LinkLaws.{keys_long}
-use Rattle.fsck_core.proofs.AttributeLaws.{each_adds, journal_adds, block_adds, attributes_decided}
+use Rattle.fsck_core.proofs.AttributeLaws.{attributes_are_of, each_adds, journal_adds, block_adds, attributes_decided}
+use Rattle.fsck_core.proofs.RecordJudged.{owners_of}
 use Rattle.fsck_core.proofs.attributes.judge_attributes.Goals as goal
 
 pub returns-in_err-each-clause-each : goal.returns-in_err-each-clause-each
 returns-in_err-each-clause-each c volume ready has =
     let same : (id : ℕ) → times id c.deref.result.now ≡ owner_count c.args.rows.now id = λ id. ap (times id) c.deref.ensures.value ∙ c.in_ok-owners.ensures.same id in
     let rises : IsNonDecreasing c.deref.result.now = subst IsNonDecreasing (sym c.deref.ensures.value) c.in_ok-owners.ensures.order in
-    let keys : All (λ (pair : Pair). 14 ≤ length pair.0) c.args.attributes.now = λ k d inside. (has.keys k d inside).long in
-    each_adds volume c.args.pairs.now c.args.rows.now ready c.args.head.now c.args.info.now (overflows_in c.args.overflow.now) c.args.attributes.now has c.deref.result.now same c.args.out.now c.judge_each.new.out (c.judge_each.ensures.each keys rises)
+    let own : AreOwnersOf volume c.deref.result.now = owners_of volume c.args.rows.now c.deref.result.now ready.rows_are rises same in
+    let are = attributes_are_of volume c.args.pairs.now c.args.rows.now ready c.args.head.now c.args.info.now (overflows_in c.args.overflow.now) c.args.attributes.now has in
+    each_adds volume c.args.pairs.now c.args.rows.now ready c.args.head.now c.args.info.now (overflows_in c.args.overflow.now) c.args.attributes.now has c.args.out.now c.judge_records.new.out (c.judge_records.ensures.each volume are own)
 
 pub returns-in_err-one-clause-each : goal.returns-in_err-one-clause-each
 returns-in_err-one-clause-each c volume ready has =
     let same : (id : ℕ) → times id c.deref.result.now ≡ owner_count c.args.rows.now id = λ id. ap (times id) c.deref.ensures.value ∙ c.in_ok-owners.ensures.same id in
     let rises : IsNonDecreasing c.deref.result.now = subst IsNonDecreasing (sym c.deref.ensures.value) c.in_ok-owners.ensures.order in
-    let keys : All (λ (pair : Pair). 14 ≤ length pair.0) c.args.attributes.now = λ k d inside. (has.keys k d inside).long in
-    journal_adds volume c.args.pairs.now c.args.rows.now ready c.args.head.now c.args.info.now (overflows_in c.args.overflow.now) c.args.attributes.now has c.deref.result.now same c.as_slice.result.now c.args.out.now c.judge_each.new.out c.judge_journal_file.new.out c.as_slice.ensures
-    (each_adds volume c.args.pairs.now c.args.rows.now ready c.args.head.now c.args.info.now (overflows_in c.args.overflow.now) c.args.attributes.now has c.deref.result.now same c.args.out.now c.judge_each.new.out (c.judge_each.ensures.each keys rises))
+    let own : AreOwnersOf volume c.deref.result.now = owners_of volume c.args.rows.now c.deref.result.now ready.rows_are rises same in
+    let are = attributes_are_of volume c.args.pairs.now c.args.rows.now ready c.args.head.now c.args.info.now (overflows_in c.args.overflow.now) c.args.attributes.now has in
+    journal_adds volume c.args.pairs.now c.args.rows.now ready c.args.head.now c.args.info.now (overflows_in c.args.overflow.now) c.args.attributes.now has c.as_slice.result.now c.args.out.now c.judge_records.new.out c.judge_journal_file.new.out c.as_slice.ensures
+    (each_adds volume c.args.pairs.now c.args.rows.now ready c.args.head.now c.args.info.now (overflows_in c.args.overflow.now) c.args.attributes.now has c.args.out.now c.judge_records.new.out (c.judge_records.ensures.each volume are own))
     (c.judge_journal_file.ensures.each (journal_extent c.args.head.now (record { offset = c.args.info.now.offset; size = c.args.info.now.size })) (keys_long volume c.args.pairs.now c.args.rows.now ready) (c.journal_blocks-journal.ensures has.some))
 
 pub returns-in_err-other-clause-each : goal.returns-in_err-other-clause-each
 returns-in_err-other-clause-each c volume ready has =
     let same : (id : ℕ) → times id c.deref.result.now ≡ owner_count c.args.rows.now id = λ id. ap (times id) c.deref.ensures.value ∙ c.in_ok-owners.ensures.same id in
     let rises : IsNonDecreasing c.deref.result.now = subst IsNonDecreasing (sym c.deref.ensures.value) c.in_ok-owners.ensures.order in
-    let keys : All (λ (pair : Pair). 14 ≤ length pair.0) c.args.attributes.now = λ k d inside. (has.keys k d inside).long in
-    block_adds volume c.args.pairs.now c.args.rows.now ready c.args.head.now c.args.info.now (overflows_in c.args.overflow.now) c.args.attributes.now has c.deref.result.now same c.as_slice-2.result.now c.args.out.now c.judge_journal_file.new.out c.judge_journal_file-2.new.out c.as_slice-2.ensures
-    (journal_adds volume c.args.pairs.now c.args.rows.now ready c.args.head.now c.args.info.now (overflows_in c.args.overflow.now) c.args.attributes.now has c.deref.result.now same c.as_slice.result.now c.args.out.now c.judge_each.new.out c.judge_journal_file.new.out c.as_slice.ensures
-    (each_adds volume c.args.pairs.now c.args.rows.now ready c.args.head.now c.args.info.now (overflows_in c.args.overflow.now) c.args.attributes.now has c.deref.result.now same c.args.out.now c.judge_each.new.out (c.judge_each.ensures.each keys rises))
+    let own : AreOwnersOf volume c.deref.result.now = owners_of volume c.args.rows.now c.deref.result.now ready.rows_are rises same in
+    let are = attributes_are_of volume c.args.pairs.now c.args.rows.now ready c.args.head.now c.args.info.now (overflows_in c.args.overflow.now) c.args.attributes.now has in
+    block_adds volume c.args.pairs.now c.args.rows.now ready c.args.head.now c.args.info.now (overflows_in c.args.overflow.now) c.args.attributes.now has c.as_slice-2.result.now c.args.out.now c.judge_journal_file.new.out c.judge_journal_file-2.new.out c.as_slice-2.ensures
+    (journal_adds volume c.args.pairs.now c.args.rows.now ready c.args.head.now c.args.info.now (overflows_in c.args.overflow.now) c.args.attributes.now has c.as_slice.result.now c.args.out.now c.judge_records.new.out c.judge_journal_file.new.out c.as_slice.ensures
+    (each_adds volume c.args.pairs.now c.args.rows.now ready c.args.head.now c.args.info.now (overflows_in c.args.overflow.now) c.args.attributes.now has c.args.out.now c.judge_records.new.out (c.judge_records.ensures.each volume are own))
     (c.judge_journal_file.ensures.each (journal_extent c.args.head.now (record { offset = c.args.info.now.offset; size = c.args.info.now.size })) (keys_long volume c.args.pairs.now c.args.rows.now ready) (c.journal_blocks-journal.ensures has.some)))
     (c.judge_journal_file-2.ensures.each (info_extent c.args.head.now) (keys_long volume c.args.pairs.now c.args.rows.now ready) c.info_blocks-info_block.ensures)
 
@@ -41,10 +43,11 @@ pub returns-clause-decided : goal.returns-clause-decided
 returns-clause-decided c volume ready has =
     let same : (id : ℕ) → times id c.deref.result.now ≡ owner_count c.args.rows.now id = λ id. ap (times id) c.deref.ensures.value ∙ c.in_ok-owners.ensures.same id in
     let rises : IsNonDecreasing c.deref.result.now = subst IsNonDecreasing (sym c.deref.ensures.value) c.in_ok-owners.ensures.order in
-    let keys : All (λ (pair : Pair). 14 ≤ length pair.0) c.args.attributes.now = λ k d inside. (has.keys k d inside).long in
-    attributes_decided volume c.args.pairs.now c.args.rows.now ready c.args.head.now c.args.info.now (overflows_in c.args.overflow.now) c.args.attributes.now has c.deref.result.now same c.as_slice.result.now c.as_slice-2.result.now c.args.out.now c.judge_each.new.out c.judge_journal_file.new.out c.judge_journal_file-2.new.out
+    let own : AreOwnersOf volume c.deref.result.now = owners_of volume c.args.rows.now c.deref.result.now ready.rows_are rises same in
+    let are = attributes_are_of volume c.args.pairs.now c.args.rows.now ready c.args.head.now c.args.info.now (overflows_in c.args.overflow.now) c.args.attributes.now has in
+    attributes_decided volume c.args.pairs.now c.args.rows.now ready c.args.head.now c.args.info.now (overflows_in c.args.overflow.now) c.args.attributes.now has c.as_slice.result.now c.as_slice-2.result.now c.args.out.now c.judge_records.new.out c.judge_journal_file.new.out c.judge_journal_file-2.new.out
     c.in_ok-each.each c.in_ok-one.one c.in_ok-other.other c.both.result c.both-2.result c.as_slice.ensures c.as_slice-2.ensures c.both.ensures c.both-2.ensures
-    (c.in_ok-each.ensures.decided keys rises)
+    (c.in_ok-each.ensures.judged volume are own)
     (c.in_ok-one.ensures.decided (journal_extent c.args.head.now (record { offset = c.args.info.now.offset; size = c.args.info.now.size })) (keys_long volume c.args.pairs.now c.args.rows.now ready) (c.journal_blocks-journal.ensures has.some))
     (c.in_ok-other.ensures.decided (info_extent c.args.head.now) (keys_long volume c.args.pairs.now c.args.rows.now ready) c.info_blocks-info_block.ensures)
 

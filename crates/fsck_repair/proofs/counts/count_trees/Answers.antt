@@ -8,7 +8,7 @@ use Rattle.fsck_core.specs.Overflows.{overflows_in}
 use Rattle.fsck_core.specs.declared.overflow.OverflowRow.{OverflowRow}
 use Rattle.fsck_core.proofs.ListJoins.{at_none, at_some}
 use Rattle.fsck_repair.specs.Counted.{AreEntriesOf}
-use Rattle.fsck_repair.proofs.CountTelling.{overflow_is, head_is, catalog_is, no_kinds, no_inside, no_once, can_mend, fork_is, sectors_of_volume, keys_there, sorted_there}
+use Rattle.fsck_repair.proofs.CountTelling.{overflow_is, head_is, catalog_is, attributes_are, no_kinds, no_inside, no_once, can_mend, fork_is, sectors_of_volume, keys_there, sorted_there}
 use Rattle.fsck_repair.proofs.counts.count_trees.Goals as goal
 
 pub mark_once-requires-clause-spelled : goal.mark_once-requires-clause-spelled
@@ -31,7 +31,7 @@ returns-in_default-clause-counted c content sectors has sized are =
     let volume = volume_of content in
     let rows = ap (λ (l : List OverflowRow). overflows_in l) c.deref-2.ensures.value ∙ overflow_is content c.args.headers c.args.tree c.args.trees.now has sized are in
     no_once content c.args.headers c.args.tree c.args.trees.now has sized are
-    (at_none c.in_ok-used.field-0 _ _ c.in_default.is (c.in_ok-used.ensures volume (sectors ∙ sectors_of_volume content) (head_is content c.args.headers c.args.tree c.args.trees.now has sized are) rows (catalog_is content c.args.headers c.args.tree c.args.trees.now has sized are)))
+    (at_none c.in_ok-found.found _ _ c.in_default.is (c.in_ok-found.ensures volume (sectors ∙ sectors_of_volume content) (head_is content c.args.headers c.args.tree c.args.trees.now has sized are) rows (catalog_is content c.args.headers c.args.tree c.args.trees.now has sized are) (attributes_are content c.args.headers c.args.tree c.args.trees.now has sized are)))
 
 pub returns-clause-counted : goal.returns-clause-counted
 returns-clause-counted c content sectors has sized are =
@@ -41,7 +41,7 @@ returns-clause-counted c content sectors has sized are =
     let rows_2 = ap (λ (l : List OverflowRow). overflows_in l) c.deref-2.ensures.value ∙ same in
     let rows_3 = ap (λ (l : List OverflowRow). overflows_in l) c.deref-3.ensures.value ∙ same in
     let extents = c.in_ok-allocation.ensures ∙ ap (λ (o : List Overflow). extents_of o allocation_id data_kind c.args.headers.head.allocation_fork) rows in
-    let once = at_some c.in_ok-used.field-0 c.in-Some.used _ _ c.in-Some.is (c.in_ok-used.ensures volume (sectors ∙ sectors_of_volume content) (head_is content c.args.headers c.args.tree c.args.trees.now has sized are) rows_2 (catalog_is content c.args.headers c.args.tree c.args.trees.now has sized are)) in
+    let once = at_some c.in_ok-found.found c.in-Some.used _ _ c.in-Some.is (c.in_ok-found.ensures volume (sectors ∙ sectors_of_volume content) (head_is content c.args.headers c.args.tree c.args.trees.now has sized are) rows_2 (catalog_is content c.args.headers c.args.tree c.args.trees.now has sized are) (attributes_are content c.args.headers c.args.tree c.args.trees.now has sized are)) in
     let kept = catalog_is content c.args.headers c.args.tree c.args.trees.now has sized are in
     record {
       mendable = can_mend content c.args.headers c.args.tree c.args.trees.now has sized are c.as_slice.result.now c.in_ok-kinds.kinds c.lie_inside.result (c.as_slice.ensures ∙ extents) c.if-not-kinds.false c.in_ok-kinds.ensures c.if-not-lie_inside.false c.lie_inside.ensures once.0;

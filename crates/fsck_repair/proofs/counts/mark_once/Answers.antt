@@ -19,9 +19,9 @@ pub mark_used-requires : goal.mark_used-requires
 mark_used-requires c = marks_fit c.in_ok-used.used c.args.head.now.total_blocks (omega (arith, total_few c.args.sectors c.args.head.now c.requires.good)) c.in_ok-used.ensures
 
 pub returns-then-apart : goal.returns-then-apart
-returns-then-apart c volume sectors head overflow catalog =
+returns-then-apart c volume sectors head overflow catalog attributes =
     let forks = ap (λ (l : List OwnedFork). owned_all l) c.deref.ensures.value ∙ c.in_ok-forks.ensures ∙ (λ i. all_forks (head i) (placed_in (catalog i))) in
-    let used = c.in_ok-extents.ensures volume sectors head overflow forks in
+    let used = c.in_ok-extents.ensures volume sectors head overflow forks attributes in
     let none = c.in_ok-used.ensures ∙ ap (λ (h : VolumeHeader). replicate h.total_blocks false) head in
     let apart = (c.in_ok-apart.ensures.apart volume used none).0 c.if-apart.true in (
       all_of (λ block. times block (used_in volume) ≤ 1) (blocks_written volume) (λ block stands. apart block),
@@ -29,16 +29,16 @@ returns-then-apart c volume sectors head overflow catalog =
     )
 
 pub returns-then-not-once : goal.returns-then-not-once
-returns-then-not-once c volume sectors head overflow catalog has =
+returns-then-not-once c volume sectors head overflow catalog attributes has =
     let forks = ap (λ (l : List OwnedFork). owned_all l) c.deref.ensures.value ∙ c.in_ok-forks.ensures ∙ (λ i. all_forks (head i) (placed_in (catalog i))) in
-    let used = c.in_ok-extents.ensures volume sectors head overflow forks in
+    let used = c.in_ok-extents.ensures volume sectors head overflow forks attributes in
     let writes = c.in_ok-written.ensures volume sectors head overflow in
     true≢false (sym ((once_told volume c.in_ok-extents.extents c.in_ok-written.written c.in_ok-once.once used writes c.in_ok-once.ensures).1 has) ∙ c.if-not-once.true)
 
 pub returns : goal.returns
-returns c volume sectors head overflow catalog =
+returns c volume sectors head overflow catalog attributes =
     let forks = ap (λ (l : List OwnedFork). owned_all l) c.deref.ensures.value ∙ c.in_ok-forks.ensures ∙ (λ i. all_forks (head i) (placed_in (catalog i))) in
-    let used = c.in_ok-extents.ensures volume sectors head overflow forks in
+    let used = c.in_ok-extents.ensures volume sectors head overflow forks attributes in
     let none = c.in_ok-used.ensures ∙ ap (λ (h : VolumeHeader). replicate h.total_blocks false) head in
     let writes = c.in_ok-written.ensures volume sectors head overflow in (
       (once_told volume c.in_ok-extents.extents c.in_ok-written.written c.in_ok-once.once used writes c.in_ok-once.ensures).0 c.if-not-once.false,

@@ -1,9 +1,11 @@
-use Rattle.std.proofs.Common.{◌∙◌, sym, subst}
+use Rattle.std.proofs.Common.{◌∙◌, ◌+◌, ◌*◌, sym, subst, arith}
 use Rattle.std.specs.Prelude.{IsTrue}
-use Rattle.hfs_serving.proofs.Going.{batch_rests, lines_stop, on_err, rested_stops, stands_in_lines, stands_rested, stands_there}
+use Rattle.hfs_serving.proofs.Going.{on_err, stands_there}
+use Rattle.hfs_serving.proofs.Speeches.{batch_rests, lines_end, rested_stops, stands_in_lines, stands_rested}
 use Rattle.std.proofs.lemmas.Result.{err_from_is_err_and}
 use Rattle.hfs_serving.proofs.Numbering.{no_trouble, too_many}
 use Rattle.hfs_serving.proofs.Causes.{counts_both, counts_none, fine_stop, handed_on, handed_stop}
+use Rattle.hfs_serving.proofs.Caused.{commits_on}
 use Rattle.hfs_serving.proofs.batch.serve_batch.Goals as goal
 
 pub returns-in_err-count-clause-stops : goal.returns-in_err-count-clause-stops
@@ -21,7 +23,7 @@ come_to_rest-requires-clause-stands g c tells_new =
     let there = c.requires.stands tells in
     let first = c.in_ok-count.ensures.goes tells there.0 there.1 there.2 there.3 there.4 in
     let space = g.G.SectorView.space c.serve_lines.new.base in
-    (there.0, first.goes.last, first.goes.next, _, stands_in_lines there.0 there.3 there.1 there.2 (g.G.Ground.outside c.args.base.now) c.args.number c.args.lines.now c.args.told.now c.in_ok-count.count (g.V.Volume.knows c.serve_lines.new.volume space there.0) c.serve_lines.new.told space (g.G.Ground.outside c.serve_lines.new.base) first)
+    (there.0, first.goes.last, first.goes.next, _, stands_in_lines there.0 there.3 there.1 there.2 (g.G.Ground.outside c.args.base.now) c.args.number (g.K.Speaker.spoke c.args.speaker.now) (g.K.Speaker.spoke c.serve_lines.new.speaker) c.args.lines.now c.args.told.now c.in_ok-count.count c.in_ok-count.ensures.few (g.V.Volume.knows c.serve_lines.new.volume space there.0) c.serve_lines.new.told space (g.G.Ground.outside c.serve_lines.new.base) first)
 
 pub returns-in_err-come_to_rest-clause-stops : goal.returns-in_err-come_to_rest-clause-stops
 returns-in_err-come_to_rest-clause-stops g c tells capacity start shrunk stands =
@@ -30,9 +32,9 @@ returns-in_err-come_to_rest-clause-stops g c tells capacity start shrunk stands 
     let mid = g.G.Ground.outside c.serve_lines.new.base in
     let knows = g.V.Volume.knows c.serve_lines.new.volume space capacity in
     let first = c.in_ok-count.ensures.goes tells capacity start start shrunk stands in
-    let there = stands_in_lines capacity shrunk start start old c.args.number c.args.lines.now c.args.told.now c.in_ok-count.count knows c.serve_lines.new.told space mid first in
+    let there = stands_in_lines capacity shrunk start start old c.args.number (g.K.Speaker.spoke c.args.speaker.now) (g.K.Speaker.spoke c.serve_lines.new.speaker) c.args.lines.now c.args.told.now c.in_ok-count.count c.in_ok-count.ensures.few knows c.serve_lines.new.told space mid first in
     on_err c.from_residual-in_err-come_to_rest.result
-    (lines_stop capacity shrunk start start old c.args.number c.args.lines.now c.args.told.now c.in_ok-count.count knows c.serve_lines.new.told space mid first (g.G.Ground.outside c.come_to_rest.new.base)
+    (lines_end capacity shrunk start start old c.args.number (g.K.Speaker.spoke c.args.speaker.now) (g.K.Speaker.spoke c.serve_lines.new.speaker) c.args.lines.now c.args.told.now c.in_ok-count.count c.in_ok-count.ensures.few knows c.serve_lines.new.told space mid first g.K.Speaker.broken (g.met.K.Speaker.whole c.serve_lines.new.speaker) (g.G.Ground.outside c.come_to_rest.new.base)
     (c.in_err-come_to_rest.ensures.stops (c.in_ok-count.ensures.tells ∙ tells) capacity first.goes.last first.goes.next _ there))
 
 pub commit-requires-clause-serves : goal.commit-requires-clause-serves
@@ -52,7 +54,7 @@ commit-requires-clause-stands g c tells_new =
     let space = g.G.SectorView.space c.serve_lines.new.base in
     let mid = g.G.Ground.outside c.serve_lines.new.base in
     let knows = g.V.Volume.knows c.serve_lines.new.volume space capacity in
-    let there = stands_in_lines capacity given.3 given.1 given.2 (g.G.Ground.outside c.args.base.now) c.args.number c.args.lines.now c.args.told.now c.in_ok-count.count knows c.serve_lines.new.told space mid first in
+    let there = stands_in_lines capacity given.3 given.1 given.2 (g.G.Ground.outside c.args.base.now) c.args.number (g.K.Speaker.spoke c.args.speaker.now) (g.K.Speaker.spoke c.serve_lines.new.speaker) c.args.lines.now c.args.told.now c.in_ok-count.count c.in_ok-count.ensures.few knows c.serve_lines.new.told space mid first in
     let new = g.G.SectorView.space c.come_to_rest.new.base in
     let end = g.G.Ground.outside c.come_to_rest.new.base in
     let knows_mid = g.V.Volume.knows c.come_to_rest.new.volume new capacity in
@@ -67,13 +69,13 @@ returns-in_err-commit-clause-stops g c tells capacity start shrunk stands =
     let space = g.G.SectorView.space c.serve_lines.new.base in
     let mid = g.G.Ground.outside c.serve_lines.new.base in
     let knows = g.V.Volume.knows c.serve_lines.new.volume space capacity in
-    let there = stands_in_lines capacity shrunk start start old c.args.number c.args.lines.now c.args.told.now c.in_ok-count.count knows c.serve_lines.new.told space mid first in
+    let there = stands_in_lines capacity shrunk start start old c.args.number (g.K.Speaker.spoke c.args.speaker.now) (g.K.Speaker.spoke c.serve_lines.new.speaker) c.args.lines.now c.args.told.now c.in_ok-count.count c.in_ok-count.ensures.few knows c.serve_lines.new.told space mid first in
     let new = g.G.SectorView.space c.come_to_rest.new.base in
     let end = g.G.Ground.outside c.come_to_rest.new.base in
     let knows_mid = g.V.Volume.knows c.come_to_rest.new.volume new capacity in
     let rested = c.in_ok-come_to_rest.ensures.rests tells_mid capacity first.goes.last first.goes.next _ there in
     on_err c.from_residual-in_err-commit.result
-    (rested_stops c.in_ok-count.count capacity shrunk start old c.args.number c.args.lines.now c.args.told.now c.serve_lines.new.told knows space mid first knows_mid new end rested (g.G.Ground.outside c.commit.new.base)
+    (rested_stops c.in_ok-count.count capacity shrunk start old c.args.number (g.K.Speaker.spoke c.args.speaker.now) (g.K.Speaker.spoke c.serve_lines.new.speaker) c.args.lines.now c.in_ok-count.ensures.few c.args.told.now c.serve_lines.new.told knows space mid first knows_mid new end rested g.K.Speaker.broken (g.met.K.Speaker.whole c.serve_lines.new.speaker) (g.G.Ground.outside c.commit.new.base)
     (c.commit.ensures.crash (subst (λ t. IsTrue t) (sym c.in_ok-come_to_rest.ensures.tells) tells_mid)))
 
 pub returns-clause-serves : goal.returns-clause-serves
@@ -84,15 +86,15 @@ returns-clause-serves g c tells capacity start shrunk stands =
     let space = g.G.SectorView.space c.serve_lines.new.base in
     let mid = g.G.Ground.outside c.serve_lines.new.base in
     let knows = g.V.Volume.knows c.serve_lines.new.volume space capacity in
-    let there = stands_in_lines capacity shrunk start start old c.args.number c.args.lines.now c.args.told.now c.in_ok-count.count knows c.serve_lines.new.told space mid first in
+    let there = stands_in_lines capacity shrunk start start old c.args.number (g.K.Speaker.spoke c.args.speaker.now) (g.K.Speaker.spoke c.serve_lines.new.speaker) c.args.lines.now c.args.told.now c.in_ok-count.count c.in_ok-count.ensures.few knows c.serve_lines.new.told space mid first in
     let new = g.G.SectorView.space c.come_to_rest.new.base in
     let end = g.G.Ground.outside c.come_to_rest.new.base in
     let knows_mid = g.V.Volume.knows c.come_to_rest.new.volume new capacity in
     let rested = c.in_ok-come_to_rest.ensures.rests tells_mid capacity first.goes.last first.goes.next _ there in
-    let stands_mid = stands_rested c.in_ok-count.count capacity shrunk start old c.args.number c.args.lines.now c.args.told.now c.serve_lines.new.told knows space mid first knows_mid new end rested in
+    let stands_mid = stands_rested c.in_ok-count.count capacity shrunk start old c.args.number (g.K.Speaker.spoke c.args.speaker.now) (g.K.Speaker.spoke c.serve_lines.new.speaker) c.args.lines.now c.in_ok-count.ensures.few c.args.told.now c.serve_lines.new.told knows space mid first knows_mid new end rested in
     let tells_end = subst (λ t. IsTrue t) (sym c.in_ok-come_to_rest.ensures.tells) tells_mid in
     let last = g.G.SectorView.space c.commit.new.base in
-    batch_rests c.in_ok-count.count capacity shrunk start old c.args.number c.args.lines.now c.args.told.now c.serve_lines.new.told knows space mid first knows_mid new end rested (g.V.Volume.knows c.commit.new.self last capacity) last
+    batch_rests c.in_ok-count.count capacity shrunk start old c.args.number (g.K.Speaker.spoke c.args.speaker.now) (g.K.Speaker.spoke c.serve_lines.new.speaker) c.args.lines.now c.in_ok-count.ensures.few c.args.told.now c.serve_lines.new.told knows space mid first knows_mid new end rested (g.V.Volume.knows c.commit.new.self last capacity) last
     (g.G.Ground.outside c.commit.new.base) (c.in_ok-commit.ensures.done tells_end) (c.in_ok-commit.ensures.knows tells_end capacity rested.tidy.last rested.tidy.next _ stands_mid)
 
 pub returns-in_err-count-clause-faults : goal.returns-in_err-count-clause-faults
@@ -128,3 +130,11 @@ pub returns-in_err-commit-clause-no_many : goal.returns-in_err-commit-clause-no_
 returns-in_err-commit-clause-no_many g c is =
     let p = err_from_is_err_and c.from_residual-in_err-commit.result c.from_residual-in_err-commit.ensures.1 in
     no_trouble _ p.0 c.from_residual-in_err-commit.result p.1 p.2 is
+
+pub returns-clause-once : goal.returns-clause-once
+returns-clause-once g c tells =
+    record {
+      ending = (g.G.SectorView.space c.come_to_rest.new.base).barriers;
+      before = commits_on _ (g.K.Speaker.often * (c.in_ok-count.count + 2)) 8 (g.K.Speaker.often * (c.in_ok-count.count + 2) + 8) _ _ _ _ (c.in_ok-count.ensures.caused tells) (omega arith) (c.in_ok-come_to_rest.ensures.caused (c.in_ok-count.ensures.tells ∙ tells)) (omega arith);
+      last = c.commit.ensures.barriers;
+    }

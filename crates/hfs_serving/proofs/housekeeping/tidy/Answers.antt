@@ -1,8 +1,9 @@
-use Rattle.std.proofs.Common.{refl, ◌∙◌, subst}
+use Rattle.std.proofs.Common.{◌-◌, refl, ◌∙◌, subst, arith}
 use Rattle.std.specs.Prelude.{IsTrue}
 use Rattle.hfs_serving.proofs.Going.{begins, on_err, stands_there, tidy_both, tidy_rested, tidy_stops}
 use Rattle.std.proofs.lemmas.Result.{err_from_is_err_and}
 use Rattle.hfs_serving.proofs.Causes.{counts_both, counts_none, fine, handed}
+use Rattle.hfs_serving.proofs.Caused.{causes_more, commits_on, no_commit}
 use Rattle.hfs_serving.proofs.housekeeping.tidy.Goals as goal
 
 pub loop-init : goal.loop-init
@@ -11,6 +12,8 @@ loop-init g c = record {
   anchor = refl;
   tells = refl;
   serves = λ capacity serves taken. (serves, taken);
+  tries = omega arith;
+  caused = λ tells. no_commit _ _ _ _ (omega arith);
   goes = λ tells capacity committed now shrunk stands. begins capacity shrunk committed now _ _ _ stands;
 }
 
@@ -66,6 +69,8 @@ loop-preserved g c = record {
   anchor = c.work.ensures.anchor ∙ c.loop.invariant.anchor;
   tells = c.in_ok-work.ensures.tells ∙ c.loop.invariant.tells;
   serves = λ capacity serves taken. let was = c.loop.invariant.serves capacity serves taken in c.in_ok-work.ensures.still capacity was.0 was.1;
+  tries = omega (arith, c.work.ensures.fewer, c.loop.invariant.tries);
+  caused = λ tells. commits_on _ (8 - c.loop.tries) (c.loop.tries - c.work.new.tries) (8 - c.work.new.tries) _ _ _ _ (c.loop.invariant.caused tells) (omega arith) (c.in_ok-work.ensures.caused (c.loop.invariant.tells ∙ tells)) (omega (arith, c.work.ensures.fewer, c.loop.invariant.tries));
   goes = λ tells capacity committed now shrunk stands.
       let old = g.G.Ground.outside c.args.base.now in
       let space = g.G.SectorView.space c.loop.base in
@@ -89,3 +94,9 @@ returns-then-branch-clause-faults g c =
 pub returns-clause-faults : goal.returns-clause-faults
 returns-clause-faults g c =
     fine c.loop.invariant.counts _
+
+pub returns-then-branch-clause-caused : goal.returns-then-branch-clause-caused
+returns-then-branch-clause-caused g c tells = commits_on _ (8 - c.loop.tries) (c.loop.tries - c.work.new.tries) 8 _ _ _ _ (c.loop.invariant.caused tells) (omega arith) (c.in_ok-work.ensures.caused (c.loop.invariant.tells ∙ tells)) (omega (arith, c.work.ensures.fewer, c.loop.invariant.tries))
+
+pub returns-clause-caused : goal.returns-clause-caused
+returns-clause-caused g c tells = causes_more _ (8 - c.loop.tries) 8 _ _ (c.loop.invariant.caused tells) (omega arith)

@@ -1,13 +1,15 @@
-use Rattle.std.proofs.Common.{◌≤◌, sym, ◌∙◌, subst, Result}
-use Rattle.std.specs.Prelude.{IsTrue, IfOk, OnOk}
+use Rattle.std.proofs.Common.{◌≡◌, ◌≤◌, sym, ◌∙◌, subst, Result, arith}
+use Rattle.std.specs.Prelude.{None, IsTrue, IfOk, OnOk}
 use Rattle.std.proofs.lemmas.Result.{err_from_is_err_and}
 use Rattle.hx_bytes.specs.declared.faults.Trouble.{Trouble}
 use Rattle.hfs_serving.specs.Going.{TidiesTo}
 use Rattle.hfs_serving.specs.Grounds.{Anchor, ShowsJournal}
 use Rattle.hfs_serving.specs.declared.volume.Next.{Next}
+use Rattle.hfs_serving.specs.declared.volume.Next.TheVariants as next
 use Rattle.hfs_serving.proofs.Causes.{counts_both, fine, handed}
 use Rattle.hfs_serving.proofs.Going.{first_looks, first_rests, first_stands, first_stops, first_tidied, on_err, then_commits, then_commit_stops}
 use Rattle.hfs_serving.proofs.Undoing.{falls_short, kept_touches, stands_kept}
+use Rattle.hfs_serving.proofs.Caused.{causes_more, no_commit, short_commit, wanted_commit}
 use Rattle.hfs_serving.proofs.housekeeping.work.Goals as goal
 
 pub tidy_step-requires-clause-serves : goal.tidy_step-requires-clause-serves
@@ -326,3 +328,20 @@ pub returns-in_err-come_back-in-Err-Memory-clause-faults : goal.returns-in_err-c
 returns-in_err-come_back-in-Err-Memory-clause-faults g c =
     let p = err_from_is_err_and c.from_residual-in_err-come_back-in-Err-Memory.result c.from_residual-in_err-come_back-in-Err-Memory.ensures.1 in
     handed (counts_both c.keep.ensures.counts c.tidy_step.ensures.faults.counts) _ p.0 c.from_residual-in_err-come_back-in-Err-Memory.result c.in_err-come_back-in-Err-Memory.ensures.faults p.1 p.2
+
+pub returns-in-Ok-Rest-clause-caused : goal.returns-in-Ok-Rest-clause-caused
+returns-in-Ok-Rest-clause-caused g c tells = no_commit _ _ _ _ (omega (arith, c.keep.ensures.barriers, c.tidy_step.ensures.barriers))
+
+pub returns-in-Ok-Made-clause-caused : goal.returns-in-Ok-Made-clause-caused
+returns-in-Ok-Made-clause-caused g c tells = no_commit _ _ _ _ (omega (arith, c.keep.ensures.barriers, c.tidy_step.ensures.barriers))
+
+pub returns-in_ok-commit-in-Ok-CommitFirst-clause-caused : goal.returns-in_ok-commit-in-Ok-CommitFirst-clause-caused
+returns-in_ok-commit-in-Ok-CommitFirst-clause-caused g c tells =
+    let s1 = g.G.SectorView.space c.keep.new.self in
+    let wants = g.V.Volume.wants c.args.volume.now s1 None in
+    let wanted = subst (λ (q : Result Next Trouble). IfOk q (λ n. n ≡ next.CommitFirst → wants)) c.in-Ok-CommitFirst.is (c.tidy_step.ensures.wanted (c.keep.ensures.same.tells ∙ tells)) c.in-Ok-CommitFirst.field-0-is in
+    wanted_commit _ _ _ _ (None, record { volume = c.args.volume.now; base = c.keep.new.self; behind = c.keep.ensures.barriers; wanted = wanted }) (omega (arith, c.keep.ensures.barriers, c.tidy_step.ensures.barriers, c.commit.ensures.barriers))
+
+pub returns-in_ok-come_back-in-Err-Memory-clause-caused : goal.returns-in_ok-come_back-in-Err-Memory-clause-caused
+returns-in_ok-come_back-in-Err-Memory-clause-caused g c tells =
+    causes_more _ 1 _ _ _ (short_commit _ _ _ (omega (arith, c.keep.ensures.barriers, c.tidy_step.ensures.barriers, c.come_back.ensures.barriers))) (omega (arith, c.in_ok-take_try-in-Err-Memory.ensures.fewer))

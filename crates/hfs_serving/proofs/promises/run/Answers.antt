@@ -1,13 +1,17 @@
-use Rattle.std.proofs.Common.{[], ℕ, List, length, refl, sym, ◌∙◌, ap, subst, arith}
+use Rattle.std.proofs.Common.{◌≡◌, [], ℕ, List, length, refl, sym, ◌∙◌, ap, subst, arith}
 use Rattle.std.specs.Prelude.{None, IsTrue}
 use Rattle.jnl_store.specs.Seen.{seen}
 use Rattle.jnl_store.specs.Store.{plan_of}
 use Rattle.volume_runs.specs.Run.{shrunk_in}
 use Rattle.hfs_serving.specs.Grounds.{Anchor}
 use Rattle.hfs_serving.specs.Outside.{outside_of}
+use Rattle.hfs_language.specs.Language.{most_bytes}
+use Rattle.line_source.specs.Batch.{held}
+use Rattle.hfs_serving.specs.Speaking.{Speaks}
+use Rattle.hfs_serving.proofs.Speeches.{none_said, speaks_more}
 use Rattle.hfs_serving.specs.Taking.{HasTaken}
-use Rattle.hfs_serving.proofs.Promising.{crash_keeps, crash_seen, finish_ends, finish_heard, has_all, has_none, none_behind}
-use Rattle.hfs_serving.proofs.Stepping.{none_heard}
+use Rattle.hfs_serving.proofs.Promising.{crash_keeps, crash_seen, finish_ends, finish_spoken, has_all, has_none, none_behind}
+use Rattle.hfs_serving.proofs.Stepping.{none_there}
 use Rattle.watchers.proofs.Tellings.{told_nothing}
 use Rattle.line_source.specs.Input.{TakesLines}
 use Rattle.line_source.proofs.Cuts.{all_taken}
@@ -21,7 +25,8 @@ use Rattle.hfs_serving.proofs.Numbering.{no_memory, no_trouble, too_many}
 use Rattle.std.specs.Prelude.{Some}
 use Rattle.hfs_serving.specs.Ending.{EndsTaking}
 use Rattle.hfs_serving.proofs.Grounding.{disks_both, same_disk}
-use Rattle.hfs_serving.proofs.Answering.{all_heard, answers_seen, handed_answers, no_end_of_memory, no_end_of_trouble}
+use Rattle.hfs_serving.proofs.Answering.{answers_finish, answers_seen, handed_answers, no_end_of_memory, no_end_of_trouble}
+use Rattle.hfs_serving.proofs.Caused.{batches_wider}
 use Rattle.hfs_serving.proofs.promises.run.Goals as goal
 
 pub returns-in_err-input-clause-promises : goal.returns-in_err-input-clause-promises
@@ -36,7 +41,7 @@ returns-in_err-input-clause-promises g c = (
       let knows = g.V.Volume.knows c.args.volume.now space capacity in
       let source = g.S.Source.stream c.args.source.now in
       crash_keeps c.aside_is_free.ensures capacity start plan (plan_of base.store.now) old (g.R.SectorDisk.state base.disk.now) [] knows space refl (g.met.R.SectorDisk.only_now base.disk.now) stands sound may source source
-      (λ told. has_none source) (none_heard capacity None start (outside_of plan old) [] knows space stands),
+      (λ told. has_none source) (none_there capacity None start (outside_of plan old) [] (Speaks 0 start (g.K.Speaker.spoke c.args.speaker.now) g.K.Speaker.broken) knows space (none_said start (g.K.Speaker.spoke c.args.speaker.now) g.K.Speaker.broken (g.met.K.Speaker.whole c.args.speaker.now)) stands),
 )
 
 pub serve_source-requires-clause-serves : goal.serve_source-requires-clause-serves
@@ -44,8 +49,8 @@ serve_source-requires-clause-serves g c = let there = c.requires.serves in let n
 
 pub returns-in_err-serve_source-clause-promises : goal.returns-in_err-serve_source-clause-promises
 returns-in_err-serve_source-clause-promises g c = (
-  c.in_err-serve_source.ensures.watched.0,
-  c.in_err-serve_source.ensures.watched.1,
+  c.in_err-serve_source.ensures.serves.0,
+  c.in_err-serve_source.ensures.serves.1,
   λ tells capacity start stands sound may.
       let base = c.args.base.now in
       let plan = plan_of base.store.now in
@@ -55,7 +60,7 @@ returns-in_err-serve_source-clause-promises g c = (
       let source = g.S.Source.stream c.args.source.now in
       let mid = c.serve_source.new.base in
       let source_new = g.S.Source.stream c.serve_source.new.source in
-      let stopped = c.in_err-serve_source.ensures.watched.2 in
+      let stopped = c.in_err-serve_source.ensures.serves.2 in
       crash_keeps c.aside_is_free.ensures capacity start plan (plan_of mid.store.now) old (g.R.SectorDisk.state mid.disk.now) stopped.0 knows space (ap (λ (a : Anchor). a.journal) c.serve_source.ensures.anchor) (g.met.R.SectorDisk.only_now base.disk.now) stands sound may source source_new
       (λ told. subst (λ (l : List ℕ). HasTaken l source stopped.0 source_new) c.in_ok-input.ensures (stopped.1 told)) (stopped.2 tells capacity start None stands),
 )
@@ -70,13 +75,13 @@ pub finish-requires-clause-stands : goal.finish-requires-clause-stands
 finish-requires-clause-stands g c tells_mid =
     let tells = subst (λ t. IsTrue t) c.in_ok-serve_source.ensures.tells tells_mid in
     let there = c.requires.stands tells in
-    let step = c.in_ok-serve_source.ensures.serves.2 tells there.0 there.1 there.2 there.3 in
-    (there.0, step.now, shrunk_in there.2 step.run, step.stands)
+    let step = c.in_ok-serve_source.ensures.serves.3.2 tells there.0 there.1 there.2 there.3 in
+    (there.0, step.now, shrunk_in there.2 step.speech.run, step.stands)
 
 pub returns-in_err-finish-clause-promises : goal.returns-in_err-finish-clause-promises
 returns-in_err-finish-clause-promises g c = (
-  c.in_ok-serve_source.ensures.watched.0,
-  c.in_ok-serve_source.ensures.watched.1,
+  c.in_ok-serve_source.ensures.serves.0,
+  c.in_ok-serve_source.ensures.serves.1,
   λ tells capacity start stands sound may.
       let base = c.args.base.now in
       let plan = plan_of base.store.now in
@@ -91,19 +96,19 @@ returns-in_err-finish-clause-promises g c = (
       let out_mid = outside_of (plan_of mid.store.now) (g.R.SectorDisk.state mid.disk.now) in
       let out_end = outside_of (plan_of end.store.now) (g.R.SectorDisk.state end.disk.now) in
       let knows_mid = g.V.Volume.knows c.serve_source.new.volume space_mid capacity in
-      let served = c.in_ok-serve_source.ensures.watched.3 in
+      let served = c.in_ok-serve_source.ensures.serves.3 in
       let step = served.2 tells capacity start None stands in
       let tells_mid = subst (λ t. IsTrue t) (sym c.in_ok-serve_source.ensures.tells) tells in
       let takes = λ (told : IsTrue source.tells). subst (λ (l : List ℕ). TakesLines l source served.0 c.serve_source.new.input source_new) c.in_ok-input.ensures (served.1 told).0 in
       crash_keeps c.aside_is_free.ensures capacity start plan (plan_of end.store.now) old (g.R.SectorDisk.state end.disk.now) served.0 knows space (c.finish.ensures.anchor ∙ ap (λ (a : Anchor). a.journal) c.serve_source.ensures.anchor) (g.met.R.SectorDisk.only_now base.disk.now) stands sound may source source_new
       (λ told. has_all source source_new served.0 c.serve_source.new.input (takes told))
-      (finish_heard c.in_ok-serve_source.ensures.watched.0 capacity start (outside_of plan old) out_mid out_end served.0 (length served.0) knows_mid space_mid step (c.finish.ensures.crash tells_mid capacity step.0.now (shrunk_in None step.0.run) step.0.stands)),
+      (finish_spoken (Speaks 0 start (g.K.Speaker.spoke c.args.speaker.now) (g.K.Speaker.spoke c.serve_source.new.speaker)) (Speaks 0 start (g.K.Speaker.spoke c.args.speaker.now) g.K.Speaker.broken) c.in_ok-serve_source.ensures.serves.0 capacity start (outside_of plan old) out_mid out_end (held most_bytes served.0) (length served.0) knows_mid space_mid (λ speech. speaks_more 0 start (g.K.Speaker.spoke c.args.speaker.now) (g.K.Speaker.spoke c.serve_source.new.speaker) g.K.Speaker.broken speech (g.met.K.Speaker.whole c.serve_source.new.speaker)) step (c.finish.ensures.crash tells_mid capacity step.now (shrunk_in None step.speech.run) step.stands)),
 )
 
 pub returns-clause-promises : goal.returns-clause-promises
 returns-clause-promises g c = (
-  c.in_ok-serve_source.ensures.watched.0,
-  c.in_ok-serve_source.ensures.watched.1,
+  c.in_ok-serve_source.ensures.serves.0,
+  c.in_ok-serve_source.ensures.serves.1,
   λ tells capacity start stands sound may.
       let base = c.args.base.now in
       let plan = plan_of base.store.now in
@@ -118,13 +123,13 @@ returns-clause-promises g c = (
       let out_mid = outside_of (plan_of mid.store.now) (g.R.SectorDisk.state mid.disk.now) in
       let out_end = outside_of (plan_of end.store.now) (g.R.SectorDisk.state end.disk.now) in
       let knows_mid = g.V.Volume.knows c.serve_source.new.volume space_mid capacity in
-      let served = c.in_ok-serve_source.ensures.watched.3 in
+      let served = c.in_ok-serve_source.ensures.serves.3 in
       let step = served.2 tells capacity start None stands in
       let tells_mid = subst (λ t. IsTrue t) (sym c.in_ok-serve_source.ensures.tells) tells in
       let takes = λ (told : IsTrue source.tells). subst (λ (l : List ℕ). TakesLines l source served.0 c.serve_source.new.input source_new) c.in_ok-input.ensures (served.1 told).0 in
       crash_keeps c.aside_is_free.ensures capacity start plan (plan_of end.store.now) old (g.R.SectorDisk.state end.disk.now) served.0 knows space (c.finish.ensures.anchor ∙ ap (λ (a : Anchor). a.journal) c.serve_source.ensures.anchor) (g.met.R.SectorDisk.only_now base.disk.now) stands sound may source source_new
       (λ told. has_all source source_new served.0 c.serve_source.new.input (takes told))
-      (finish_heard c.in_ok-serve_source.ensures.watched.0 capacity start (outside_of plan old) out_mid out_end served.0 (length served.0) knows_mid space_mid step (c.finish.ensures.crash tells_mid capacity step.0.now (shrunk_in None step.0.run) step.0.stands)),
+      (finish_spoken (Speaks 0 start (g.K.Speaker.spoke c.args.speaker.now) (g.K.Speaker.spoke c.serve_source.new.speaker)) (Speaks 0 start (g.K.Speaker.spoke c.args.speaker.now) g.K.Speaker.broken) c.in_ok-serve_source.ensures.serves.0 capacity start (outside_of plan old) out_mid out_end (held most_bytes served.0) (length served.0) knows_mid space_mid (λ speech. speaks_more 0 start (g.K.Speaker.spoke c.args.speaker.now) (g.K.Speaker.spoke c.serve_source.new.speaker) g.K.Speaker.broken speech (g.met.K.Speaker.whole c.serve_source.new.speaker)) step (c.finish.ensures.crash tells_mid capacity step.now (shrunk_in None step.speech.run) step.stands)),
 )
 
 pub returns-clause-done : goal.returns-clause-done
@@ -140,15 +145,15 @@ returns-clause-done g c tells capacity start stands =
     let out_mid = outside_of (plan_of mid.store.now) (g.R.SectorDisk.state mid.disk.now) in
     let out_end = outside_of (plan_of end.store.now) (g.R.SectorDisk.state end.disk.now) in
     let knows_mid = g.V.Volume.knows c.serve_source.new.volume space_mid capacity in
-    let served = c.in_ok-serve_source.ensures.serves in
+    let served = c.in_ok-serve_source.ensures.serves.3 in
     let step = served.2 tells capacity start None stands in
     let tells_mid = subst (λ t. IsTrue t) (sym c.in_ok-serve_source.ensures.tells) tells in
     let takes = λ (told : IsTrue source.tells). subst (λ (l : List ℕ). TakesLines l source served.0 c.serve_source.new.input source_new) c.in_ok-input.ensures (served.1 told).0 in
-    finish_ends capacity start (outside_of plan old) out_mid out_end served.0 knows_mid space_mid source (λ told. all_taken source served.0 c.serve_source.new.input source_new (takes told) (served.1 told).1) step
-    (c.in_ok-finish.ensures.done tells_mid capacity step.now (shrunk_in None step.run) step.stands)
+    finish_ends (Speaks 0 start (g.K.Speaker.spoke c.args.speaker.now) (g.K.Speaker.spoke c.serve_source.new.speaker)) c.in_ok-serve_source.ensures.serves.0 capacity start (outside_of plan old) out_mid out_end served.0 knows_mid space_mid source (λ told. all_taken source served.0 c.serve_source.new.input source_new (takes told) (served.1 told).1) step
+    (c.in_ok-finish.ensures.done tells_mid capacity step.now (shrunk_in None step.speech.run) step.stands)
 
 pub returns-clause-end : goal.returns-clause-end
-returns-clause-end g c told = none_behind c.serve_source.new.input (g.S.Source.stream c.serve_source.new.source) (c.in_ok-serve_source.ensures.serves.1 told).1
+returns-clause-end g c told = none_behind c.serve_source.new.input (g.S.Source.stream c.serve_source.new.source) (c.in_ok-serve_source.ensures.serves.3.1 told).1
 
 pub returns-in_err-input-clause-stretch : goal.returns-in_err-input-clause-stretch
 returns-in_err-input-clause-stretch g c =
@@ -165,7 +170,7 @@ returns-in_err-input-clause-stretch g c =
         λ told. has_none source,
         λ tells capacity start stands.
             let knows = g.V.Volume.knows c.args.volume.now space capacity in
-            none_heard capacity None start (outside_of plan old) [] knows space stands,
+            none_there capacity None start (outside_of plan old) [] (Speaks 0 start (g.K.Speaker.spoke c.args.speaker.now) g.K.Speaker.broken) knows space (none_said start (g.K.Speaker.spoke c.args.speaker.now) g.K.Speaker.broken (g.met.K.Speaker.whole c.args.speaker.now)) stands,
       ),
       λ final. absurd (no_end_of_memory p.0 c.from_residual.result p.1 p.2 final),
     )
@@ -178,25 +183,25 @@ returns-in_err-serve_source-clause-stretch g c =
     let source = g.S.Source.stream c.args.source.now in
     let mid = c.serve_source.new.base in
     let source_new = g.S.Source.stream c.serve_source.new.source in
-    let stopped = c.in_err-serve_source.ensures.watched.2 in
+    let stopped = c.in_err-serve_source.ensures.serves.2 in
     let p = err_from_is_err_and c.from_residual-in_err-serve_source.result c.from_residual-in_err-serve_source.ensures.1 in (
-      c.in_err-serve_source.ensures.watched.0,
-      c.in_err-serve_source.ensures.watched.1,
+      c.in_err-serve_source.ensures.serves.0,
+      c.in_err-serve_source.ensures.serves.1,
       (
         stopped.0,
         λ told. subst (λ (l : List ℕ). HasTaken l source stopped.0 source_new) c.in_ok-input.ensures (stopped.1 told),
-        λ tells capacity start stands. crash_seen capacity start plan (plan_of mid.store.now) (outside_of plan old) (g.R.SectorDisk.state mid.disk.now) stopped.0 (ap (λ (a : Anchor). a.journal) c.serve_source.ensures.anchor) (stopped.2 tells capacity start None stands),
+        λ tells capacity start stands. crash_seen capacity start plan (plan_of mid.store.now) (outside_of plan old) (g.R.SectorDisk.state mid.disk.now) (held most_bytes stopped.0) (ap (λ (a : Anchor). a.journal) c.serve_source.ensures.anchor) (stopped.2 tells capacity start None stands),
       ),
       handed_answers c.in_err-serve_source.field-0.0 p.0 c.from_residual-in_err-serve_source.result _ [] source source_new p.1 p.2
           (λ final.
-          let there = c.in_err-serve_source.ensures.watched.4 final in (
+          let there = c.in_err-serve_source.ensures.serves.4 final in (
             there.0,
             λ told.
                 let took = there.1 told in
                 (subst (λ (l : List ℕ). HasTaken l source there.0 source_new) c.in_ok-input.ensures took.0, subst (λ (l : List ℕ). EndsTaking (Some c.in_err-serve_source.field-0.0) l source there.0 source_new) c.in_ok-input.ensures took.1),
             there.2,
             λ tells capacity start stands.
-                answers_seen capacity start plan (plan_of mid.store.now) (outside_of plan old) (g.R.SectorDisk.state mid.disk.now) there.0 (ap (λ (a : Anchor). a.journal) c.serve_source.ensures.anchor) (there.3 tells capacity start None stands),
+                answers_seen capacity start plan (plan_of mid.store.now) (outside_of plan old) (g.R.SectorDisk.state mid.disk.now) (held most_bytes there.0) (ap (λ (a : Anchor). a.journal) c.serve_source.ensures.anchor) (there.3 tells capacity start None stands),
           )),
     )
 
@@ -212,10 +217,10 @@ returns-in_err-finish-clause-stretch g c =
     let space_mid = seen g.R.SectorDisk.state mid in
     let out_mid = outside_of (plan_of mid.store.now) (g.R.SectorDisk.state mid.disk.now) in
     let out_end = outside_of (plan_of end.store.now) (g.R.SectorDisk.state end.disk.now) in
-    let served = c.in_ok-serve_source.ensures.watched.3 in
+    let served = c.in_ok-serve_source.ensures.serves.3 in
     let p = err_from_is_err_and c.from_residual-in_err-finish.result c.from_residual-in_err-finish.ensures.1 in (
-      c.in_ok-serve_source.ensures.watched.0,
-      c.in_ok-serve_source.ensures.watched.1,
+      c.in_ok-serve_source.ensures.serves.0,
+      c.in_ok-serve_source.ensures.serves.1,
       (
         served.0,
         λ told. has_all source source_new served.0 c.serve_source.new.input (subst (λ (l : List ℕ). TakesLines l source served.0 c.serve_source.new.input source_new) c.in_ok-input.ensures (served.1 told).0),
@@ -223,8 +228,8 @@ returns-in_err-finish-clause-stretch g c =
             let knows_mid = g.V.Volume.knows c.serve_source.new.volume space_mid capacity in
             let step = served.2 tells capacity start None stands in
             let tells_mid = subst (λ t. IsTrue t) (sym c.in_ok-serve_source.ensures.tells) tells in
-            crash_seen capacity start plan (plan_of end.store.now) (outside_of plan old) (g.R.SectorDisk.state end.disk.now) served.0 (c.finish.ensures.anchor ∙ ap (λ (a : Anchor). a.journal) c.serve_source.ensures.anchor)
-            (finish_heard c.in_ok-serve_source.ensures.watched.0 capacity start (outside_of plan old) out_mid out_end served.0 (length served.0) knows_mid space_mid step (c.finish.ensures.crash tells_mid capacity step.0.now (shrunk_in None step.0.run) step.0.stands)),
+            crash_seen capacity start plan (plan_of end.store.now) (outside_of plan old) (g.R.SectorDisk.state end.disk.now) (held most_bytes served.0) (c.finish.ensures.anchor ∙ ap (λ (a : Anchor). a.journal) c.serve_source.ensures.anchor)
+            (finish_spoken (Speaks 0 start (g.K.Speaker.spoke c.args.speaker.now) (g.K.Speaker.spoke c.serve_source.new.speaker)) (Speaks 0 start (g.K.Speaker.spoke c.args.speaker.now) g.K.Speaker.broken) c.in_ok-serve_source.ensures.serves.0 capacity start (outside_of plan old) out_mid out_end (held most_bytes served.0) (length served.0) knows_mid space_mid (λ speech. speaks_more 0 start (g.K.Speaker.spoke c.args.speaker.now) (g.K.Speaker.spoke c.serve_source.new.speaker) g.K.Speaker.broken speech (g.met.K.Speaker.whole c.serve_source.new.speaker)) step (c.finish.ensures.crash tells_mid capacity step.now (shrunk_in None step.speech.run) step.stands)),
       ),
       λ final. absurd (no_end_of_trouble _ p.0 c.from_residual-in_err-finish.result p.1 p.2 final),
     )
@@ -241,10 +246,10 @@ returns-clause-stretch g c =
     let space_mid = seen g.R.SectorDisk.state mid in
     let out_mid = outside_of (plan_of mid.store.now) (g.R.SectorDisk.state mid.disk.now) in
     let out_end = outside_of (plan_of end.store.now) (g.R.SectorDisk.state end.disk.now) in
-    let served = c.in_ok-serve_source.ensures.watched.3 in
+    let served = c.in_ok-serve_source.ensures.serves.3 in
     let takes = λ (told : IsTrue source.tells). subst (λ (l : List ℕ). TakesLines l source served.0 c.serve_source.new.input source_new) c.in_ok-input.ensures (served.1 told).0 in (
-      c.in_ok-serve_source.ensures.watched.0,
-      c.in_ok-serve_source.ensures.watched.1,
+      c.in_ok-serve_source.ensures.serves.0,
+      c.in_ok-serve_source.ensures.serves.1,
       (
         served.0,
         λ told. has_all source source_new served.0 c.serve_source.new.input (subst (λ (l : List ℕ). TakesLines l source served.0 c.serve_source.new.input source_new) c.in_ok-input.ensures (served.1 told).0),
@@ -252,8 +257,8 @@ returns-clause-stretch g c =
             let knows_mid = g.V.Volume.knows c.serve_source.new.volume space_mid capacity in
             let step = served.2 tells capacity start None stands in
             let tells_mid = subst (λ t. IsTrue t) (sym c.in_ok-serve_source.ensures.tells) tells in
-            crash_seen capacity start plan (plan_of end.store.now) (outside_of plan old) (g.R.SectorDisk.state end.disk.now) served.0 (c.finish.ensures.anchor ∙ ap (λ (a : Anchor). a.journal) c.serve_source.ensures.anchor)
-            (finish_heard c.in_ok-serve_source.ensures.watched.0 capacity start (outside_of plan old) out_mid out_end served.0 (length served.0) knows_mid space_mid step (c.finish.ensures.crash tells_mid capacity step.0.now (shrunk_in None step.0.run) step.0.stands)),
+            crash_seen capacity start plan (plan_of end.store.now) (outside_of plan old) (g.R.SectorDisk.state end.disk.now) (held most_bytes served.0) (c.finish.ensures.anchor ∙ ap (λ (a : Anchor). a.journal) c.serve_source.ensures.anchor)
+            (finish_spoken (Speaks 0 start (g.K.Speaker.spoke c.args.speaker.now) (g.K.Speaker.spoke c.serve_source.new.speaker)) (Speaks 0 start (g.K.Speaker.spoke c.args.speaker.now) g.K.Speaker.broken) c.in_ok-serve_source.ensures.serves.0 capacity start (outside_of plan old) out_mid out_end (held most_bytes served.0) (length served.0) knows_mid space_mid (λ speech. speaks_more 0 start (g.K.Speaker.spoke c.args.speaker.now) (g.K.Speaker.spoke c.serve_source.new.speaker) g.K.Speaker.broken speech (g.met.K.Speaker.whole c.serve_source.new.speaker)) step (c.finish.ensures.crash tells_mid capacity step.now (shrunk_in None step.speech.run) step.stands)),
       ),
       λ final. (
         served.0,
@@ -263,8 +268,8 @@ returns-clause-stretch g c =
             let knows_mid = g.V.Volume.knows c.serve_source.new.volume space_mid capacity in
             let step = served.2 tells capacity start None stands in
             let tells_mid = subst (λ t. IsTrue t) (sym c.in_ok-serve_source.ensures.tells) tells in
-            answers_seen capacity start plan (plan_of end.store.now) (outside_of plan old) (g.R.SectorDisk.state end.disk.now) served.0 (c.finish.ensures.anchor ∙ ap (λ (a : Anchor). a.journal) c.serve_source.ensures.anchor)
-            (all_heard c.in_ok-serve_source.ensures.watched.0 capacity start (outside_of plan old) out_mid out_end served.0 knows_mid space_mid step (c.in_ok-finish.ensures.done tells_mid capacity step.0.now (shrunk_in None step.0.run) step.0.stands)),
+            answers_seen capacity start plan (plan_of end.store.now) (outside_of plan old) (g.R.SectorDisk.state end.disk.now) (held most_bytes served.0) (c.finish.ensures.anchor ∙ ap (λ (a : Anchor). a.journal) c.serve_source.ensures.anchor)
+            (answers_finish (Speaks 0 start (g.K.Speaker.spoke c.args.speaker.now) (g.K.Speaker.spoke c.serve_source.new.speaker)) c.in_ok-serve_source.ensures.serves.0 capacity start (outside_of plan old) out_mid out_end served.0 knows_mid space_mid step (c.in_ok-finish.ensures.done tells_mid capacity step.now (shrunk_in None step.speech.run) step.stands)),
       ),
     )
 
@@ -334,3 +339,17 @@ returns-in_err-finish-clause-same g c = disks_both (same_disk (ap (λ (a : Ancho
 
 pub returns-clause-same : goal.returns-clause-same
 returns-clause-same g c = disks_both (same_disk (ap (λ (a : Anchor). a.rig) c.serve_source.ensures.anchor)) c.finish.ensures.same
+
+pub returns-clause-commits : goal.returns-clause-commits
+returns-clause-commits g c tells =
+    let served = c.in_ok-serve_source.ensures.commits tells in (
+      served.0,
+      λ told. subst (λ (l : List ℕ). served.0 ≡ length (lines (ahead l (g.S.Source.stream c.args.source.now)))) c.in_ok-input.ensures (served.1 told),
+      record {
+        begun = (g.R.SectorDisk.state c.args.base.now.disk.now).barriers;
+        first = omega arith;
+        ended = (g.R.SectorDisk.state c.serve_source.new.base.disk.now).barriers;
+        batches = batches_wider _ _ g.K.Speaker.often _ _ _ (λ passed it. record { asked = it.0; volume = it.1.volume; store = it.1.base.store.now; rig = it.1.base.disk.now; store_name = it.1.base.store.ghost_name; rig_name = it.1.base.disk.ghost_name; behind = it.1.behind; wanted = it.1.wanted }) served.2;
+        last = c.finish.ensures.barriers;
+      },
+    )

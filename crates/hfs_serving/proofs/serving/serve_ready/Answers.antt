@@ -1,10 +1,14 @@
-use Rattle.std.proofs.Common.{ℕ, List, [], get_or, sym, ◌∙◌, ap, length, subst}
+use Rattle.std.proofs.Common.{◌≡◌, ℕ, List, [], get_or, sym, ◌∙◌, ap, length, subst}
 use Rattle.std.specs.Prelude.{IsTrue, None}
 use Rattle.jnl_store.specs.Seen.{seen}
 use Rattle.jnl_store.specs.Store.{plan_of}
 use Rattle.hfs_serving.specs.Grounds.{Anchor}
 use Rattle.hfs_serving.specs.Outside.{outside_of}
-use Rattle.hfs_serving.specs.Watching.{AnswersHeard, CrashesHeard}
+use Rattle.hfs_language.specs.Language.{most_bytes}
+use Rattle.line_source.specs.Batch.{held}
+use Rattle.hfs_serving.specs.Speaking.{Speaks, SpeaksFrom}
+use Rattle.hfs_serving.specs.Spoken.{AnswersSpoken, CrashesSpoken}
+use Rattle.hfs_serving.proofs.Speeches.{none_begun}
 use Rattle.watchers.proofs.Tellings.{told_nothing}
 use Rattle.hfs_serving.proofs.Attachable.{capacity_ready, finds_ready, in_service, keeps_on, may_attach, tells_space}
 use Rattle.hfs_serving.proofs.Grounding.{told_disk}
@@ -22,6 +26,9 @@ use Rattle.hfs_serving.specs.Ending.{IsPutAway}
 use Rattle.sector_disk.specs.Disk.{SameDisk}
 use Rattle.hfs_serving.proofs.Grounding.{disks_both, same_disk}
 use Rattle.hfs_serving.proofs.Answering.{begun_answers, no_end_of_memory, no_end_of_trouble}
+use Rattle.hfs_language.specs.Lines.{lines}
+use Rattle.hfs_serving.specs.Commits.{CommitsRun, WantsOver}
+use Rattle.hfs_serving.proofs.Caused.{on_ok, run_behind}
 use Rattle.hfs_serving.proofs.serving.serve_ready.Goals as goal
 
 pub returns-in_err-store-clause-stretch : goal.returns-in_err-store-clause-stretch
@@ -32,7 +39,7 @@ returns-in_err-store-clause-stretch g c =
       (
         [],
         λ told. has_none (g.S.Source.stream c.args.source.now),
-        λ tells capacity most start now first versioned place ready sound turns. nothing_more capacity start now c.args.plan.now (g.R.SectorDisk.state first) (g.R.SectorDisk.state c.args.rig.now) versioned place turns,
+        λ tells capacity most start now first versioned place ready sound turns. nothing_more (SpeaksFrom start (g.K.Speaker.spoke c.args.speaker.now) g.K.Speaker.broken) (none_begun start (g.K.Speaker.spoke c.args.speaker.now) g.K.Speaker.broken (g.met.K.Speaker.whole c.args.speaker.now)) capacity start now c.args.plan.now (g.R.SectorDisk.state first) (g.R.SectorDisk.state c.args.rig.now) versioned place turns,
       ),
       λ final. absurd (no_end_of_memory p.0 c.from_residual.result p.1 p.2 final),
     )
@@ -84,8 +91,8 @@ returns-in_err-volume-clause-stretch g c =
             let is = g.met.R.SectorDisk.well_formed disk in
             let may = may_attach store plan d0 attached is tells now ready c.aside_is_free.ensures sound c.store-3-1.given.0 c.base-1.given in
             let space_tells = tells_space store plan d0 attached is tells now ready c.store-3-1.given.0 c.base-1.given in
-            subst (λ (r : g.row.R.Denot). CrashesHeard 0 [] capacity start None (outside_of plan (g.R.SectorDisk.state first)) [] (outside_of plan (g.R.SectorDisk.state r))) (sym rig_is)
-            (begin_stopped capacity start now plan (g.R.SectorDisk.state first) d0 versioned place turns (plan_of store) (plan_of base.store.now) (finds_ready store plan d0 attached) (ap (λ (a : Anchor). a.journal) c.attach_volume.ensures.anchor) (g.R.SectorDisk.state base.disk.now)
+            subst (λ (r : g.row.R.Denot). CrashesSpoken (SpeaksFrom start (g.K.Speaker.spoke c.args.speaker.now) g.K.Speaker.broken) [] capacity start None (outside_of plan (g.R.SectorDisk.state first)) [] (outside_of plan (g.R.SectorDisk.state r))) (sym rig_is)
+            (begin_stopped (SpeaksFrom start (g.K.Speaker.spoke c.args.speaker.now) g.K.Speaker.broken) (none_begun start (g.K.Speaker.spoke c.args.speaker.now) g.K.Speaker.broken (g.met.K.Speaker.whole c.args.speaker.now)) capacity start now plan (g.R.SectorDisk.state first) d0 versioned place turns (plan_of store) (plan_of base.store.now) (finds_ready store plan d0 attached) (ap (λ (a : Anchor). a.journal) c.attach_volume.ensures.anchor) (g.R.SectorDisk.state base.disk.now)
             (c.attach_volume.ensures.may space_tells now may)),
       ),
       λ final. absurd (no_end_of_trouble _ p.0 c.from_residual-in_err-volume.result p.1 p.2 final),
@@ -130,10 +137,10 @@ returns-clause-stretch g c =
             let begins = c.in_ok-volume.ensures.begins space_tells now may in
             let base_tells = subst (λ t. IsTrue t) (sym c.in_ok-volume.ensures.tells) space_tells in
             let space = seen g.R.SectorDisk.state base in
-            subst (λ (r : g.row.R.Denot). CrashesHeard 0 heard capacity start None (outside_of plan (g.R.SectorDisk.state first)) stretch.0 (outside_of plan (g.R.SectorDisk.state r))) (sym rig_is)
-            (subst (λ n. CrashesHeard 0 heard n start None (outside_of plan (g.R.SectorDisk.state first)) stretch.0 (outside_of plan (g.R.SectorDisk.state last.disk.now))) (capacity_ready store plan d0 attached capacity mine most c.capacity-capacity.ensures)
-            (begun_goes_on mine start now plan (g.R.SectorDisk.state first) d0 versioned place turns (plan_of store) (plan_of base.store.now) (finds_ready store plan d0 attached) (ap (λ (a : Anchor). a.journal) c.attach_volume.ensures.anchor) heard
-            (g.R.SectorDisk.state base.disk.now) (g.R.SectorDisk.state last.disk.now) stretch.0 (g.V.Volume.knows c.in_ok-volume.volume space mine) space begins (stretch.2 base_tells mine begins.begun begins.stands))),
+            subst (λ (r : g.row.R.Denot). CrashesSpoken (SpeaksFrom start (g.K.Speaker.spoke c.args.speaker.now) g.K.Speaker.broken) heard capacity start None (outside_of plan (g.R.SectorDisk.state first)) (held most_bytes stretch.0) (outside_of plan (g.R.SectorDisk.state r))) (sym rig_is)
+            (subst (λ n. CrashesSpoken (SpeaksFrom start (g.K.Speaker.spoke c.args.speaker.now) g.K.Speaker.broken) heard n start None (outside_of plan (g.R.SectorDisk.state first)) (held most_bytes stretch.0) (outside_of plan (g.R.SectorDisk.state last.disk.now))) (capacity_ready store plan d0 attached capacity mine most c.capacity-capacity.ensures)
+            (begun_goes_on (SpeaksFrom start (g.K.Speaker.spoke c.args.speaker.now) g.K.Speaker.broken) (none_begun start (g.K.Speaker.spoke c.args.speaker.now) g.K.Speaker.broken (g.met.K.Speaker.whole c.args.speaker.now)) mine start now plan (g.R.SectorDisk.state first) d0 versioned place turns (plan_of store) (plan_of base.store.now) (finds_ready store plan d0 attached) (ap (λ (a : Anchor). a.journal) c.attach_volume.ensures.anchor) heard (λ begun. Speaks 0 begun (g.K.Speaker.spoke c.args.speaker.now) g.K.Speaker.broken) (λ begun tree speech speaks. (begun, tree, speaks))
+            (g.R.SectorDisk.state base.disk.now) (g.R.SectorDisk.state last.disk.now) (held most_bytes stretch.0) (g.V.Volume.knows c.in_ok-volume.volume space mine) space begins (stretch.2 base_tells mine begins.begun begins.stands))),
       ),
       λ final.
           let answers = c.run.ensures.stretch.3 final in (
@@ -148,10 +155,10 @@ returns-clause-stretch g c =
                 let begins = c.in_ok-volume.ensures.begins space_tells now may in
                 let base_tells = subst (λ t. IsTrue t) (sym c.in_ok-volume.ensures.tells) space_tells in
                 let space = seen g.R.SectorDisk.state base in
-                subst (λ (r : g.row.R.Denot). AnswersHeard heard capacity start None (outside_of plan (g.R.SectorDisk.state first)) answers.0 (outside_of plan (g.R.SectorDisk.state r))) (sym rig_is)
-                (subst (λ n. AnswersHeard heard n start None (outside_of plan (g.R.SectorDisk.state first)) answers.0 (outside_of plan (g.R.SectorDisk.state last.disk.now))) (capacity_ready store plan d0 attached capacity mine most c.capacity-capacity.ensures)
-                (begun_answers heard mine start now plan (g.R.SectorDisk.state first) d0 versioned place turns (plan_of store) (plan_of base.store.now) (finds_ready store plan d0 attached) (ap (λ (a : Anchor). a.journal) c.attach_volume.ensures.anchor)
-                (g.R.SectorDisk.state base.disk.now) (g.R.SectorDisk.state last.disk.now) answers.0 (g.V.Volume.knows c.in_ok-volume.volume space mine) space begins (answers.3 base_tells mine begins.begun begins.stands))),
+                subst (λ (r : g.row.R.Denot). AnswersSpoken (SpeaksFrom start (g.K.Speaker.spoke c.args.speaker.now) (g.K.Speaker.spoke c.run.new.speaker)) heard capacity start None (outside_of plan (g.R.SectorDisk.state first)) (held most_bytes answers.0) (outside_of plan (g.R.SectorDisk.state r))) (sym rig_is)
+                (subst (λ n. AnswersSpoken (SpeaksFrom start (g.K.Speaker.spoke c.args.speaker.now) (g.K.Speaker.spoke c.run.new.speaker)) heard n start None (outside_of plan (g.R.SectorDisk.state first)) (held most_bytes answers.0) (outside_of plan (g.R.SectorDisk.state last.disk.now))) (capacity_ready store plan d0 attached capacity mine most c.capacity-capacity.ensures)
+                (begun_answers (SpeaksFrom start (g.K.Speaker.spoke c.args.speaker.now) (g.K.Speaker.spoke c.run.new.speaker)) heard mine start now (λ begun. Speaks 0 begun (g.K.Speaker.spoke c.args.speaker.now) (g.K.Speaker.spoke c.run.new.speaker)) (λ begun tree speech speaks. (begun, tree, speaks)) plan (g.R.SectorDisk.state first) d0 versioned place turns (plan_of store) (plan_of base.store.now) (finds_ready store plan d0 attached) (ap (λ (a : Anchor). a.journal) c.attach_volume.ensures.anchor)
+                (g.R.SectorDisk.state base.disk.now) (g.R.SectorDisk.state last.disk.now) (held most_bytes answers.0) (g.V.Volume.knows c.in_ok-volume.volume space mine) space begins (answers.3 base_tells mine begins.begun begins.stands))),
           ),
     )
 
@@ -225,3 +232,16 @@ returns-clause-same g c =
     let names = c.run.ensures.names ∙ ap (λ (a : Anchor). a.names) c.attach_volume.ensures.anchor in
     let rig_is = c.rig-2-1.given.1 (sym (ap (λ (l : List ℕ). get_or l 1 0) names)) in
     subst (λ (r : g.row.R.Denot). SameDisk d0 (g.R.SectorDisk.state r)) (sym rig_is) (disks_both (same_disk (ap (λ (a : Anchor). a.rig) c.attach_volume.ensures.anchor)) c.run.ensures.same)
+
+pub returns-clause-commits : goal.returns-clause-commits
+returns-clause-commits g c tells =
+    let disk = c.args.rig.now in
+    let d0 = g.R.SectorDisk.state disk in
+    let store = c.in_ok-store.store in
+    let attached = c.in_ok-store.ensures disk c.requires.fits in
+    let there = c.requires.ready tells in
+    let names = c.run.ensures.names ∙ ap (λ (a : Anchor). a.names) c.attach_volume.ensures.anchor in
+    let rig_is = c.rig-2-1.given.1 (sym (ap (λ (l : List ℕ). get_or l 1 0) names)) in
+    let space_tells = tells_space store c.args.plan.now d0 attached (g.met.R.SectorDisk.well_formed disk) tells there.0 there.1 c.store-3-1.given.0 c.base-1.given in
+    subst (λ (r : g.row.R.Denot). OnOk c.run.result ((count : ℕ) × (IsTrue (g.S.Source.stream c.args.source.now).tells → count ≡ length (lines (g.S.Source.stream c.args.source.now).left)) × CommitsRun (WantsOver g.V.Volume.wants g.R.SectorDisk.state) g.K.Speaker.often 4 count d0.barriers (g.R.SectorDisk.state r).barriers)) (sym rig_is)
+    (on_ok _ _ c.run.result (λ served. (served.0, served.1, run_behind _ g.K.Speaker.often 0 4 served.0 d0.barriers _ _ served.2 c.attach_volume.ensures.barriers)) (c.run.ensures.commits (subst (λ t. IsTrue t) (sym c.in_ok-volume.ensures.tells) space_tells)))

@@ -1,19 +1,21 @@
-use Rattle.std.proofs.Common.{◌≡◌, ◌≤◌, ◌<◌, ◌+◌, [], ℕ, List, length, length-append, length-drop, take, drop, refl, sym, ◌∙◌, ap, subst, arith}
+use Rattle.std.proofs.Common.{◌≡◌, ◌≤◌, ◌<◌, ◌+◌, [], ℕ, List, length, length-append, length-drop, take, refl, sym, ◌∙◌, ap, subst, arith}
 use Rattle.std.specs.Prelude.{Option, IsTrue}
 use Rattle.jnl_format.specs.Recovery.{Content}
 use Rattle.hfs_serving.specs.Going.{Stands}
 use Rattle.volume_runs.specs.Run.{shrunk_in}
-use Rattle.hfs_serving.specs.Steps.{CrashesStep, ServesStep}
 use Rattle.hfs_serving.proofs.Going.{on_err}
-use Rattle.hfs_serving.proofs.Stepping.{both_heard, crash_both_heard, ends_heard, no_line_heard, step_both, step_crash, step_ends}
+use Rattle.hfs_serving.proofs.Speeches.{speaks_more}
+use Rattle.hfs_serving.proofs.Stepping.{no_line_served, step_both, step_crash, step_ends}
 use Rattle.hfs_serving.proofs.Promising.{took_none}
-use Rattle.hfs_serving.proofs.Pending.{crash_heard, crash_texts, more_heard, no_items, on_add, on_ends, on_none, on_serve, on_stops, step_texts, texts_heard}
+use Rattle.hfs_serving.proofs.Pending.{crash_held, held_length, no_items, on_add, on_ends, on_none, on_serve, on_stops, step_held, step_more}
 use Rattle.std.proofs.lemmas.Result.{err_from_is_err_and}
+use Rattle.hfs_serving.proofs.Caused.{batch_on, first_batch}
 use Rattle.hfs_serving.proofs.Causes.{counts_both, counts_none, fine_stop, handed_on, other_stop, took_stop}
 use Rattle.sector_disk.specs.Cause.{Rose}
 use Rattle.hfs_serving.proofs.Numbering.{all_lines, counted, more_lines, too_many}
 use Rattle.std.proofs.Common.{◌-◌, ◌++◌}
-use Rattle.hfs_serving.specs.Watching.{CrashesHeard, ServesHeard}
+use Rattle.hfs_serving.specs.Speaking.{Speaks}
+use Rattle.hfs_serving.specs.Spoken.{CrashesSpoken}
 use Rattle.hfs_serving.proofs.Hearing.{all_stay, no_ok_on}
 use Rattle.watchers.proofs.Tellings.{told_both}
 use Rattle.std.proofs.lemmas.Bool.Decides.{nat_tests}
@@ -21,7 +23,7 @@ use Rattle.std.proofs.lemmas.List.{length-map}
 use Rattle.hfs_language.specs.Language.{most_bytes}
 use Rattle.line_source.specs.Batch.{held}
 use Rattle.std.proofs.Common.{Err}
-use Rattle.hfs_serving.proofs.Answering.{final_of, front_heard, handed_answers}
+use Rattle.hfs_serving.proofs.Answering.{answers_front, final_of, handed_answers}
 use Rattle.hfs_serving.proofs.Finals.{no_final, on_final}
 use Rattle.hfs_serving.proofs.taking.serve_source.Goals as goal
 
@@ -33,28 +35,18 @@ serve_step-requires-clause-stands g c tells =
 pub serve_step-requires-clause-numbers : goal.serve_step-requires-clause-numbers
 serve_step-requires-clause-numbers g c = omega (arith, ap (λ (l : List (List ℕ)). length l) (c.as_slice.ensures.value ∙ c.new-lines.ensures.items))
 
-pub returns-in_err-serve_step-clause-stops : goal.returns-in_err-serve_step-clause-stops
-returns-in_err-serve_step-clause-stops g c =
-    let none = c.as_slice.ensures.value ∙ c.new-lines.ensures.items in
-    on_err c.from_residual.result (
-      [],
-      λ told. took_none c.args.input.now (g.S.Source.stream c.args.source.now),
-      λ tells capacity start shrunk stands.
-          subst (λ (l : List (List ℕ)). CrashesStep capacity start shrunk (g.G.Ground.outside c.args.base.now) l (g.G.Ground.outside c.serve_step.new.base)) none (c.in_err-serve_step.ensures.stops tells capacity start shrunk stands),
-    )
-
-pub returns-in_err-serve_step-clause-watched : goal.returns-in_err-serve_step-clause-watched
-returns-in_err-serve_step-clause-watched g c =
+pub returns-in_err-serve_step-clause-serves : goal.returns-in_err-serve_step-clause-serves
+returns-in_err-serve_step-clause-serves g c =
     let none = c.as_slice.ensures.value ∙ c.new-lines.ensures.items in
     let p = err_from_is_err_and c.from_residual.result c.from_residual.ensures.1 in
-    let watched = c.in_err-serve_step.ensures.watched in (
+    let watched = c.in_err-serve_step.ensures.serves in (
       watched.0,
       watched.1,
       (
         [],
         λ told. took_none c.args.input.now (g.S.Source.stream c.args.source.now),
         λ tells capacity start shrunk stands.
-            subst (λ (l : List (List ℕ)). CrashesHeard 0 watched.0 capacity start shrunk (g.G.Ground.outside c.args.base.now) l (g.G.Ground.outside c.serve_step.new.base)) none (watched.2 tells capacity start shrunk stands).1,
+            subst (λ (l : List (List ℕ)). CrashesSpoken (Speaks 0 start (g.K.Speaker.spoke c.args.speaker.now) g.K.Speaker.broken) watched.0 capacity start shrunk (g.G.Ground.outside c.args.base.now) l (g.G.Ground.outside c.serve_step.new.base)) none (watched.2 tells capacity start shrunk stands).1,
       ),
       no_ok_on _ c.from_residual.result p.0 p.1,
       on_err c.from_residual.result (λ final. absurd (no_final _ c.in_err-serve_step.ensures.faults.source c.in_err-serve_step.ensures.no_many (final_of _ p.0 c.from_residual.result p.1 p.2 final))),
@@ -83,11 +75,12 @@ loop-lines-init g c = record {
   fits = omega (arith, ap (λ (l : List (List ℕ)). length l) c.new-lines.ensures.items);
   most = omega (arith, ap (λ (l : List (List ℕ)). length l) c.new-lines.ensures.items);
   bound = omega arith;
+  commits = λ tells. first_batch _ g.K.Speaker.often _ _ _ _ (c.as_slice.ensures.value ∙ c.new-lines.ensures.items) c.in_ok-serve_step.ensures.few (c.in_ok-serve_step.ensures.once tells);
   on = (
-    c.in_ok-serve_step.ensures.watched.0,
-    c.in_ok-serve_step.ensures.watched.1,
+    c.in_ok-serve_step.ensures.serves.0,
+    c.in_ok-serve_step.ensures.serves.1,
     on_none c.args.input.now (g.S.Source.stream c.args.source.now) c.new-lines.result.items _ c.new-lines.ensures.items
-        (omega arith, λ tells capacity start shrunk stands. no_line_heard 0 capacity c.in_ok-serve_step.ensures.watched.0 shrunk start (g.G.Ground.outside c.args.base.now) (g.V.Volume.knows c.serve_step.new.volume (g.G.SectorView.space c.serve_step.new.base) capacity) (g.G.SectorView.space c.serve_step.new.base) (g.G.Ground.outside c.serve_step.new.base) _ _ (c.as_slice.ensures.value ∙ c.new-lines.ensures.items) c.in_ok-serve_step.ensures.few (c.in_ok-serve_step.ensures.watched.2 tells capacity start shrunk stands).0),
+        (omega arith, λ tells capacity start shrunk stands. no_line_served (Speaks 0 start (g.K.Speaker.spoke c.args.speaker.now) (g.K.Speaker.spoke c.serve_step.new.speaker)) c.in_ok-serve_step.ensures.serves.0 capacity shrunk start (g.G.Ground.outside c.args.base.now) (g.V.Volume.knows c.serve_step.new.volume (g.G.SectorView.space c.serve_step.new.base) capacity) (g.G.SectorView.space c.serve_step.new.base) (g.G.Ground.outside c.serve_step.new.base) _ _ (c.as_slice.ensures.value ∙ c.new-lines.ensures.items) c.in_ok-serve_step.ensures.few (c.in_ok-serve_step.ensures.serves.2 tells capacity start shrunk stands).0),
   );
 }
 
@@ -95,90 +88,8 @@ pub serve_step-requires-in-loop-lines-clause-stands : goal.serve_step-requires-i
 serve_step-requires-in-loop-lines-clause-stands g c tells_there =
     let tells = subst (λ t. IsTrue t) c.loop-lines.invariant.tells tells_there in
     let there = c.requires.stands tells in
-    let first = (c.loop-lines.invariant.on.2.1.1 tells there.0 there.1 there.2 there.3).0 in
-    (there.0, first.now, first.now, shrunk_in there.2 first.run, first.stands)
-
-pub returns-in_err-take_lines-clause-stops : goal.returns-in_err-take_lines-clause-stops
-returns-in_err-take_lines-clause-stops g c =
-    let source = g.S.Source.stream c.args.source.now in
-    let now = g.S.Source.stream c.loop-lines.source in
-    let new = g.S.Source.stream c.take_lines.new.source in
-    on_err c.from_residual-in_err-take_lines.result
-    (on_stops c.args.input.now source c.loop-lines.lines.items c.loop-lines.input now _ c.loop-lines.invariant.on.2 _ new
-    (λ tells. c.take_lines.ensures.gone (subst IsTrue (sym c.loop-lines.invariant.same.tells) tells))
-    (λ count texts inside are served tells capacity start shrunk stands. step_ends capacity shrunk start (g.G.Ground.outside c.args.base.now) texts count _ _ _ (served.1 tells capacity start shrunk stands).0))
-
-pub returns-then-is_empty-clause-serves : goal.returns-then-is_empty-clause-serves
-returns-then-is_empty-clause-serves g c =
-    let source = g.S.Source.stream c.args.source.now in
-    let now = g.S.Source.stream c.loop-lines.source in
-    let new = g.S.Source.stream c.take_lines.new.source in
-    let old = g.G.Ground.outside c.args.base.now in
-    let pending = c.take_lines.new.pending.items in
-    let same = c.loop-lines.invariant.same in
-    let read =
-    on_add c.args.input.now source c.loop-lines.lines.items c.loop-lines.input now _ c.loop-lines.invariant.on.2 pending c.take_lines.new.input new same.tells c.in_ok-take_lines.ensures.lines
-    (λ count texts more inside served. (served.0, λ tells capacity start shrunk stands. more_heard capacity start shrunk old texts 0 c.loop-lines.invariant.on.0 more count _ _ _ inside (served.1 tells capacity start shrunk stands))) in
-    let none = no_items pending c.take_lines.new.pending.len c.is_empty.result c.take_lines.new.pending.ok.0 c.is_empty.ensures c.if-is_empty.true in
-    let ends = on_ends c.args.input.now source pending c.take_lines.new.input new _ read none (λ tells. (c.in_ok-take_lines.ensures.end (subst IsTrue (sym same.tells) tells) none).1) in
-    (ends.0, ends.1, λ tells capacity start shrunk stands. (ends.2.1 tells capacity start shrunk stands).0)
-
-pub returns-in_err-count-clause-stops : goal.returns-in_err-count-clause-stops
-returns-in_err-count-clause-stops g c =
-    let source = g.S.Source.stream c.args.source.now in
-    let now = g.S.Source.stream c.loop-lines.source in
-    let new = g.S.Source.stream c.take_lines.new.source in
-    let old = g.G.Ground.outside c.args.base.now in
-    let pending = c.take_lines.new.pending.items in
-    let same = c.loop-lines.invariant.same in
-    let read =
-    on_add c.args.input.now source c.loop-lines.lines.items c.loop-lines.input now _ c.loop-lines.invariant.on.2 pending c.take_lines.new.input new same.tells c.in_ok-take_lines.ensures.lines
-    (λ count texts more inside served. (served.0, λ tells capacity start shrunk stands. more_heard capacity start shrunk old texts 0 c.loop-lines.invariant.on.0 more count _ _ _ inside (served.1 tells capacity start shrunk stands))) in
-    on_err c.from_residual-in_err-count.result
-    (on_stops c.args.input.now source pending c.take_lines.new.input new _ read _ new (λ tells. (c.take_lines.new.input, refl))
-    (λ count texts inside are served tells capacity start shrunk stands.
-    let space = g.G.SectorView.space c.loop-lines.base in
-    let mid = g.G.Ground.outside c.loop-lines.base in
-    let knows = g.V.Volume.knows c.loop-lines.volume space capacity in
-    let first = (served.1 tells capacity start shrunk stands).0 in
-    let tells_there = c.loop-lines.invariant.tells ∙ tells in
-    let last = shrunk_in shrunk first.run in
-    let after = g.G.Ground.outside c.serve_step-in-loop-lines.new.base in
-    let are_texts = c.as_slice-in-loop-lines.ensures.value ∙ are in
-    let second =
-    crash_texts capacity first.now last mid (drop count texts) after
-    (subst (λ (l : List (List ℕ)). CrashesStep capacity first.now last mid l after) are_texts (c.in_err-count.ensures.stops tells_there capacity first.now last first.stands)) in
-    step_crash capacity shrunk start old texts count knows space mid first after second))
-
-pub returns-then-count-eq0-clause-stops : goal.returns-then-count-eq0-clause-stops
-returns-then-count-eq0-clause-stops g c =
-    let source = g.S.Source.stream c.args.source.now in
-    let now = g.S.Source.stream c.loop-lines.source in
-    let new = g.S.Source.stream c.take_lines.new.source in
-    let old = g.G.Ground.outside c.args.base.now in
-    let pending = c.take_lines.new.pending.items in
-    let same = c.loop-lines.invariant.same in
-    let read =
-    on_add c.args.input.now source c.loop-lines.lines.items c.loop-lines.input now _ c.loop-lines.invariant.on.2 pending c.take_lines.new.input new same.tells c.in_ok-take_lines.ensures.lines
-    (λ count texts more inside served. (served.0, λ tells capacity start shrunk stands. more_heard capacity start shrunk old texts 0 c.loop-lines.invariant.on.0 more count _ _ _ inside (served.1 tells capacity start shrunk stands))) in
-    on_stops c.args.input.now source pending c.take_lines.new.input new _ read _ new (λ tells. (c.take_lines.new.input, refl))
-    (λ count texts inside are served tells capacity start shrunk stands.
-    let space = g.G.SectorView.space c.loop-lines.base in
-    let mid = g.G.Ground.outside c.loop-lines.base in
-    let knows = g.V.Volume.knows c.loop-lines.volume space capacity in
-    let first = (served.1 tells capacity start shrunk stands).0 in
-    let tells_there = c.loop-lines.invariant.tells ∙ tells in
-    let last = shrunk_in shrunk first.run in
-    let after = g.G.Ground.outside c.serve_step-in-loop-lines.new.base in
-    let are_texts = c.as_slice-in-loop-lines.ensures.value ∙ are in
-    let space_new = g.G.SectorView.space c.serve_step-in-loop-lines.new.base in
-    let knows_new = g.V.Volume.knows c.serve_step-in-loop-lines.new.volume space_new capacity in
-    let k = c.in_ok-count.count in
-    let second =
-    step_texts capacity first.now last mid (drop count texts) k knows_new space_new after
-    (subst (λ (l : List (List ℕ)). ServesStep k capacity knows_new first.now last mid l space_new after) are_texts (c.in_ok-count.ensures.serves tells_there capacity first.now last first.stands)) in
-    let both = step_both capacity shrunk start old texts count knows space mid first k knows_new space_new after second in
-    step_ends capacity shrunk start old texts (count + k) knows_new space_new after both)
+    let first = c.loop-lines.invariant.on.2.1.1 tells there.0 there.1 there.2 there.3 in
+    (there.0, first.now, first.now, shrunk_in there.2 first.speech.run, first.stands)
 
 pub drop_first-requires : goal.drop_first-requires
 drop_first-requires g c = subst (λ (l : List (List ℕ)). c.in_ok-count.count ≤ length l) c.as_slice-in-loop-lines.ensures.value c.in_ok-count.ensures.few
@@ -193,7 +104,7 @@ loop-lines-preserved g c =
     let same = c.loop-lines.invariant.same in
     let read =
     on_add c.args.input.now source c.loop-lines.lines.items c.loop-lines.input now _ c.loop-lines.invariant.on.2 pending c.take_lines.new.input new same.tells c.in_ok-take_lines.ensures.lines
-    (λ count texts more inside served. (served.0, λ tells capacity start shrunk stands. more_heard capacity start shrunk old texts 0 c.loop-lines.invariant.on.0 more count _ _ _ inside (served.1 tells capacity start shrunk stands))) in
+    (λ count texts more inside served. (served.0, λ tells capacity start shrunk stands. step_more (Speaks 0 start (g.K.Speaker.spoke c.args.speaker.now) (g.K.Speaker.spoke c.loop-lines.speaker)) c.loop-lines.invariant.on.0 capacity start shrunk old texts more count _ _ _ inside (served.1 tells capacity start shrunk stands))) in
     let few = subst (λ (l : List (List ℕ)). c.in_ok-count.count ≤ length l) c.as_slice-in-loop-lines.ensures.value c.in_ok-count.ensures.few in
     let far : c.in_ok-count.count ≤ c.loop-lines.left = omega (arith, few, c.in_ok-take_lines.ensures.left) in
     record {
@@ -212,11 +123,14 @@ loop-lines-preserved g c =
       fits = omega (arith, few, c.in_ok-take_lines.ensures.left, ap (λ (l : List (List ℕ)). length l) c.drop_first.ensures, length-drop c.in_ok-count.count pending);
       most = omega (arith, c.in_ok-take_lines.ensures.most, ap (λ (l : List (List ℕ)). length l) c.drop_first.ensures, length-drop c.in_ok-count.count pending);
       bound = omega (arith, c.loop-lines.invariant.bound);
+      commits = λ tells.
+          batch_on _ g.K.Speaker.often (4294967295 - c.loop-lines.left) c.in_ok-count.count (4294967295 - (c.loop-lines.left - c.in_ok-count.count)) _ _ _ (c.loop-lines.invariant.commits tells) (c.in_ok-count.ensures.once (c.loop-lines.invariant.tells ∙ tells)) (grind (arith, nat_tests, c.if-count-eq0.false))
+          (omega (arith, far, c.loop-lines.invariant.bound));
       on = (
-        c.loop-lines.invariant.on.0 ++ c.in_ok-count.ensures.watched.0,
+        c.loop-lines.invariant.on.0 ++ c.in_ok-count.ensures.serves.0,
         λ stay.
             let before = c.loop-lines.invariant.on.1 stay in
-            told_both _ _ c.loop-lines.invariant.on.0 c.in_ok-count.ensures.watched.0 _ _ _ before (c.in_ok-count.ensures.watched.1 (all_stay _ _ c.loop-lines.invariant.on.0 _ _ before)),
+            told_both _ _ c.loop-lines.invariant.on.0 c.in_ok-count.ensures.serves.0 _ _ _ before (c.in_ok-count.ensures.serves.1 (all_stay _ _ c.loop-lines.invariant.on.0 _ _ before)),
         on_serve c.args.input.now source pending c.take_lines.new.input new _ read _ c.in_ok-count.count c.drop_first.new.lines.items few c.drop_first.ensures
             (λ count texts inside are served. (
               counted c.in_ok-count.count count c.loop-lines.left served.0 far,
@@ -226,19 +140,17 @@ loop-lines-preserved g c =
                   let knows = g.V.Volume.knows c.loop-lines.volume space capacity in
                   let first = served.1 tells capacity start shrunk stands in
                   let tells_there = c.loop-lines.invariant.tells ∙ tells in
-                  let last = shrunk_in shrunk first.0.run in
+                  let last = shrunk_in shrunk first.speech.run in
                   let after = g.G.Ground.outside c.serve_step-in-loop-lines.new.base in
                   let are_texts = c.as_slice-in-loop-lines.ensures.value ∙ are in
                   let space_new = g.G.SectorView.space c.serve_step-in-loop-lines.new.base in
                   let knows_new = g.V.Volume.knows c.serve_step-in-loop-lines.new.volume space_new capacity in
                   let k = c.in_ok-count.count in
-                  let heard = c.in_ok-count.ensures.watched.0 in
+                  let heard = c.in_ok-count.ensures.serves.0 in
                   let at : 4294967295 - c.loop-lines.left ≡ count = omega (arith, served.0) in
                   let second =
-                  texts_heard capacity first.0.now last mid (drop count texts) count heard k knows_new space_new after
-                  (subst (λ (n : ℕ). ServesHeard n heard k capacity knows_new first.0.now last mid (held most_bytes (drop count texts)) space_new after) at
-                  (subst (λ (l : List (List ℕ)). ServesHeard (4294967295 - c.loop-lines.left) heard k capacity knows_new first.0.now last mid l space_new after) are_texts (c.in_ok-count.ensures.watched.2 tells_there capacity first.0.now last first.0.stands).0)) in
-                  both_heard capacity shrunk start old texts count knows space mid first.0 inside c.loop-lines.invariant.on.0 first.1 heard k knows_new space_new after second,
+                  step_held (g.K.Speaker.spoke c.loop-lines.speaker) (g.K.Speaker.spoke c.serve_step-in-loop-lines.new.speaker) heard (4294967295 - c.loop-lines.left) count capacity first.now last mid _ texts at are_texts k knows_new space_new after (c.in_ok-count.ensures.serves.2 tells_there capacity first.now last first.stands).0 in
+                  step_both capacity shrunk start old (held most_bytes texts) count (omega (arith, inside, held_length texts)) (g.K.Speaker.spoke c.args.speaker.now) (g.K.Speaker.spoke c.loop-lines.speaker) c.loop-lines.invariant.on.0 knows space mid first (g.K.Speaker.spoke c.serve_step-in-loop-lines.new.speaker) heard k knows_new space_new after second,
             )),
       );
     }
@@ -302,11 +214,29 @@ returns-then-is_empty-clause-few g c told =
     let same = c.loop-lines.invariant.same in
     let read =
     on_add c.args.input.now source c.loop-lines.lines.items c.loop-lines.input now _ c.loop-lines.invariant.on.2 pending c.take_lines.new.input new same.tells c.in_ok-take_lines.ensures.lines
-    (λ count texts more inside served. (served.0, λ tells capacity start shrunk stands. more_heard capacity start shrunk old texts 0 c.loop-lines.invariant.on.0 more count _ _ _ inside (served.1 tells capacity start shrunk stands))) in
+    (λ count texts more inside served. (served.0, λ tells capacity start shrunk stands. step_more (Speaks 0 start (g.K.Speaker.spoke c.args.speaker.now) (g.K.Speaker.spoke c.loop-lines.speaker)) c.loop-lines.invariant.on.0 capacity start shrunk old texts more count _ _ _ inside (served.1 tells capacity start shrunk stands))) in
     let none = no_items pending c.take_lines.new.pending.len c.is_empty.result c.take_lines.new.pending.ok.0 c.is_empty.ensures c.if-is_empty.true in
     let ends = on_ends c.args.input.now source pending c.take_lines.new.input new _ read none (λ tells. (c.in_ok-take_lines.ensures.end (subst IsTrue (sym same.tells) tells) none).1) in
     let all = ends.1 told in
     omega (arith, ends.2.0, all_lines c.args.input.now source ends.0 c.take_lines.new.input new all.0 all.1)
+
+pub returns-then-is_empty-clause-commits : goal.returns-then-is_empty-clause-commits
+returns-then-is_empty-clause-commits g c tells_old =
+    let source = g.S.Source.stream c.args.source.now in
+    let now = g.S.Source.stream c.loop-lines.source in
+    let new = g.S.Source.stream c.take_lines.new.source in
+    let pending = c.take_lines.new.pending.items in
+    let same = c.loop-lines.invariant.same in
+    let on = c.loop-lines.invariant.on.2 in
+    let read =
+    on_add c.args.input.now source c.loop-lines.lines.items c.loop-lines.input now (λ (count : ℕ) (texts : List (List ℕ)). count + c.loop-lines.left ≡ 4294967295) (on.0, on.1.0) pending c.take_lines.new.input new same.tells c.in_ok-take_lines.ensures.lines
+    (λ count texts more inside served. served) in
+    let none = no_items pending c.take_lines.new.pending.len c.is_empty.result c.take_lines.new.pending.ok.0 c.is_empty.ensures c.if-is_empty.true in
+    let ends = on_ends c.args.input.now source pending c.take_lines.new.input new _ read none (λ tells. (c.in_ok-take_lines.ensures.end (subst IsTrue (sym same.tells) tells) none).1) in (
+      4294967295 - c.loop-lines.left,
+      λ told. let all = ends.1 told in omega (arith, ends.2, all_lines c.args.input.now source ends.0 c.take_lines.new.input new all.0 all.1),
+      c.loop-lines.invariant.commits tells_old,
+    )
 
 pub returns-in_err-count-clause-many : goal.returns-in_err-count-clause-many
 returns-in_err-count-clause-many g c told is =
@@ -324,8 +254,8 @@ loop-lines-smaller g c =
     let some : 0 < c.in_ok-count.count = grind (arith, nat_tests, c.if-count-eq0.false) in
     omega (arith, some, few, adds.nearer, ap (λ (l : List (List ℕ)). length l) adds.held_are, length-append c.loop-lines.lines.items (held most_bytes adds.texts), length-map adds.texts (take (most_bytes + 1)), ap (λ (l : List (List ℕ)). length l) c.drop_first.ensures, length-drop c.in_ok-count.count pending)
 
-pub returns-in_err-take_lines-clause-watched : goal.returns-in_err-take_lines-clause-watched
-returns-in_err-take_lines-clause-watched g c =
+pub returns-in_err-take_lines-clause-serves : goal.returns-in_err-take_lines-clause-serves
+returns-in_err-take_lines-clause-serves g c =
     let source = g.S.Source.stream c.args.source.now in
     let now = g.S.Source.stream c.loop-lines.source in
     let new = g.S.Source.stream c.take_lines.new.source in
@@ -333,8 +263,8 @@ returns-in_err-take_lines-clause-watched g c =
     on_stops c.args.input.now source c.loop-lines.lines.items c.loop-lines.input now _ c.loop-lines.invariant.on.2
     (λ (texts : List (List ℕ)). IsTrue (g.G.SectorView.space c.args.base.now).tells → (capacity : ℕ) (start : Content) (shrunk : Option ℕ)
     → Stands (g.V.Volume.knows c.args.volume.now (g.G.SectorView.space c.args.base.now) capacity) start start shrunk (g.G.SectorView.space c.args.base.now) (g.G.Ground.outside c.args.base.now)
-    → CrashesHeard 0 c.loop-lines.invariant.on.0 capacity start shrunk (g.G.Ground.outside c.args.base.now) texts (g.G.Ground.outside c.loop-lines.base)) new (λ tells. c.take_lines.ensures.gone (subst IsTrue (sym c.loop-lines.invariant.same.tells) tells))
-    (λ count texts inside are served tells capacity start shrunk stands. ends_heard capacity shrunk start (g.G.Ground.outside c.args.base.now) texts 0 c.loop-lines.invariant.on.0 count _ _ _ (served.1 tells capacity start shrunk stands)) in
+    → CrashesSpoken (Speaks 0 start (g.K.Speaker.spoke c.args.speaker.now) g.K.Speaker.broken) c.loop-lines.invariant.on.0 capacity start shrunk (g.G.Ground.outside c.args.base.now) (held most_bytes texts) (g.G.Ground.outside c.loop-lines.base)) new (λ tells. c.take_lines.ensures.gone (subst IsTrue (sym c.loop-lines.invariant.same.tells) tells))
+    (λ count texts inside are served tells capacity start shrunk stands. step_ends capacity shrunk start (g.G.Ground.outside c.args.base.now) (held most_bytes texts) (Speaks 0 start (g.K.Speaker.spoke c.args.speaker.now) (g.K.Speaker.spoke c.loop-lines.speaker)) (Speaks 0 start (g.K.Speaker.spoke c.args.speaker.now) g.K.Speaker.broken) c.loop-lines.invariant.on.0 count _ _ _ (λ speech. speaks_more 0 start (g.K.Speaker.spoke c.args.speaker.now) (g.K.Speaker.spoke c.loop-lines.speaker) g.K.Speaker.broken speech (g.met.K.Speaker.whole c.loop-lines.speaker)) (served.1 tells capacity start shrunk stands)) in
     let p = err_from_is_err_and c.from_residual-in_err-take_lines.result c.from_residual-in_err-take_lines.ensures.1 in
     let on = c.loop-lines.invariant.on.2 in
     let took = c.in_err-take_lines.ensures in
@@ -352,12 +282,12 @@ returns-in_err-take_lines-clause-watched g c =
             take on.0.count on.0.texts,
             ends.0,
             ends.1,
-            λ tells capacity start shrunk stands. front_heard c.loop-lines.invariant.on.0 on.0.count capacity shrunk start (g.G.Ground.outside c.args.base.now) on.0.texts _ _ _ (on.1.1 tells capacity start shrunk stands),
+            λ tells capacity start shrunk stands. answers_front (Speaks 0 start (g.K.Speaker.spoke c.args.speaker.now) (g.K.Speaker.spoke c.loop-lines.speaker)) c.loop-lines.invariant.on.0 on.0.count capacity shrunk start (g.G.Ground.outside c.args.base.now) on.0.texts _ _ _ (on.1.1 tells capacity start shrunk stands),
           ))),
     )
 
-pub returns-then-is_empty-clause-watched : goal.returns-then-is_empty-clause-watched
-returns-then-is_empty-clause-watched g c =
+pub returns-then-is_empty-clause-serves : goal.returns-then-is_empty-clause-serves
+returns-then-is_empty-clause-serves g c =
     let source = g.S.Source.stream c.args.source.now in
     let now = g.S.Source.stream c.loop-lines.source in
     let new = g.S.Source.stream c.take_lines.new.source in
@@ -365,20 +295,20 @@ returns-then-is_empty-clause-watched g c =
     on_stops c.args.input.now source c.loop-lines.lines.items c.loop-lines.input now _ c.loop-lines.invariant.on.2
     (λ (texts : List (List ℕ)). IsTrue (g.G.SectorView.space c.args.base.now).tells → (capacity : ℕ) (start : Content) (shrunk : Option ℕ)
     → Stands (g.V.Volume.knows c.args.volume.now (g.G.SectorView.space c.args.base.now) capacity) start start shrunk (g.G.SectorView.space c.args.base.now) (g.G.Ground.outside c.args.base.now)
-    → CrashesHeard 0 c.loop-lines.invariant.on.0 capacity start shrunk (g.G.Ground.outside c.args.base.now) texts (g.G.Ground.outside c.loop-lines.base)) new (λ tells. c.take_lines.ensures.gone (subst IsTrue (sym c.loop-lines.invariant.same.tells) tells))
-    (λ count texts inside are served tells capacity start shrunk stands. ends_heard capacity shrunk start (g.G.Ground.outside c.args.base.now) texts 0 c.loop-lines.invariant.on.0 count _ _ _ (served.1 tells capacity start shrunk stands)) in
+    → CrashesSpoken (Speaks 0 start (g.K.Speaker.spoke c.args.speaker.now) g.K.Speaker.broken) c.loop-lines.invariant.on.0 capacity start shrunk (g.G.Ground.outside c.args.base.now) (held most_bytes texts) (g.G.Ground.outside c.loop-lines.base)) new (λ tells. c.take_lines.ensures.gone (subst IsTrue (sym c.loop-lines.invariant.same.tells) tells))
+    (λ count texts inside are served tells capacity start shrunk stands. step_ends capacity shrunk start (g.G.Ground.outside c.args.base.now) (held most_bytes texts) (Speaks 0 start (g.K.Speaker.spoke c.args.speaker.now) (g.K.Speaker.spoke c.loop-lines.speaker)) (Speaks 0 start (g.K.Speaker.spoke c.args.speaker.now) g.K.Speaker.broken) c.loop-lines.invariant.on.0 count _ _ _ (λ speech. speaks_more 0 start (g.K.Speaker.spoke c.args.speaker.now) (g.K.Speaker.spoke c.loop-lines.speaker) g.K.Speaker.broken speech (g.met.K.Speaker.whole c.loop-lines.speaker)) (served.1 tells capacity start shrunk stands)) in
     let pending = c.take_lines.new.pending.items in
     let same = c.loop-lines.invariant.same in
     let old = g.G.Ground.outside c.args.base.now in
     let read =
     on_add c.args.input.now source c.loop-lines.lines.items c.loop-lines.input now _ c.loop-lines.invariant.on.2 pending c.take_lines.new.input new same.tells c.in_ok-take_lines.ensures.lines
-    (λ count texts more inside served. (served.0, λ tells capacity start shrunk stands. more_heard capacity start shrunk old texts 0 c.loop-lines.invariant.on.0 more count _ _ _ inside (served.1 tells capacity start shrunk stands))) in
+    (λ count texts more inside served. (served.0, λ tells capacity start shrunk stands. step_more (Speaks 0 start (g.K.Speaker.spoke c.args.speaker.now) (g.K.Speaker.spoke c.loop-lines.speaker)) c.loop-lines.invariant.on.0 capacity start shrunk old texts more count _ _ _ inside (served.1 tells capacity start shrunk stands))) in
     let none = no_items pending c.take_lines.new.pending.len c.is_empty.result c.take_lines.new.pending.ok.0 c.is_empty.ensures c.if-is_empty.true in
     let ends = on_ends c.args.input.now source pending c.take_lines.new.input new _ read none (λ tells. (c.in_ok-take_lines.ensures.end (subst IsTrue (sym same.tells) tells) none).1) in
     (c.loop-lines.invariant.on.0, c.loop-lines.invariant.on.1, stops, (ends.0, ends.1, ends.2.1), tt)
 
-pub returns-in_err-count-clause-watched : goal.returns-in_err-count-clause-watched
-returns-in_err-count-clause-watched g c =
+pub returns-in_err-count-clause-serves : goal.returns-in_err-count-clause-serves
+returns-in_err-count-clause-serves g c =
     let source = g.S.Source.stream c.args.source.now in
     let now = g.S.Source.stream c.loop-lines.source in
     let new = g.S.Source.stream c.take_lines.new.source in
@@ -389,40 +319,38 @@ returns-in_err-count-clause-watched g c =
     let p = err_from_is_err_and c.from_residual-in_err-count.result c.from_residual-in_err-count.ensures.1 in
     let read =
     on_add c.args.input.now source c.loop-lines.lines.items c.loop-lines.input now _ c.loop-lines.invariant.on.2 pending c.take_lines.new.input new same.tells c.in_ok-take_lines.ensures.lines
-    (λ count texts more inside served. (served.0, λ tells capacity start shrunk stands. more_heard capacity start shrunk old texts 0 before more count _ _ _ inside (served.1 tells capacity start shrunk stands))) in
-    let heard = c.in_err-count.ensures.watched.0 in
+    (λ count texts more inside served. (served.0, λ tells capacity start shrunk stands. step_more (Speaks 0 start (g.K.Speaker.spoke c.args.speaker.now) (g.K.Speaker.spoke c.loop-lines.speaker)) before capacity start shrunk old texts more count _ _ _ inside (served.1 tells capacity start shrunk stands))) in
+    let heard = c.in_err-count.ensures.serves.0 in
     let stops =
     on_stops c.args.input.now source pending c.take_lines.new.input new _ read
     (λ (texts : List (List ℕ)). IsTrue (g.G.SectorView.space c.args.base.now).tells → (capacity : ℕ) (start : Content) (shrunk : Option ℕ)
     → Stands (g.V.Volume.knows c.args.volume.now (g.G.SectorView.space c.args.base.now) capacity) start start shrunk (g.G.SectorView.space c.args.base.now) old
-    → CrashesHeard 0 (before ++ heard) capacity start shrunk old texts (g.G.Ground.outside c.serve_step-in-loop-lines.new.base)) new (λ tells. (c.take_lines.new.input, refl))
+    → CrashesSpoken (Speaks 0 start (g.K.Speaker.spoke c.args.speaker.now) g.K.Speaker.broken) (before ++ heard) capacity start shrunk old (held most_bytes texts) (g.G.Ground.outside c.serve_step-in-loop-lines.new.base)) new (λ tells. (c.take_lines.new.input, refl))
     (λ count texts inside are served tells capacity start shrunk stands.
     let space = g.G.SectorView.space c.loop-lines.base in
     let mid = g.G.Ground.outside c.loop-lines.base in
     let knows = g.V.Volume.knows c.loop-lines.volume space capacity in
     let first = served.1 tells capacity start shrunk stands in
     let tells_there = c.loop-lines.invariant.tells ∙ tells in
-    let last = shrunk_in shrunk first.0.run in
+    let last = shrunk_in shrunk first.speech.run in
     let after = g.G.Ground.outside c.serve_step-in-loop-lines.new.base in
     let are_texts = c.as_slice-in-loop-lines.ensures.value ∙ are in
     let at : 4294967295 - c.loop-lines.left ≡ count = omega (arith, served.0) in
     let second =
-    crash_heard capacity first.0.now last mid (drop count texts) count heard after
-    (subst (λ (n : ℕ). CrashesHeard n heard capacity first.0.now last mid (held most_bytes (drop count texts)) after) at
-    (subst (λ (l : List (List ℕ)). CrashesHeard (4294967295 - c.loop-lines.left) heard capacity first.0.now last mid l after) are_texts (c.in_err-count.ensures.watched.2 tells_there capacity first.0.now last first.0.stands).1)) in
-    crash_both_heard capacity shrunk start old texts count knows space mid first.0 inside before first.1 heard after second) in (
+    crash_held (g.K.Speaker.spoke c.loop-lines.speaker) g.K.Speaker.broken heard (4294967295 - c.loop-lines.left) count capacity first.now last mid _ texts at are_texts after (c.in_err-count.ensures.serves.2 tells_there capacity first.now last first.stands).1 in
+    step_crash capacity shrunk start old (held most_bytes texts) count (omega (arith, inside, held_length texts)) (g.K.Speaker.spoke c.args.speaker.now) (g.K.Speaker.spoke c.loop-lines.speaker) before knows space mid first g.K.Speaker.broken heard after second) in (
       before ++ heard,
       λ stay.
           let there = c.loop-lines.invariant.on.1 stay in
-          told_both _ _ before heard _ _ _ there (c.in_err-count.ensures.watched.1 (all_stay _ _ before _ _ there)),
+          told_both _ _ before heard _ _ _ there (c.in_err-count.ensures.serves.1 (all_stay _ _ before _ _ there)),
       stops,
       no_ok_on _ c.from_residual-in_err-count.result p.0 p.1,
       on_err c.from_residual-in_err-count.result
           (λ final. absurd (no_final _ c.in_err-count.ensures.faults.source c.in_err-count.ensures.no_many (final_of _ p.0 c.from_residual-in_err-count.result p.1 p.2 final))),
     )
 
-pub returns-then-count-eq0-clause-watched : goal.returns-then-count-eq0-clause-watched
-returns-then-count-eq0-clause-watched g c =
+pub returns-then-count-eq0-clause-serves : goal.returns-then-count-eq0-clause-serves
+returns-then-count-eq0-clause-serves g c =
     let source = g.S.Source.stream c.args.source.now in
     let now = g.S.Source.stream c.loop-lines.source in
     let new = g.S.Source.stream c.take_lines.new.source in
@@ -432,20 +360,20 @@ returns-then-count-eq0-clause-watched g c =
     let before = c.loop-lines.invariant.on.0 in
     let read =
     on_add c.args.input.now source c.loop-lines.lines.items c.loop-lines.input now _ c.loop-lines.invariant.on.2 pending c.take_lines.new.input new same.tells c.in_ok-take_lines.ensures.lines
-    (λ count texts more inside served. (served.0, λ tells capacity start shrunk stands. more_heard capacity start shrunk old texts 0 before more count _ _ _ inside (served.1 tells capacity start shrunk stands))) in
-    let heard = c.in_ok-count.ensures.watched.0 in
+    (λ count texts more inside served. (served.0, λ tells capacity start shrunk stands. step_more (Speaks 0 start (g.K.Speaker.spoke c.args.speaker.now) (g.K.Speaker.spoke c.loop-lines.speaker)) before capacity start shrunk old texts more count _ _ _ inside (served.1 tells capacity start shrunk stands))) in
+    let heard = c.in_ok-count.ensures.serves.0 in
     let stops =
     on_stops c.args.input.now source pending c.take_lines.new.input new _ read
     (λ (texts : List (List ℕ)). IsTrue (g.G.SectorView.space c.args.base.now).tells → (capacity : ℕ) (start : Content) (shrunk : Option ℕ)
     → Stands (g.V.Volume.knows c.args.volume.now (g.G.SectorView.space c.args.base.now) capacity) start start shrunk (g.G.SectorView.space c.args.base.now) old
-    → CrashesHeard 0 (before ++ heard) capacity start shrunk old texts (g.G.Ground.outside c.serve_step-in-loop-lines.new.base)) new (λ tells. (c.take_lines.new.input, refl))
+    → CrashesSpoken (Speaks 0 start (g.K.Speaker.spoke c.args.speaker.now) g.K.Speaker.broken) (before ++ heard) capacity start shrunk old (held most_bytes texts) (g.G.Ground.outside c.serve_step-in-loop-lines.new.base)) new (λ tells. (c.take_lines.new.input, refl))
     (λ count texts inside are served tells capacity start shrunk stands.
     let space = g.G.SectorView.space c.loop-lines.base in
     let mid = g.G.Ground.outside c.loop-lines.base in
     let knows = g.V.Volume.knows c.loop-lines.volume space capacity in
     let first = served.1 tells capacity start shrunk stands in
     let tells_there = c.loop-lines.invariant.tells ∙ tells in
-    let last = shrunk_in shrunk first.0.run in
+    let last = shrunk_in shrunk first.speech.run in
     let after = g.G.Ground.outside c.serve_step-in-loop-lines.new.base in
     let are_texts = c.as_slice-in-loop-lines.ensures.value ∙ are in
     let at : 4294967295 - c.loop-lines.left ≡ count = omega (arith, served.0) in
@@ -453,14 +381,13 @@ returns-then-count-eq0-clause-watched g c =
     let knows_new = g.V.Volume.knows c.serve_step-in-loop-lines.new.volume space_new capacity in
     let k = c.in_ok-count.count in
     let second =
-    texts_heard capacity first.0.now last mid (drop count texts) count heard k knows_new space_new after
-    (subst (λ (n : ℕ). ServesHeard n heard k capacity knows_new first.0.now last mid (held most_bytes (drop count texts)) space_new after) at
-    (subst (λ (l : List (List ℕ)). ServesHeard (4294967295 - c.loop-lines.left) heard k capacity knows_new first.0.now last mid l space_new after) are_texts (c.in_ok-count.ensures.watched.2 tells_there capacity first.0.now last first.0.stands).0)) in
-    ends_heard capacity shrunk start old texts 0 (before ++ heard) (count + k) knows_new space_new after (both_heard capacity shrunk start old texts count knows space mid first.0 inside before first.1 heard k knows_new space_new after second)) in (
+    step_held (g.K.Speaker.spoke c.loop-lines.speaker) (g.K.Speaker.spoke c.serve_step-in-loop-lines.new.speaker) heard (4294967295 - c.loop-lines.left) count capacity first.now last mid _ texts at are_texts k knows_new space_new after (c.in_ok-count.ensures.serves.2 tells_there capacity first.now last first.stands).0 in
+    step_ends capacity shrunk start old (held most_bytes texts) (Speaks 0 start (g.K.Speaker.spoke c.args.speaker.now) (g.K.Speaker.spoke c.serve_step-in-loop-lines.new.speaker)) (Speaks 0 start (g.K.Speaker.spoke c.args.speaker.now) g.K.Speaker.broken) (before ++ heard) (count + k) knows_new space_new after (λ speech. speaks_more 0 start (g.K.Speaker.spoke c.args.speaker.now) (g.K.Speaker.spoke c.serve_step-in-loop-lines.new.speaker) g.K.Speaker.broken speech (g.met.K.Speaker.whole c.serve_step-in-loop-lines.new.speaker))
+    (step_both capacity shrunk start old (held most_bytes texts) count (omega (arith, inside, held_length texts)) (g.K.Speaker.spoke c.args.speaker.now) (g.K.Speaker.spoke c.loop-lines.speaker) before knows space mid first (g.K.Speaker.spoke c.serve_step-in-loop-lines.new.speaker) heard k knows_new space_new after second)) in (
       before ++ heard,
       λ stay.
           let there = c.loop-lines.invariant.on.1 stay in
-          told_both _ _ before heard _ _ _ there (c.in_ok-count.ensures.watched.1 (all_stay _ _ before _ _ there)),
+          told_both _ _ before heard _ _ _ there (c.in_ok-count.ensures.serves.1 (all_stay _ _ before _ _ there)),
       stops,
       tt,
       λ final. absurd final,

@@ -1,16 +1,19 @@
-use Rattle.std.proofs.Common.{◌∙◌, List, Result, Err, map, inl, inr, ⊎_elim, sym, ap, subst, arith}
-use Rattle.std.specs.Prelude.{IfErr, IfOk, OnOk}
+use Rattle.std.proofs.Common.{◌≡◌, ◌∙◌, ℕ, List, length, Result, Err, map, inl, inr, ⊎_elim, sym, ap, subst, arith}
+use Rattle.std.specs.Prelude.{IfErr, IfOk, IsTrue, OnOk}
 use Rattle.sector_disk.specs.Disk.{OnlyReads, content}
 use Rattle.fsck_list.specs.declared.finding.Finding.{Finding}
 use Rattle.fsck_core.specs.Wants.{as_found}
 use Rattle.hfs_volume.specs.Mount.{IsMountable}
 use Rattle.hfs_serving.specs.Checking.{RefusesMount}
+use Rattle.hfs_language.specs.Lines.{lines}
+use Rattle.hfs_serving.specs.Commits.{CommitsRun, WantsOver}
 use Rattle.hfs_serving.specs.Ending.{FinishesRun}
 use Rattle.hfs_serving.specs.Watching.{FinishesHeard}
 use Rattle.hfs_serving.specs.declared.checking.MountRefusal.{MountRefusal}
 use Rattle.hfs_serving.specs.declared.telling.Stop.{Stop}
 use Rattle.hfs_serving.specs.declared.telling.Stop.TheVariants as stop
 use Rattle.hfsx_server.specs.Telling.{ToldUnlessFailed, mount_text}
+use Rattle.served_volume.specs.Wanting.{ServedWants}
 use Rattle.hfsx_server.proofs.Finding.{unmounted}
 use Rattle.hfsx_server.proofs.Statuses.{is_disk, is_many, is_sink, is_source, no_done, no_refused, no_usage, stopped_status}
 use Rattle.hfsx_server.proofs.Telling.{told_from}
@@ -185,3 +188,13 @@ returns-clause-watched g c =
             last = λ is. all.3 (c.in-Err.is ∙ ap Err (is_many c.in-Err.stop (sym c.status_of.ensures ∙ is)));
           },
     )
+
+pub returns-in-Ok-Ok-clause-commits : goal.returns-in-Ok-Ok-clause-commits
+returns-in-Ok-Ok-clause-commits g c tells _ =
+    let r0 = g.R.SectorDisk.state c.args.rig.now in
+    let r1 = g.R.SectorDisk.state c.serve_image.new.rig in
+    let s0 = g.S.Source.stream c.args.source.now in
+    subst (λ (a : Result (Unit {0}) MountRefusal). OnOk a ((count : ℕ) × (IsTrue s0.tells → count ≡ length (lines s0.left)) × CommitsRun (WantsOver ServedWants g.R.SectorDisk.state) 9 8 count r0.barriers r1.barriers)) c.in-Ok-Ok.field-0-is (c.in-Ok-Ok.ensures.commits tells)
+
+pub returns-clause-commits : goal.returns-clause-commits
+returns-clause-commits g c tells is = absurd (no_done c.in-Err.stop (sym c.status_of.ensures ∙ is))

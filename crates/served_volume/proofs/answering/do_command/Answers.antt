@@ -6,47 +6,48 @@ use Rattle.volume_step.proofs.Unfilled.{filled_none, service_filling}
 use Rattle.volume_step.specs.declared.outcome.Outcome.{Outcome}
 use Rattle.served_volume.specs.Answering.{AnswersAs, IsDecidedAs, IsDecidedOrWaits, ShrinksBy}
 use Rattle.served_volume.proofs.Refusing.{decided, decided_or_waits, never_waits, shortened, shortened_shrinks, some_put}
+use Rattle.served_volume.proofs.Wanted.{wanted_first, wants_commit}
 use Rattle.served_volume.proofs.answering.do_command.Goals as goal
 
 pub returns-in-Ok-clause-answered : goal.returns-in-Ok-clause-answered
-returns-in-Ok-clause-answered g c tells =
+returns-in-Ok-clause-answered g c line spelled tells =
     let before = (g.P.SectorView.space c.args.space.now).content in
     let after = (g.P.SectorView.space c.step.new.space).content in
     let capacity = capacity_of c.args.volume.now in
-    subst (λ (o : Outcome). AnswersAs o capacity c.args.number c.args.line.now before after) (sym c.unless_short.ensures)
-    (shortened capacity c.args.number c.args.line.now c.args.command.now before after (c.requires.sound tells) c.requires.spelled c.is_fresh-fresh.result c.in-Ok.outcome (c.in-Ok.ensures.answered tells))
+    subst (λ (o : Outcome). AnswersAs o capacity c.args.number line before after) (sym c.unless_short.ensures)
+    (shortened capacity c.args.number line c.args.command.now before after (c.requires.sound tells) spelled c.is_fresh-fresh.result c.in-Ok.outcome (c.in-Ok.ensures.answered tells))
 
 pub returns-in-Ok-clause-shrunk : goal.returns-in-Ok-clause-shrunk
-returns-in-Ok-clause-shrunk g c tells =
+returns-in-Ok-clause-shrunk g c line spelled tells =
     let before = (g.P.SectorView.space c.args.space.now).content in
     let old = shrunk_of c.args.volume.now in
     let new = shrunk_of c.step.new.volume in
-    subst (λ (o : Outcome). ShrinksBy o c.args.line.now before old new) (sym c.unless_short.ensures)
-    (shortened_shrinks c.args.line.now c.args.command.now before old new c.requires.spelled c.is_fresh-fresh.result c.in-Ok.outcome (c.in-Ok.ensures.shrunk tells))
+    subst (λ (o : Outcome). ShrinksBy o line before old new) (sym c.unless_short.ensures)
+    (shortened_shrinks line c.args.command.now before old new spelled c.is_fresh-fresh.result c.in-Ok.outcome (c.in-Ok.ensures.shrunk tells))
 
 pub returns-in-Ok-clause-ready : goal.returns-in-Ok-clause-ready
-returns-in-Ok-clause-ready g c tells ready =
+returns-in-Ok-clause-ready g c line spelled tells ready =
     let before = (g.P.SectorView.space c.args.space.now).content in
     let after = (g.P.SectorView.space c.step.new.space).content in
     let capacity = capacity_of c.args.volume.now in
-    subst (λ (o : Outcome). IsDecidedAs o capacity c.args.line.now before after) (sym c.unless_short.ensures)
-    (decided capacity c.args.number c.args.line.now c.args.command.now before after c.requires.spelled c.is_fresh-fresh.result c.in-Ok.outcome (c.in-Ok.ensures.answered tells) (c.in-Ok.ensures.ready tells ready))
+    subst (λ (o : Outcome). IsDecidedAs o capacity line before after) (sym c.unless_short.ensures)
+    (decided capacity c.args.number line c.args.command.now before after spelled c.is_fresh-fresh.result c.in-Ok.outcome (c.in-Ok.ensures.answered tells) (c.in-Ok.ensures.ready tells ready))
 
 pub returns-in-Ok-clause-anew : goal.returns-in-Ok-clause-anew
-returns-in-Ok-clause-anew g c tells anew alone =
+returns-in-Ok-clause-anew g c line spelled tells anew alone =
     let before = (g.P.SectorView.space c.args.space.now).content in
     let after = (g.P.SectorView.space c.step.new.space).content in
     let capacity = capacity_of c.args.volume.now in
-    subst (λ (o : Outcome). IsDecidedAs o capacity c.args.line.now before after) (sym c.unless_short.ensures)
-    (decided capacity c.args.number c.args.line.now c.args.command.now before after c.requires.spelled c.is_fresh-fresh.result c.in-Ok.outcome (c.in-Ok.ensures.answered tells) (c.in-Ok.ensures.anew tells anew alone))
+    subst (λ (o : Outcome). IsDecidedAs o capacity line before after) (sym c.unless_short.ensures)
+    (decided capacity c.args.number line c.args.command.now before after spelled c.is_fresh-fresh.result c.in-Ok.outcome (c.in-Ok.ensures.answered tells) (c.in-Ok.ensures.anew tells anew alone))
 
 pub returns-in-Ok-clause-pends : goal.returns-in-Ok-clause-pends
-returns-in-Ok-clause-pends g c tells put =
+returns-in-Ok-clause-pends g c line spelled tells put =
     let before = (g.P.SectorView.space c.args.space.now).content in
     let after = (g.P.SectorView.space c.step.new.space).content in
     let capacity = capacity_of c.args.volume.now in
-    subst (λ (o : Outcome). IsDecidedOrWaits o capacity c.args.line.now before after) (sym c.unless_short.ensures)
-    (decided_or_waits capacity c.args.number c.args.line.now c.args.command.now before after c.requires.spelled c.is_fresh-fresh.result (c.is_fresh-fresh.ensures ∙ some_put (g.P.Ground.taken c.args.space.now) put) c.in-Ok.outcome (c.in-Ok.ensures.answered tells))
+    subst (λ (o : Outcome). IsDecidedOrWaits o capacity line before after) (sym c.unless_short.ensures)
+    (decided_or_waits capacity c.args.number line c.args.command.now before after spelled c.is_fresh-fresh.result (c.is_fresh-fresh.ensures ∙ some_put (g.P.Ground.taken c.args.space.now) put) c.in-Ok.outcome (c.in-Ok.ensures.answered tells))
 
 pub returns-in-Ok-clause-never : goal.returns-in-Ok-clause-never
 returns-in-Ok-clause-never g c nothing is =
@@ -98,3 +99,8 @@ returns-in-Ok-clause-below g c = c.step.ensures.frame.below
 
 pub returns-in-Err-clause-below : goal.returns-in-Err-clause-below
 returns-in-Err-clause-below g c = c.step.ensures.frame.below
+
+pub returns-in-Ok-clause-waits : goal.returns-in-Ok-clause-waits
+returns-in-Ok-clause-waits g c tells is =
+    let first = wanted_first c.is_fresh-fresh.result c.in-Ok.outcome (sym c.unless_short.ensures ∙ is) in
+    wants_commit c.args.command.now c.args.volume.now (g.P.SectorView.space c.args.space.now) (λ ready. c.in-Ok.ensures.ready tells ready first) (λ needs. c.in-Ok.ensures.short tells needs first)

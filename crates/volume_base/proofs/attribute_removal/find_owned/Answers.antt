@@ -1,5 +1,5 @@
-use Rattle.std.proofs.Common.{◌≡◌, ℕ, Bool, List, length, sym, ◌∙◌, ap}
-use Rattle.std.specs.Prelude.{nat_lt, Option, None, Some, IfOk}
+use Rattle.std.proofs.Common.{length, sym, ◌∙◌, ap}
+use Rattle.std.specs.Prelude.{nat_lt}
 use Rattle.std.specs.Option.{option_map}
 use Rattle.attributes.specs.Owned.{names_of}
 use Rattle.btree_file.specs.Standing.{pairs_in}

@@ -1,12 +1,12 @@
-use Rattle.std.proofs.Common.{◌≡◌, ℕ, List, [], IsTrue, get_or, sym, ◌∙◌, ap, subst}
-use Rattle.std.specs.Prelude.{IfOk, None, Some}
+use Rattle.std.proofs.Common.{ℕ, List, [], get_or, sym, ◌∙◌, ap, subst}
+use Rattle.std.specs.Prelude.{IfOk}
 use Rattle.btree_node.specs.Keys.{IsCatalogKey, catalog_cmp, anything}
 use Rattle.btree_node.specs.Levels.{Pair}
 use Rattle.btree_node.specs.TreeFile.{catalog_form}
 use Rattle.btree_file.proofs.StandingLaws.{tree_held, pairs_held}
 use Rattle.catalog.specs.Entries.{AnswersRemoval, Removing}
-use Rattle.hfs_volume.specs.Entries.{AreSpelled, AreThreaded}
-use Rattle.hfs_volume.specs.Records.{Placed, placed_in, record_at, id_in}
+use Rattle.hfs_volume.specs.Entries.{AreThreaded}
+use Rattle.hfs_volume.specs.Records.{placed_in, record_at}
 use Rattle.volume_base.proofs.EditsOn.{holds_again, pairs_again, edits_renamed, takes_renamed}
 use Rattle.volume_base.proofs.editing.remove_entry.Goals as goal
 

@@ -1,4 +1,4 @@
-use Rattle.std.proofs.Common.{◌≡◌, ℕ, List, ◌∷◌, [], IsTrue, get_or, refl, sym, ◌∙◌, ap, subst}
+use Rattle.std.proofs.Common.{◌≡◌, ℕ, List, [], get_or, sym, ◌∙◌, ap, subst}
 use Rattle.std.specs.Prelude.{map, IfOk}
 use Rattle.btree_node.specs.Keys.{IsExtentKey, extent_cmp, is_eight_extents}
 use Rattle.btree_node.specs.Levels.{Pair}

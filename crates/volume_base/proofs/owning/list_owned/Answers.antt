@@ -7,7 +7,7 @@ use Rattle.btree_node.specs.declared.store.TreeShape.{TreeShape}
 use Rattle.btree_edit.specs.Desk.{IsDeskOf}
 use Rattle.btree_file.proofs.StandingLaws.{tree_held, pairs_held}
 use Rattle.attributes.specs.Owned.{names_of}
-use Rattle.attributes.specs.Values.{AreInline}
+use Rattle.attributes.specs.Values.{AreValued}
 use Rattle.volume_base.proofs.NodesRead.{keeps_read, looks_read}
 use Rattle.volume_base.proofs.Over.{attributes_over_read}
 use Rattle.volume_base.proofs.owning.list_owned.Goals as goal
@@ -17,7 +17,7 @@ list-requires-clause-tree g c tells = tree_held attributes_form IsAttrKey anythi
 
 pub list-requires-clause-form : goal.list-requires-clause-form
 list-requires-clause-form g c tells =
-    subst AreInline (sym (pairs_held attributes_form IsAttrKey anything attr_cmp [] c.args.tree.now (g.P.SectorView.space c.args.space.now) (c.requires.over.holds tells))) (c.requires.over.inline tells)
+    subst AreValued (sym (pairs_held attributes_form IsAttrKey anything attr_cmp [] c.args.tree.now (g.P.SectorView.space c.args.space.now) (c.requires.over.holds tells))) (c.requires.over.values tells)
 
 pub returns-clause-listed : goal.returns-clause-listed
 returns-clause-listed g c tells =

@@ -1,8 +1,8 @@
-use Rattle.std.proofs.Common.{◌≡◌, ℕ, List, ◌≤◌, ◌*◌, ◌/◌, true, length, take, drop, sym, ◌∙◌, ap, subst, arith}
+use Rattle.std.proofs.Common.{◌≡◌, ℕ, List, ◌≤◌, ◌*◌, ◌/◌, true, length, take, drop, sym, subst, arith}
 use Rattle.std.specs.Prelude.{IfOk}
 use Rattle.std.specs.List.{list_all}
 use Rattle.hx_bytes.specs.declared.extents.Extent.{Extent}
-use Rattle.fork_map.specs.Blocks.{blocks_of, fork_sectors}
+use Rattle.fork_map.specs.Blocks.{fork_sectors}
 use Rattle.file_io.specs.Bytes.{fork_bytes}
 use Rattle.volume_base.specs.Opening.{ends_inside}
 use Rattle.volume_base.proofs.Extending.{held_whole, whole_held}

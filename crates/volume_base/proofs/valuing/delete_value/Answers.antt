@@ -1,6 +1,6 @@
-use Rattle.std.proofs.Common.{◌≡◌, ℕ, List, [], IsTrue, get_or, sym, ◌∙◌, ap, subst}
+use Rattle.std.proofs.Common.{◌≡◌, ◌≤◌, ℕ, List, [], IsTrue, get_or, sym, ◌∙◌, ap, subst}
 use Rattle.std.specs.Prelude.{IfOk}
-use Rattle.attributes.specs.Values.{AnswersDelete, AreInline, value_at}
+use Rattle.attributes.specs.Values.{AnswersDelete, AreValued, extents_at, records_at, value_at}
 use Rattle.btree_node.specs.Keys.{IsAttrKey, attr_cmp, anything}
 use Rattle.btree_node.specs.Levels.{Pair}
 use Rattle.btree_node.specs.TreeFile.{attributes_form}
@@ -15,7 +15,11 @@ delete-requires-clause-tree g c tells = tree_held attributes_form IsAttrKey anyt
 
 pub delete-requires-clause-form : goal.delete-requires-clause-form
 delete-requires-clause-form g c tells =
-    subst AreInline (sym (pairs_held attributes_form IsAttrKey anything attr_cmp [] c.args.tree.now (g.P.SectorView.space c.args.space.now) (c.requires.holds tells))) (c.requires.inline tells)
+    subst AreValued (sym (pairs_held attributes_form IsAttrKey anything attr_cmp [] c.args.tree.now (g.P.SectorView.space c.args.space.now) (c.requires.holds tells))) (c.requires.values tells)
+
+pub delete-requires-clause-few : goal.delete-requires-clause-few
+delete-requires-clause-few g c tells =
+    subst (λ (l : List Pair). records_at l c.args.id c.args.name.now ≤ c.args.most) (sym (pairs_held attributes_form IsAttrKey anything attr_cmp [] c.args.tree.now (g.P.SectorView.space c.args.space.now) (c.requires.holds tells))) (c.requires.few tells)
 
 pub delete-requires-clause-room : goal.delete-requires-clause-room
 delete-requires-clause-room g c = c.requires.room _
@@ -49,13 +53,13 @@ pub returns-clause-takes : goal.returns-clause-takes
 returns-clause-takes g c names =
     let tree_is = c.tree-1.given.1 (sym (ap (λ (l : List ℕ). get_or l 0 0) c.delete.ensures.same.names)) in
     let space_is = c.space-1.given.1 (sym (ap (λ (l : List ℕ). get_or l 1 0) c.delete.ensures.same.names)) in
-    rw (tree_is, space_is) (takes_renamed _ _ names c.args.tree.now c.delete.new.store.tree.now (g.P.SectorView.space c.args.space.now) (g.P.SectorView.space c.delete.new.store.space.now) 1 266 c.delete.ensures.takes)
+    rw (tree_is, space_is) (takes_renamed _ _ names c.args.tree.now c.delete.new.store.tree.now (g.P.SectorView.space c.args.space.now) (g.P.SectorView.space c.delete.new.store.space.now) c.args.most 266 c.delete.ensures.takes)
 
 pub returns-clause-edits : goal.returns-clause-edits
 returns-clause-edits g c names =
     let tree_is = c.tree-1.given.1 (sym (ap (λ (l : List ℕ). get_or l 0 0) c.delete.ensures.same.names)) in
     let space_is = c.space-1.given.1 (sym (ap (λ (l : List ℕ). get_or l 1 0) c.delete.ensures.same.names)) in
-    rw (tree_is, space_is) (edits_renamed _ _ names c.args.tree.now c.delete.new.store.tree.now (g.P.SectorView.space c.args.space.now) (g.P.SectorView.space c.delete.new.store.space.now) 1 266 c.delete.result c.delete.ensures.edits)
+    rw (tree_is, space_is) (edits_renamed _ _ names c.args.tree.now c.delete.new.store.tree.now (g.P.SectorView.space c.args.space.now) (g.P.SectorView.space c.delete.new.store.space.now) c.args.most 266 c.delete.result c.delete.ensures.edits)
 
 pub returns-clause-below : goal.returns-clause-below
 returns-clause-below g c =
@@ -67,4 +71,4 @@ invariant_of-on-clause-inside g c = c.requires.inside
 
 pub returns-clause-answer : goal.returns-clause-answer
 returns-clause-answer g c tells =
-    subst (λ (l : List Pair). IfOk c.delete.result (λ answer. AnswersDelete (value_at l c.args.id c.args.name.now) answer)) (pairs_held attributes_form IsAttrKey anything attr_cmp [] c.args.tree.now (g.P.SectorView.space c.args.space.now) (c.requires.holds tells)) (c.delete.ensures.answer tells)
+    subst (λ (l : List Pair). IfOk c.delete.result (λ answer. AnswersDelete (value_at l c.args.id c.args.name.now) (extents_at l c.args.id c.args.name.now) answer)) (pairs_held attributes_form IsAttrKey anything attr_cmp [] c.args.tree.now (g.P.SectorView.space c.args.space.now) (c.requires.holds tells)) (c.delete.ensures.answer tells)

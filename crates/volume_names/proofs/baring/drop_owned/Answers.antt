@@ -1,97 +1,84 @@
-use Rattle.std.proofs.Common.{◌≤◌, ◌+◌, ℕ, List, length, sym, ◌∙◌, subst, arith}
-use Rattle.attributes.specs.Values.{AreInline}
-use Rattle.btree_file.specs.FrameLaws.{follows_both, follows_none, same_sectors}
-use Rattle.btree_file.specs.Standing.{pairs_in}
-use Rattle.btree_file.specs.State.{sectors_of_tree, state_of}
+use Rattle.std.proofs.Common.{◌≡◌, ◌≤◌, ℕ, List, [], IsTrue, get_or, sym, ◌∙◌, ap, subst}
+use Rattle.std.specs.Prelude.{Ok}
+use Rattle.attributes.specs.Owned.{count_of, extents_owned}
+use Rattle.attributes.specs.Values.{AreValued}
+use Rattle.btree_node.specs.Keys.{IsAttrKey, attr_cmp, anything}
+use Rattle.btree_node.specs.Levels.{Pair}
+use Rattle.btree_node.specs.TreeFile.{attributes_form}
+use Rattle.btree_file.proofs.StandingLaws.{tree_held, pairs_held}
 use Rattle.hfs_volume.specs.Changes.{AreSortedAttributes}
 use Rattle.hfs_volume.specs.Commands.{DropsAttributes}
-use Rattle.volume_names.specs.Dropping.{LeavesNamed}
-use Rattle.volume_names.proofs.DroppedOne.{edits_more, edits_none, inline_less, inside_then, leaves_all, leaves_less, leaves_none, open_then, same_then, sorted_held, takes_all, takes_more}
-use Rattle.volume_names.proofs.RoomAfter.{room_after, room_round}
+use Rattle.volume_base.proofs.AttributesEdited.{holds_again}
+use Rattle.volume_base.proofs.EditsOn.{pairs_again, takes_renamed}
 use Rattle.volume_names.proofs.baring.drop_owned.Goals as goal
 
-pub loop-at-init : goal.loop-at-init
-loop-at-init g c = record {
-  within = omega arith;
-  desk = c.requires.desk;
-  holds = c.requires.holds;
-  inline = c.requires.inline;
-  leaves = λ tells. leaves_all c.args.id c.args.owned.now (pairs_in (sectors_of_tree c.args.tree.now) (g.P.SectorView.space c.args.space.now).content) (c.requires.listed tells);
-  frame = follows_none c.args.tree.now (g.P.SectorView.space c.args.space.now);
-  edits = λ names. edits_none (state_of names c.args.tree.now (g.P.SectorView.space c.args.space.now));
-  below = g.met.P.SectorView.follows_refl c.args.space.now;
-}
+pub drop_all-requires-clause-tree : goal.drop_all-requires-clause-tree
+drop_all-requires-clause-tree g c tells = tree_held attributes_form IsAttrKey anything attr_cmp _ c.args.tree.now (g.P.SectorView.space c.args.space.now) (c.requires.holds tells)
 
-pub drop_value-requires-clause-inside : goal.drop_value-requires-clause-inside
-drop_value-requires-clause-inside g c = inside_then c.args.tree.now c.loop-at.tree (g.P.SectorView.space c.args.space.now) (g.P.SectorView.space c.loop-at.space) c.loop-at.invariant.frame c.requires.inside
+pub drop_all-requires-clause-form : goal.drop_all-requires-clause-form
+drop_all-requires-clause-form g c tells = subst AreValued (sym (pairs_held attributes_form IsAttrKey anything attr_cmp [] c.args.tree.now (g.P.SectorView.space c.args.space.now) (c.requires.holds tells))) (c.requires.values tells)
 
-pub drop_value-requires-clause-open : goal.drop_value-requires-clause-open
-drop_value-requires-clause-open g c = open_then c.args.tree.now c.loop-at.tree (g.P.SectorView.space c.args.space.now) (g.P.SectorView.space c.loop-at.space) c.loop-at.invariant.frame c.requires.open
+pub drop_all-requires-clause-few : goal.drop_all-requires-clause-few
+drop_all-requires-clause-few g c tells = subst (λ (l : List Pair). count_of c.args.id l ≤ c.args.most) (sym (pairs_held attributes_form IsAttrKey anything attr_cmp [] c.args.tree.now (g.P.SectorView.space c.args.space.now) (c.requires.holds tells))) (c.requires.few tells)
 
-pub drop_value-requires-clause-holds : goal.drop_value-requires-clause-holds
-drop_value-requires-clause-holds g c tells = c.loop-at.invariant.holds (sym c.loop-at.invariant.frame.space.same.tells ∙ tells)
+pub drop_all-requires-clause-room : goal.drop_all-requires-clause-room
+drop_all-requires-clause-room g c = c.requires.room _
 
-pub drop_value-requires-clause-inline : goal.drop_value-requires-clause-inline
-drop_value-requires-clause-inline g c tells = c.loop-at.invariant.inline (sym c.loop-at.invariant.frame.space.same.tells ∙ tells)
+pub invariant_of-on-clause-inside : goal.invariant_of-on-clause-inside
+invariant_of-on-clause-inside g c = c.requires.inside
 
-pub drop_value-requires-clause-size : goal.drop_value-requires-clause-size
-drop_value-requires-clause-size g c = subst (λ n. 4096 ≤ n) (sym c.loop-at.invariant.frame.file.node_size) c.requires.size
-
-pub drop_value-requires-clause-room : goal.drop_value-requires-clause-room
-drop_value-requires-clause-room g c names tells =
-    let first = state_of names c.args.tree.now (g.P.SectorView.space c.args.space.now) in
-    let now = state_of names c.loop-at.tree (g.P.SectorView.space c.loop-at.space) in
-    room_round (length c.args.owned.now) c.loop-at.at 266 now (omega (arith, c.loop-at-test.true))
-    (room_after c.loop-at.at (length c.args.owned.now) 266 first now (omega (arith, c.loop-at-test.true)) (same_then c.args.tree.now c.loop-at.tree (g.P.SectorView.space c.args.space.now) (g.P.SectorView.space c.loop-at.space) c.loop-at.invariant.frame names) (c.loop-at.invariant.edits names) (c.requires.room names)) tells
-
-pub loop-at-preserved : goal.loop-at-preserved
-loop-at-preserved g c =
-    let first = g.P.SectorView.space c.args.space.now in
-    let now = g.P.SectorView.space c.loop-at.space in
-    let new = g.P.SectorView.space c.drop_value.new.space in
-    let known = c.loop-at.invariant in
-    let done = c.in_ok-drop_value.ensures in
-    let sectors = same_sectors c.loop-at.tree c.drop_value.new.tree c.drop_value.ensures.frame.file in
-    record {
-      within = omega (arith, c.loop-at-test.true);
-      desk = c.drop_value.ensures.desk;
-      holds = λ tells. done.holds (known.frame.space.same.tells ∙ tells);
-      inline = λ tells.
-          subst (λ (l : List ℕ). AreInline (pairs_in l (g.P.SectorView.space c.drop_value.new.space).content)) (sym sectors)
-          (inline_less c.args.id _ (pairs_in (sectors_of_tree c.loop-at.tree) now.content) (pairs_in (sectors_of_tree c.loop-at.tree) new.content) (done.dropped (known.frame.space.same.tells ∙ tells)) (known.inline tells));
-      leaves = λ tells.
-          subst (λ (l : List ℕ). LeavesNamed c.args.id (c.loop-at.at + 1) c.args.owned.now (pairs_in (sectors_of_tree c.args.tree.now) (g.P.SectorView.space c.args.space.now).content) (pairs_in l (g.P.SectorView.space c.drop_value.new.space).content)) (sym sectors)
-          (leaves_less c.args.id c.loop-at.at c.args.owned.now _ (pairs_in (sectors_of_tree c.args.tree.now) first.content) (pairs_in (sectors_of_tree c.loop-at.tree) now.content) (pairs_in (sectors_of_tree c.loop-at.tree) new.content)
-          (omega (arith, c.loop-at-test.true)) c.index-owned-at.is (known.leaves tells) (done.dropped (known.frame.space.same.tells ∙ tells)));
-      frame = follows_both c.args.tree.now c.loop-at.tree c.drop_value.new.tree first now new known.frame c.drop_value.ensures.frame;
-      edits = λ names. edits_more c.loop-at.at (state_of names c.args.tree.now first) (state_of names c.loop-at.tree now) (state_of names c.drop_value.new.tree new) (same_then c.args.tree.now c.loop-at.tree first now known.frame names) (known.edits names) (done.edits names);
-      below = g.met.P.SectorView.follows_trans c.args.space.now c.loop-at.space c.drop_value.new.space known.below c.drop_value.ensures.below;
-    }
-
-pub returns-in_err-drop_value-clause-frame : goal.returns-in_err-drop_value-clause-frame
-returns-in_err-drop_value-clause-frame g c =
-    follows_both c.args.tree.now c.loop-at.tree c.drop_value.new.tree (g.P.SectorView.space c.args.space.now) (g.P.SectorView.space c.loop-at.space) (g.P.SectorView.space c.drop_value.new.space) c.loop-at.invariant.frame c.drop_value.ensures.frame
-
-pub returns-in_err-drop_value-clause-takes : goal.returns-in_err-drop_value-clause-takes
-returns-in_err-drop_value-clause-takes g c names =
-    takes_more c.loop-at.at (length c.args.owned.now) (state_of names c.args.tree.now (g.P.SectorView.space c.args.space.now)) (state_of names c.loop-at.tree (g.P.SectorView.space c.loop-at.space)) (state_of names c.drop_value.new.tree (g.P.SectorView.space c.drop_value.new.space))
-    (omega (arith, c.loop-at-test.true)) (same_then c.args.tree.now c.loop-at.tree (g.P.SectorView.space c.args.space.now) (g.P.SectorView.space c.loop-at.space) c.loop-at.invariant.frame names) (c.loop-at.invariant.edits names) (c.drop_value.ensures.takes names)
-
-pub returns-in_err-drop_value-clause-below : goal.returns-in_err-drop_value-clause-below
-returns-in_err-drop_value-clause-below g c = g.met.P.SectorView.follows_trans c.args.space.now c.loop-at.space c.drop_value.new.space c.loop-at.invariant.below c.drop_value.ensures.below
-
-pub returns-clause-sorted : goal.returns-clause-sorted
-returns-clause-sorted g c tells =
-    subst (λ (l : List ℕ). AreSortedAttributes (pairs_in l (g.P.SectorView.space c.loop-at.space).content)) (same_sectors c.args.tree.now c.loop-at.tree c.loop-at.invariant.frame.file)
-    (sorted_held c.loop-at.tree (g.P.SectorView.space c.loop-at.space) (c.loop-at.invariant.holds tells))
+pub returns-clause-blocks : goal.returns-clause-blocks
+returns-clause-blocks g c tells = c.in_ok-dropped.ensures.blocks tells ∙ ap (λ (l : List Pair). extents_owned l c.args.id) (pairs_held attributes_form IsAttrKey anything attr_cmp [] c.args.tree.now (g.P.SectorView.space c.args.space.now) (c.requires.holds tells))
 
 pub returns-clause-dropped : goal.returns-clause-dropped
 returns-clause-dropped g c tells =
-    let first = g.P.SectorView.space c.args.space.now in
-    let now = g.P.SectorView.space c.loop-at.space in
-    subst (λ (l : List ℕ). DropsAttributes c.args.id (pairs_in (sectors_of_tree c.args.tree.now) (g.P.SectorView.space c.args.space.now).content) (pairs_in l (g.P.SectorView.space c.loop-at.space).content)) (same_sectors c.args.tree.now c.loop-at.tree c.loop-at.invariant.frame.file)
-    (leaves_none c.args.id c.loop-at.at c.args.owned.now (pairs_in (sectors_of_tree c.args.tree.now) first.content) (pairs_in (sectors_of_tree c.loop-at.tree) now.content) (omega (arith, c.loop-at-test.false)) (c.loop-at.invariant.leaves tells))
+    let space_is = c.space-1.given.1 (sym (ap (λ (l : List ℕ). get_or l 1 0) c.drop_all.ensures.same.names)) in
+    rw space_is (pairs_again [] c.args.tree.now c.drop_all.new.store.tree.now (g.P.SectorView.space c.args.space.now) (g.P.SectorView.space c.drop_all.new.store.space.now) tells c.drop_all.ensures.below.0
+    (λ answer before after. DropsAttributes c.args.id before after) (Ok c.in_ok-dropped.dropped) (c.requires.holds tells).stands (c.drop_all.new.store.agrees (c.drop_all.ensures.same.tells ∙ tells)) (c.in_ok-dropped.ensures.header tells (c.requires.holds tells).stands.settled) (c.in_ok-dropped.ensures.dropped tells))
+
+pub returns-clause-sorted : goal.returns-clause-sorted
+returns-clause-sorted g c tells =
+    let space_is = c.space-1.given.1 (sym (ap (λ (l : List ℕ). get_or l 1 0) c.drop_all.ensures.same.names)) in
+    rw space_is (pairs_again [] c.args.tree.now c.drop_all.new.store.tree.now (g.P.SectorView.space c.args.space.now) (g.P.SectorView.space c.drop_all.new.store.space.now) tells c.drop_all.ensures.below.0
+    (λ answer before after. AreSortedAttributes after) (Ok c.in_ok-dropped.dropped) (c.requires.holds tells).stands (c.drop_all.new.store.agrees (c.drop_all.ensures.same.tells ∙ tells)) (c.in_ok-dropped.ensures.header tells (c.requires.holds tells).stands.settled) (c.in_ok-dropped.ensures.sorted tells))
+
+pub returns-clause-holds : goal.returns-clause-holds
+returns-clause-holds g c tells =
+    let tree_is = c.tree-1.given.1 (sym (ap (λ (l : List ℕ). get_or l 0 0) c.drop_all.ensures.same.names)) in
+    let space_is = c.space-1.given.1 (sym (ap (λ (l : List ℕ). get_or l 1 0) c.drop_all.ensures.same.names)) in
+    rw (tree_is, space_is) (holds_again _ c.args.tree.now c.drop_all.new.store.tree.now (g.P.SectorView.space c.args.space.now) (g.P.SectorView.space c.drop_all.new.store.space.now) tells c.drop_all.ensures.below.0 (Ok c.in_ok-dropped.dropped)
+    (c.requires.holds tells) (c.drop_all.new.store.agrees (c.drop_all.ensures.same.tells ∙ tells)) (c.in_ok-dropped.ensures.header tells (c.requires.holds tells).stands.settled) (c.in_ok-dropped.ensures.tree tells))
+
+pub returns-clause-frame : goal.returns-clause-frame
+returns-clause-frame g c =
+    let tree_is = c.tree-1.given.1 (sym (ap (λ (l : List ℕ). get_or l 0 0) c.drop_all.ensures.same.names)) in
+    let space_is = c.space-1.given.1 (sym (ap (λ (l : List ℕ). get_or l 1 0) c.drop_all.ensures.same.names)) in
+    rw (tree_is, space_is) c.drop_all.ensures.below.0
 
 pub returns-clause-takes : goal.returns-clause-takes
 returns-clause-takes g c names =
-    takes_all c.loop-at.at (length c.args.owned.now) (state_of names c.args.tree.now (g.P.SectorView.space c.args.space.now)) (state_of names c.loop-at.tree (g.P.SectorView.space c.loop-at.space)) c.loop-at.invariant.within (c.loop-at.invariant.edits names)
+    let tree_is = c.tree-1.given.1 (sym (ap (λ (l : List ℕ). get_or l 0 0) c.drop_all.ensures.same.names)) in
+    let space_is = c.space-1.given.1 (sym (ap (λ (l : List ℕ). get_or l 1 0) c.drop_all.ensures.same.names)) in
+    rw (tree_is, space_is) (takes_renamed _ _ names c.args.tree.now c.drop_all.new.store.tree.now (g.P.SectorView.space c.args.space.now) (g.P.SectorView.space c.drop_all.new.store.space.now) c.args.most 266 c.drop_all.ensures.takes)
+
+pub returns-clause-below : goal.returns-clause-below
+returns-clause-below g c =
+    let space_is = c.space-1.given.1 (sym (ap (λ (l : List ℕ). get_or l 1 0) c.drop_all.ensures.same.names)) in
+    rw space_is c.drop_all.ensures.below.1
+
+pub returns-in_err-dropped-clause-frame : goal.returns-in_err-dropped-clause-frame
+returns-in_err-dropped-clause-frame g c =
+    let tree_is = c.tree-1.given.1 (sym (ap (λ (l : List ℕ). get_or l 0 0) c.drop_all.ensures.same.names)) in
+    let space_is = c.space-1.given.1 (sym (ap (λ (l : List ℕ). get_or l 1 0) c.drop_all.ensures.same.names)) in
+    rw (tree_is, space_is) c.drop_all.ensures.below.0
+
+pub returns-in_err-dropped-clause-takes : goal.returns-in_err-dropped-clause-takes
+returns-in_err-dropped-clause-takes g c names =
+    let tree_is = c.tree-1.given.1 (sym (ap (λ (l : List ℕ). get_or l 0 0) c.drop_all.ensures.same.names)) in
+    let space_is = c.space-1.given.1 (sym (ap (λ (l : List ℕ). get_or l 1 0) c.drop_all.ensures.same.names)) in
+    rw (tree_is, space_is) (takes_renamed _ _ names c.args.tree.now c.drop_all.new.store.tree.now (g.P.SectorView.space c.args.space.now) (g.P.SectorView.space c.drop_all.new.store.space.now) c.args.most 266 c.drop_all.ensures.takes)
+
+pub returns-in_err-dropped-clause-below : goal.returns-in_err-dropped-clause-below
+returns-in_err-dropped-clause-below g c =
+    let space_is = c.space-1.given.1 (sym (ap (λ (l : List ℕ). get_or l 1 0) c.drop_all.ensures.same.names)) in
+    rw space_is c.drop_all.ensures.below.1

@@ -74,3 +74,15 @@ returns-clause-takes g c tells =
 pub returns-then-shape-lt4096-clause-takes : goal.returns-then-shape-lt4096-clause-takes
 returns-then-shape-lt4096-clause-takes g c tells =
     absurd (omega (arith, c.if-shape-lt4096.true, ap (λ (s : TreeShape). s.node_size) c.shape.ensures, node_large c.args.volume.now (g.P.SectorView.space c.args.space.now) c.requires.serves.stands tells))
+
+pub returns-clause-counted : goal.returns-clause-counted
+returns-clause-counted g c tells =
+    let later = (c.take_off.ensures.edits.ran.touches (g.P.SectorView.space c.args.space.now).content).same.tells ∙ tells in
+    omega (arith, c.take_off.ensures.counted tells, c.touch.ensures.edits.ran.spent later, ap (λ n. n / 512) (c.in_ok-take_off.ensures.drops tells).changes.nodes.1)
+
+pub returns-in_err-take_off-clause-counted : goal.returns-in_err-take_off-clause-counted
+returns-in_err-take_off-clause-counted g c tells = omega (arith, c.take_off.ensures.counted tells)
+
+pub returns-then-shape-lt4096-clause-counted : goal.returns-then-shape-lt4096-clause-counted
+returns-then-shape-lt4096-clause-counted g c tells =
+    absurd (omega (arith, c.if-shape-lt4096.true, ap (λ (s : TreeShape). s.node_size) c.shape.ensures, node_large c.args.volume.now (g.P.SectorView.space c.args.space.now) c.requires.serves.stands tells))

@@ -11,7 +11,7 @@ use Rattle.hfs_volume.specs.Weight.{weight}
 use Rattle.hfs_volume.specs.declared.cost.Cost.TheVariants as cost
 use Rattle.volume_base.proofs.LeavingFound.{private_line, root_line}
 use Rattle.volume_names.specs.Removing.{HasRemoved}
-use Rattle.volume_base.proofs.Framed.{edits_none}
+use Rattle.volume_base.proofs.Freed.{frees_none}
 use Rattle.volume_names.proofs.removing.rmdir.Goals as goal
 
 pub rmdir_under-requires-clause-fits : goal.rmdir_under-requires-clause-fits
@@ -37,8 +37,8 @@ returns-in-None-clause-tree g c tells = (root_line (tree_of (g.P.SectorView.spac
 pub returns-in-None-clause-refused : goal.returns-in-None-clause-refused
 returns-in-None-clause-refused g c tells is = refl
 
-pub returns-in-None-clause-edits : goal.returns-in-None-clause-edits
-returns-in-None-clause-edits g c = edits_none _ g.met.P.SectorView.follows_refl c.requires.serves.stands
+pub returns-in-None-clause-frees : goal.returns-in-None-clause-frees
+returns-in-None-clause-frees g c = frees_none g.met.P.SectorView.follows_refl c.requires.serves.stands
 
 pub returns-then-is_private_path-clause-reply : goal.returns-then-is_private_path-clause-reply
 returns-then-is_private_path-clause-reply g c tells = (private_line (tree_of (g.P.SectorView.space c.args.space.now).content) c.args.path.now (sym c.is_private_path.ensures ∙ c.if-is_private_path.true)).0
@@ -49,8 +49,8 @@ returns-then-is_private_path-clause-tree g c tells = (private_line (tree_of (g.P
 pub returns-then-is_private_path-clause-refused : goal.returns-then-is_private_path-clause-refused
 returns-then-is_private_path-clause-refused g c tells is = refl
 
-pub returns-then-is_private_path-clause-edits : goal.returns-then-is_private_path-clause-edits
-returns-then-is_private_path-clause-edits g c = edits_none _ g.met.P.SectorView.follows_refl c.requires.serves.stands
+pub returns-then-is_private_path-clause-frees : goal.returns-then-is_private_path-clause-frees
+returns-then-is_private_path-clause-frees g c = frees_none g.met.P.SectorView.follows_refl c.requires.serves.stands
 
 pub returns-in-Some-clause-loads : goal.returns-in-Some-clause-loads
 returns-in-Some-clause-loads g c tells n grow =

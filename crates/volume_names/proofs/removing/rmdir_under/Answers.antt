@@ -1,19 +1,18 @@
-use Rattle.std.proofs.Common.{sym, ◌∙◌, ap, subst, arith}
+use Rattle.std.proofs.Common.{[], sym, ◌∙◌, ap, subst, arith}
 use Rattle.std.proofs.lemmas.Bool.{true≢false}
 use Rattle.sector_disk.specs.Lists.{Content}
 use Rattle.hfs_model.specs.Step.{removed_folder}
-use Rattle.attributes.specs.Owned.{count_of}
-use Rattle.hfs_volume.specs.Content.{VolumeState, volume_of}
+use Rattle.hfs_volume.specs.Content.{volume_of}
 use Rattle.hfs_volume.specs.TreeOf.{tree_of}
-use Rattle.volume_base.specs.Lists.{lists_of}
 use Rattle.volume_base.specs.Making.{path_to}
-use Rattle.volume_base.specs.Removing.{IsLeaving, TakesFolder, bare_load, folder_at}
-use Rattle.volume_base.proofs.BareLoads.{bare_load_still, count_still, remove_all_told}
+use Rattle.volume_base.specs.Removing.{IsLeaving, TakesFolder, bare_load, folder_at, owned_at}
+use Rattle.volume_base.proofs.BareLoads.{bare_load_still, remove_all_told}
 use Rattle.volume_base.proofs.LeavingFound.{is_leaving, leaving_refused, leaving_told, refused_line, removed_line}
 use Rattle.volume_base.proofs.RoomToRemove.{remove_load_still, remove_room_still}
 use Rattle.volume_base.proofs.Sited.{fits_above, fits_name}
-use Rattle.volume_base.proofs.Framed.{edits_err, edits_ok, edits_spent}
-use Rattle.volume_base.proofs.Joined.{edits_both, edits_serves}
+use Rattle.volume_base.proofs.Framed.{looked_ok}
+use Rattle.volume_base.proofs.Freed.{frees_behind, frees_edits, frees_err, frees_looked, frees_ok}
+use Rattle.volume_names.proofs.Bared.{values_removed}
 use Rattle.volume_names.proofs.removing.rmdir_under.Goals as goal
 
 pub leaving-requires-clause-fits : goal.leaving-requires-clause-fits
@@ -47,20 +46,28 @@ returns-in_ok-remove_bare-in-Ok-clause-tree g c tells =
     ∙ ap (λ (k : Content). removed_folder (folder_at c.in-Ok.at c.args.name.now) (tree_of k)) (c.leaving.ensures.looked.reads.looks.content tells)
     ∙ (removed_line (tree_of (g.P.SectorView.space c.args.space.now).content) (path_to c.args.above.now c.args.name.now) (folder_at c.in-Ok.at c.args.name.now) c.requires.not_own (leaving_told c.sound_has_plain_tree.ensures c.args.volume.now (g.P.SectorView.space c.args.space.now).content (c.requires.serves.stands.stands tells).trees (c.requires.serves.settled tells) c.args.above.now c.args.name.now c.requires.not_own c.requires.fits c.in_ok-at.field-0 (c.in_ok-at.ensures.found tells) c.in-Ok.at c.in-Ok.is)).1
 
-pub returns-in_ok-remove_bare-in-Ok-clause-edits : goal.returns-in_ok-remove_bare-in-Ok-clause-edits
-returns-in_ok-remove_bare-in-Ok-clause-edits g c =
-    edits_ok (edits_spent (edits_both g.met.P.SectorView.follows_trans c.leaving.ensures.looked.edits c.in_ok-remove_bare-in-Ok.ensures.edits) (λ tells. omega arith))
+pub returns-in_ok-remove_bare-in-Ok-clause-frees : goal.returns-in_ok-remove_bare-in-Ok-clause-frees
+returns-in_ok-remove_bare-in-Ok-clause-frees g c = frees_ok (frees_behind g.met.P.SectorView.follows_trans c.leaving.ensures.looked c.in_ok-remove_bare-in-Ok.ensures.frees)
 
 pub returns-in_ok-remove_bare-in-Ok-clause-serves : goal.returns-in_ok-remove_bare-in-Ok-clause-serves
-returns-in_ok-remove_bare-in-Ok-clause-serves g c =
-    edits_serves (returns-in_ok-remove_bare-in-Ok-clause-edits g c) (λ tells. (c.in_ok-remove_bare-in-Ok.ensures.does (c.leaving.ensures.looked.reads.looks.same.tells ∙ tells)).0)
+returns-in_ok-remove_bare-in-Ok-clause-serves g c = record {
+  stands = c.in_ok-remove_bare-in-Ok.ensures.frees.ran.stands;
+  settled = λ last. let tells = sym c.leaving.ensures.looked.reads.looks.same.tells ∙ sym (c.remove_bare.ensures.frees.ran.touches []).same.tells ∙ last in
+      (c.in_ok-remove_bare-in-Ok.ensures.does (c.leaving.ensures.looked.reads.looks.same.tells ∙ tells)).0;
+}
 
 pub returns-in_ok-remove_bare-in-Ok-clause-refused : goal.returns-in_ok-remove_bare-in-Ok-clause-refused
 returns-in_ok-remove_bare-in-Ok-clause-refused g c tells is = absurd (true≢false (sym is))
 
-pub returns-in_err-remove_bare-in-Ok-clause-edits : goal.returns-in_err-remove_bare-in-Ok-clause-edits
-returns-in_err-remove_bare-in-Ok-clause-edits g c =
-    edits_err c.from_residual-in_err-remove_bare-in-Ok.ensures.1 (edits_spent (edits_both g.met.P.SectorView.follows_trans c.leaving.ensures.looked.edits c.in_err-remove_bare-in-Ok.ensures.edits) (λ tells. omega arith))
+pub returns-in_err-remove_bare-in-Ok-clause-frees : goal.returns-in_err-remove_bare-in-Ok-clause-frees
+returns-in_err-remove_bare-in-Ok-clause-frees g c =
+    frees_err c.from_residual-in_err-remove_bare-in-Ok.ensures.1 (frees_behind g.met.P.SectorView.follows_trans c.leaving.ensures.looked c.in_err-remove_bare-in-Ok.ensures.frees)
+
+pub returns-in-Err-clause-frees : goal.returns-in-Err-clause-frees
+returns-in-Err-clause-frees g c = frees_edits (looked_ok 0 c.leaving.ensures.looked)
+
+pub returns-in_err-at-clause-frees : goal.returns-in_err-at-clause-frees
+returns-in_err-at-clause-frees g c = frees_err c.from_residual.ensures.1 (frees_looked c.in_err-at.ensures.looked)
 
 pub returns-in-Err-clause-reply : goal.returns-in-Err-clause-reply
 returns-in-Err-clause-reply g c tells =
@@ -76,36 +83,30 @@ returns-in-Err-clause-refused g c tells is = c.leaving.ensures.looked.reads.look
 
 pub returns-in_ok-remove_bare-in-Ok-clause-loads : goal.returns-in_ok-remove_bare-in-Ok-clause-loads
 returns-in_ok-remove_bare-in-Ok-clause-loads g c tells n grow is =
-    let content = (g.P.SectorView.space c.args.space.now).content in
-    let pairs = ap (λ (l : VolumeState). bare_load c.args.volume.now (count_of c.in-Ok.at.id l.attribute_pairs)) (c.requires.serves.settled tells).lists in
     omega (
       arith,
       c.leaving.ensures.looked.reads.looks.spare,
-      c.remove_bare.ensures.edits.ran.spent (c.leaving.ensures.looked.reads.looks.same.tells ∙ tells),
+      c.remove_bare.ensures.spent (c.leaving.ensures.looked.reads.looks.same.tells ∙ tells),
       remove_load_still c.args.volume.now c.leaving.new.self (g.P.SectorView.space c.args.space.now) (g.P.SectorView.space c.leaving.new.space) c.leaving.ensures.looked.reads tells,
-      bare_load_still c.args.volume.now c.leaving.new.self (g.P.SectorView.space c.args.space.now) (g.P.SectorView.space c.leaving.new.space) c.leaving.ensures.looked.reads tells (count_of c.in-Ok.at.id (lists_of c.leaving.new.self (g.P.SectorView.space c.leaving.new.space).content).attribute_pairs),
-      ap (bare_load c.args.volume.now) (count_still c.args.volume.now c.leaving.new.self (g.P.SectorView.space c.args.space.now) (g.P.SectorView.space c.leaving.new.space) c.leaving.ensures.looked.reads tells c.in-Ok.at.id),
-      pairs,
+      bare_load_still c.args.volume.now c.leaving.new.self (g.P.SectorView.space c.args.space.now) (g.P.SectorView.space c.leaving.new.space) c.leaving.ensures.looked.reads tells (owned_at c.in-Ok.at.id (volume_of (g.P.SectorView.space c.leaving.new.space).content)),
+      ap (λ (k : Content). bare_load (owned_at c.in-Ok.at.id (volume_of k)) c.args.volume.now) (c.leaving.ensures.looked.reads.looks.content tells),
       remove_all_told c.sound_has_plain_tree.ensures c.args.volume.now (g.P.SectorView.space c.args.space.now) (c.requires.serves.stands.stands tells) (c.requires.serves.settled tells) (c.requires.room.told tells).2 c.args.volume.now.capacity (path_to c.args.above.now c.args.name.now) c.in-Ok.at c.args.name.now n grow
-          (is_leaving c.sound_has_plain_tree.ensures c.args.volume.now content (c.requires.serves.stands.stands tells).trees (c.requires.serves.settled tells) c.args.above.now c.args.name.now c.requires.not_own c.requires.fits c.in_ok-at.field-0 (c.in_ok-at.ensures.found tells) c.in-Ok.at c.in-Ok.is)
-          (leaving_told c.sound_has_plain_tree.ensures c.args.volume.now content (c.requires.serves.stands.stands tells).trees (c.requires.serves.settled tells) c.args.above.now c.args.name.now c.requires.not_own c.requires.fits c.in_ok-at.field-0 (c.in_ok-at.ensures.found tells) c.in-Ok.at c.in-Ok.is) is,
+          (is_leaving c.sound_has_plain_tree.ensures c.args.volume.now (g.P.SectorView.space c.args.space.now).content (c.requires.serves.stands.stands tells).trees (c.requires.serves.settled tells) c.args.above.now c.args.name.now c.requires.not_own c.requires.fits c.in_ok-at.field-0 (c.in_ok-at.ensures.found tells) c.in-Ok.at c.in-Ok.is)
+          (leaving_told c.sound_has_plain_tree.ensures c.args.volume.now (g.P.SectorView.space c.args.space.now).content (c.requires.serves.stands.stands tells).trees (c.requires.serves.settled tells) c.args.above.now c.args.name.now c.requires.not_own c.requires.fits c.in_ok-at.field-0 (c.in_ok-at.ensures.found tells) c.in-Ok.at c.in-Ok.is) is,
     )
 
 pub returns-in_err-remove_bare-in-Ok-clause-loads : goal.returns-in_err-remove_bare-in-Ok-clause-loads
 returns-in_err-remove_bare-in-Ok-clause-loads g c tells n grow is =
-    let content = (g.P.SectorView.space c.args.space.now).content in
-    let pairs = ap (λ (l : VolumeState). bare_load c.args.volume.now (count_of c.in-Ok.at.id l.attribute_pairs)) (c.requires.serves.settled tells).lists in
     omega (
       arith,
       c.leaving.ensures.looked.reads.looks.spare,
-      c.remove_bare.ensures.edits.ran.spent (c.leaving.ensures.looked.reads.looks.same.tells ∙ tells),
+      c.remove_bare.ensures.spent (c.leaving.ensures.looked.reads.looks.same.tells ∙ tells),
       remove_load_still c.args.volume.now c.leaving.new.self (g.P.SectorView.space c.args.space.now) (g.P.SectorView.space c.leaving.new.space) c.leaving.ensures.looked.reads tells,
-      bare_load_still c.args.volume.now c.leaving.new.self (g.P.SectorView.space c.args.space.now) (g.P.SectorView.space c.leaving.new.space) c.leaving.ensures.looked.reads tells (count_of c.in-Ok.at.id (lists_of c.leaving.new.self (g.P.SectorView.space c.leaving.new.space).content).attribute_pairs),
-      ap (bare_load c.args.volume.now) (count_still c.args.volume.now c.leaving.new.self (g.P.SectorView.space c.args.space.now) (g.P.SectorView.space c.leaving.new.space) c.leaving.ensures.looked.reads tells c.in-Ok.at.id),
-      pairs,
+      bare_load_still c.args.volume.now c.leaving.new.self (g.P.SectorView.space c.args.space.now) (g.P.SectorView.space c.leaving.new.space) c.leaving.ensures.looked.reads tells (owned_at c.in-Ok.at.id (volume_of (g.P.SectorView.space c.leaving.new.space).content)),
+      ap (λ (k : Content). bare_load (owned_at c.in-Ok.at.id (volume_of k)) c.args.volume.now) (c.leaving.ensures.looked.reads.looks.content tells),
       remove_all_told c.sound_has_plain_tree.ensures c.args.volume.now (g.P.SectorView.space c.args.space.now) (c.requires.serves.stands.stands tells) (c.requires.serves.settled tells) (c.requires.room.told tells).2 c.args.volume.now.capacity (path_to c.args.above.now c.args.name.now) c.in-Ok.at c.args.name.now n grow
-          (is_leaving c.sound_has_plain_tree.ensures c.args.volume.now content (c.requires.serves.stands.stands tells).trees (c.requires.serves.settled tells) c.args.above.now c.args.name.now c.requires.not_own c.requires.fits c.in_ok-at.field-0 (c.in_ok-at.ensures.found tells) c.in-Ok.at c.in-Ok.is)
-          (leaving_told c.sound_has_plain_tree.ensures c.args.volume.now content (c.requires.serves.stands.stands tells).trees (c.requires.serves.settled tells) c.args.above.now c.args.name.now c.requires.not_own c.requires.fits c.in_ok-at.field-0 (c.in_ok-at.ensures.found tells) c.in-Ok.at c.in-Ok.is) is,
+          (is_leaving c.sound_has_plain_tree.ensures c.args.volume.now (g.P.SectorView.space c.args.space.now).content (c.requires.serves.stands.stands tells).trees (c.requires.serves.settled tells) c.args.above.now c.args.name.now c.requires.not_own c.requires.fits c.in_ok-at.field-0 (c.in_ok-at.ensures.found tells) c.in-Ok.at c.in-Ok.is)
+          (leaving_told c.sound_has_plain_tree.ensures c.args.volume.now (g.P.SectorView.space c.args.space.now).content (c.requires.serves.stands.stands tells).trees (c.requires.serves.settled tells) c.args.above.now c.args.name.now c.requires.not_own c.requires.fits c.in_ok-at.field-0 (c.in_ok-at.ensures.found tells) c.in-Ok.at c.in-Ok.is) is,
     )
 
 pub returns-in-Err-clause-loads : goal.returns-in-Err-clause-loads
@@ -118,8 +119,11 @@ pub returns-in_ok-remove_bare-in-Ok-clause-lists : goal.returns-in_ok-remove_bar
 returns-in_ok-remove_bare-in-Ok-clause-lists g c tells is = record {
   entry = folder_at c.in-Ok.at c.args.name.now;
   allowed = leaving_told c.sound_has_plain_tree.ensures c.args.volume.now (g.P.SectorView.space c.args.space.now).content (c.requires.serves.stands.stands tells).trees (c.requires.serves.settled tells) c.args.above.now c.args.name.now c.requires.not_own c.requires.fits c.in_ok-at.field-0 (c.in_ok-at.ensures.found tells) c.in-Ok.at c.in-Ok.is;
-  takes = subst (λ (k : Content). TakesFolder c.in-Ok.at.id (volume_of k) (volume_of (g.P.SectorView.space c.remove_bare.new.space).content)) (c.leaving.ensures.looked.reads.looks.content tells)
-      (c.in_ok-remove_bare-in-Ok.ensures.takes (c.leaving.ensures.looked.reads.looks.same.tells ∙ tells));
+  takes = (subst (λ (k : Content). TakesFolder c.in-Ok.at.id (volume_of k) (volume_of (g.P.SectorView.space c.remove_bare.new.space).content)) (c.leaving.ensures.looked.reads.looks.content tells)
+      (c.in_ok-remove_bare-in-Ok.ensures.takes (c.leaving.ensures.looked.reads.looks.same.tells ∙ tells)));
+  values = values_removed c.rmdir_does_its_step.ensures (g.P.SectorView.space c.args.space.now).content (g.P.SectorView.space c.remove_bare.new.space).content (c.requires.serves.settled tells).sound c.in-Ok.at c.args.name.now
+      (record { path = path_to c.args.above.now c.args.name.now; allowed = (leaving_told c.sound_has_plain_tree.ensures c.args.volume.now (g.P.SectorView.space c.args.space.now).content (c.requires.serves.stands.stands tells).trees (c.requires.serves.settled tells) c.args.above.now c.args.name.now c.requires.not_own c.requires.fits c.in_ok-at.field-0 (c.in_ok-at.ensures.found tells) c.in-Ok.at c.in-Ok.is) }) (subst (λ (k : Content). TakesFolder c.in-Ok.at.id (volume_of k) (volume_of (g.P.SectorView.space c.remove_bare.new.space).content)) (c.leaving.ensures.looked.reads.looks.content tells)
+      (c.in_ok-remove_bare-in-Ok.ensures.takes (c.leaving.ensures.looked.reads.looks.same.tells ∙ tells)));
 }
 
 pub returns-in-Err-clause-lists : goal.returns-in-Err-clause-lists

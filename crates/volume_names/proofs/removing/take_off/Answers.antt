@@ -9,6 +9,7 @@ use Rattle.volume_base.proofs.RoomToRemove.{room_behind_removal, room_to_remove,
 use Rattle.volume_base.proofs.TakenOff.{drops_folder, threads_drawn}
 use Rattle.volume_base.proofs.Framed.{edits_err, edits_ok, edits_spent}
 use Rattle.volume_base.proofs.Joined.{edits_both, edits_header}
+use Rattle.volume_names.specs.Removing.{counting_header}
 use Rattle.volume_names.proofs.removing.take_off.Goals as goal
 
 pub remove-requires-clause-size : goal.remove-requires-clause-size
@@ -22,7 +23,7 @@ remove-requires-clause-threads g c tells =
 pub remove-requires-clause-room : goal.remove-requires-clause-room
 remove-requires-clause-room g c names tells =
     subst (λ (t : Tree). EditRoom 2 516 (state_of names t.file (g.P.SectorView.space c.count_off.new.space))) (sym (ap (λ (x : Volume). x.catalog) c.count_off.ensures.rest))
-    (room_to_remove c.edits_have_room.ensures c.args.volume.now (g.P.SectorView.space c.args.space.now) (g.P.SectorView.space c.count_off.new.space) c.requires.room c.requires.size c.count_off.ensures.within.same.tells c.count_off.ensures.spent names tells)
+    (room_to_remove c.edits_have_room.ensures c.args.volume.now (counting_header (g.P.SectorView.space c.args.space.now)) (g.P.SectorView.space c.count_off.new.space) c.requires.room c.requires.size c.count_off.ensures.within.same.tells c.count_off.ensures.spent names tells)
 
 pub returns-clause-drops : goal.returns-clause-drops
 returns-clause-drops g c tells =
@@ -35,19 +36,35 @@ returns-clause-drops g c tells =
 
 pub returns-clause-room : goal.returns-clause-room
 returns-clause-room g c =
-    room_behind_removal c.edits_have_room.ensures c.edits_take_their_load.ensures c.args.volume.now c.remove.new.self (g.P.SectorView.space c.args.space.now) (g.P.SectorView.space c.count_off.new.space) (g.P.SectorView.space c.remove.new.space) c.requires.room c.requires.size
+    room_behind_removal c.edits_have_room.ensures c.edits_take_their_load.ensures c.args.volume.now c.remove.new.self (counting_header (g.P.SectorView.space c.args.space.now)) (g.P.SectorView.space c.count_off.new.space) (g.P.SectorView.space c.remove.new.space) c.requires.room c.requires.size
     c.count_off.ensures.within.same.tells c.count_off.ensures.spent
     (subst (λ (t : Tree). TakesAtMost 2 516 (state_of [] t.file (g.P.SectorView.space c.count_off.new.space)) (state_of [] c.remove.new.self.catalog.file (g.P.SectorView.space c.remove.new.space))) (ap (λ (x : Volume). x.catalog) c.count_off.ensures.rest) (c.remove.ensures.takes []))
     c.remove.ensures.frame.space.same.tells
 
 pub returns-clause-edits : goal.returns-clause-edits
 returns-clause-edits g c =
-    edits_ok (edits_spent (edits_both g.met.P.SectorView.follows_trans (edits_header c.count_off.ensures.below c.count_off.ensures.stands c.count_off.ensures.rest c.count_off.ensures.within c.count_off.ensures.spent c.count_off.ensures.faults) c.in_ok-remove.ensures.edits) (λ tells. spent_removal c.edits_have_room.ensures c.edits_take_their_load.ensures c.args.volume.now c.remove.new.self (g.P.SectorView.space c.args.space.now) (g.P.SectorView.space c.count_off.new.space) (g.P.SectorView.space c.remove.new.space) c.requires.room c.requires.size
-    c.count_off.ensures.within.same.tells c.count_off.ensures.spent
-    (subst (λ (t : Tree). TakesAtMost 2 516 (state_of [] t.file (g.P.SectorView.space c.count_off.new.space)) (state_of [] c.remove.new.self.catalog.file (g.P.SectorView.space c.remove.new.space))) (ap (λ (x : Volume). x.catalog) c.count_off.ensures.rest) (c.remove.ensures.takes [])) tells))
+    edits_ok (edits_spent (edits_both {n = 1} g.met.P.SectorView.follows_trans (edits_header c.count_off.ensures.below c.count_off.ensures.stands c.count_off.ensures.rest c.count_off.ensures.within (omega (arith, c.count_off.ensures.spent)) c.count_off.ensures.faults) c.in_ok-remove.ensures.edits) (λ tells. omega (
+      arith,
+      spent_removal c.edits_have_room.ensures c.edits_take_their_load.ensures c.args.volume.now c.remove.new.self (counting_header (g.P.SectorView.space c.args.space.now)) (g.P.SectorView.space c.count_off.new.space) (g.P.SectorView.space c.remove.new.space) c.requires.room c.requires.size
+          c.count_off.ensures.within.same.tells c.count_off.ensures.spent
+          (subst (λ (t : Tree). TakesAtMost 2 516 (state_of [] t.file (g.P.SectorView.space c.count_off.new.space)) (state_of [] c.remove.new.self.catalog.file (g.P.SectorView.space c.remove.new.space))) (ap (λ (x : Volume). x.catalog) c.count_off.ensures.rest) (c.remove.ensures.takes [])) tells,
+    )))
 
 pub returns-in_err-remove-clause-edits : goal.returns-in_err-remove-clause-edits
 returns-in_err-remove-clause-edits g c =
-    edits_err c.from_residual.ensures.1 (edits_spent (edits_both g.met.P.SectorView.follows_trans (edits_header c.count_off.ensures.below c.count_off.ensures.stands c.count_off.ensures.rest c.count_off.ensures.within c.count_off.ensures.spent c.count_off.ensures.faults) c.in_err-remove.ensures.edits) (λ tells. spent_removal c.edits_have_room.ensures c.edits_take_their_load.ensures c.args.volume.now c.remove.new.self (g.P.SectorView.space c.args.space.now) (g.P.SectorView.space c.count_off.new.space) (g.P.SectorView.space c.remove.new.space) c.requires.room c.requires.size
+    edits_err c.from_residual.ensures.1 (edits_spent (edits_both {n = 1} g.met.P.SectorView.follows_trans (edits_header c.count_off.ensures.below c.count_off.ensures.stands c.count_off.ensures.rest c.count_off.ensures.within (omega (arith, c.count_off.ensures.spent)) c.count_off.ensures.faults) c.in_err-remove.ensures.edits) (λ tells. omega (
+      arith,
+      spent_removal c.edits_have_room.ensures c.edits_take_their_load.ensures c.args.volume.now c.remove.new.self (counting_header (g.P.SectorView.space c.args.space.now)) (g.P.SectorView.space c.count_off.new.space) (g.P.SectorView.space c.remove.new.space) c.requires.room c.requires.size
+          c.count_off.ensures.within.same.tells c.count_off.ensures.spent
+          (subst (λ (t : Tree). TakesAtMost 2 516 (state_of [] t.file (g.P.SectorView.space c.count_off.new.space)) (state_of [] c.remove.new.self.catalog.file (g.P.SectorView.space c.remove.new.space))) (ap (λ (x : Volume). x.catalog) c.count_off.ensures.rest) (c.remove.ensures.takes [])) tells,
+    )))
+
+pub returns-clause-counted : goal.returns-clause-counted
+returns-clause-counted g c tells = spent_removal c.edits_have_room.ensures c.edits_take_their_load.ensures c.args.volume.now c.remove.new.self (counting_header (g.P.SectorView.space c.args.space.now)) (g.P.SectorView.space c.count_off.new.space) (g.P.SectorView.space c.remove.new.space) c.requires.room c.requires.size
     c.count_off.ensures.within.same.tells c.count_off.ensures.spent
-    (subst (λ (t : Tree). TakesAtMost 2 516 (state_of [] t.file (g.P.SectorView.space c.count_off.new.space)) (state_of [] c.remove.new.self.catalog.file (g.P.SectorView.space c.remove.new.space))) (ap (λ (x : Volume). x.catalog) c.count_off.ensures.rest) (c.remove.ensures.takes [])) tells))
+    (subst (λ (t : Tree). TakesAtMost 2 516 (state_of [] t.file (g.P.SectorView.space c.count_off.new.space)) (state_of [] c.remove.new.self.catalog.file (g.P.SectorView.space c.remove.new.space))) (ap (λ (x : Volume). x.catalog) c.count_off.ensures.rest) (c.remove.ensures.takes [])) tells
+
+pub returns-in_err-remove-clause-counted : goal.returns-in_err-remove-clause-counted
+returns-in_err-remove-clause-counted g c tells = spent_removal c.edits_have_room.ensures c.edits_take_their_load.ensures c.args.volume.now c.remove.new.self (counting_header (g.P.SectorView.space c.args.space.now)) (g.P.SectorView.space c.count_off.new.space) (g.P.SectorView.space c.remove.new.space) c.requires.room c.requires.size
+    c.count_off.ensures.within.same.tells c.count_off.ensures.spent
+    (subst (λ (t : Tree). TakesAtMost 2 516 (state_of [] t.file (g.P.SectorView.space c.count_off.new.space)) (state_of [] c.remove.new.self.catalog.file (g.P.SectorView.space c.remove.new.space))) (ap (λ (x : Volume). x.catalog) c.count_off.ensures.rest) (c.remove.ensures.takes [])) tells

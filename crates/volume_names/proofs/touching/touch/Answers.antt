@@ -7,14 +7,13 @@ use Rattle.hfs_volume.specs.Entries.{AreSpelled}
 use Rattle.hfs_volume.specs.Records.{id_in, is_thread}
 use Rattle.volume_base.specs.Changing.{TouchesFolder}
 use Rattle.volume_base.specs.declared.entries.Entry.{Entry}
-use Rattle.volume_base.proofs.FoundEntry.{room_still, ok_so}
+use Rattle.volume_base.proofs.FoundEntry.{room_still, ok_so, node_still}
 use Rattle.volume_base.proofs.Recounting.{folder_there, folder_not_none, touches_read}
 use Rattle.volume_base.proofs.Still.{lists_still}
 use Rattle.volume_base.proofs.UpdateRoom.{room_less, updates_still}
 use Rattle.volume_base.proofs.Framed.{looked_then, node_looked}
 use Rattle.btree_file.specs.State.{state_of}
 use Rattle.catalog.specs.Rooms.{TakesUpdates}
-use Rattle.volume_base.proofs.FoundEntry.{node_still}
 use Rattle.volume_base.proofs.Replaced.{node_large}
 use Rattle.volume_names.specs.EditsLeft.{LeavesBeside}
 use Rattle.volume_names.proofs.EditsLeft.{left_as, left_less, left_still, left_updated}

@@ -20,7 +20,8 @@ returns-clause-ahead g c tells = record {
     tree = c.in_ok-grow_attributes.ensures.tree tells;
   };
   grows = c.in_ok-grow_attributes.ensures.grows tells;
-  files = λ id kind other. c.in_ok-grow_attributes.ensures.files tells id kind (inl (λ same. other (inr (inr same))));
+  files = λ id kind other. (c.in_ok-grow_attributes.ensures.files tells).0 id kind (inl (λ same. other (inr (inr same))));
+  values = (c.in_ok-grow_attributes.ensures.files tells).1;
   journal = c.in_ok-grow_attributes.ensures.journal tells;
   head = c.in_ok-grow_attributes.ensures.head tells;
 }

@@ -20,7 +20,8 @@ returns-clause-ahead g c tells = record {
     tree = c.in_ok-grow_catalog.ensures.tree tells;
   };
   grows = c.in_ok-grow_catalog.ensures.grows tells;
-  files = λ id kind other. c.in_ok-grow_catalog.ensures.files tells id kind (inl (λ same. other (inr (inl same))));
+  files = λ id kind other. (c.in_ok-grow_catalog.ensures.files tells).0 id kind (inl (λ same. other (inr (inl same))));
+  values = (c.in_ok-grow_catalog.ensures.files tells).1;
   journal = c.in_ok-grow_catalog.ensures.journal tells;
   head = c.in_ok-grow_catalog.ensures.head tells;
 }

@@ -16,7 +16,8 @@ returns-clause-ahead g c tells = record {
     tree = c.in_ok-grow_extents.ensures.tree tells;
   };
   grows = c.in_ok-grow_extents.ensures.grows tells;
-  files = λ id kind other. c.in_ok-grow_extents.ensures.files tells id kind (inl (λ same. other (inl same)));
+  files = λ id kind other. (c.in_ok-grow_extents.ensures.files tells).0 id kind (inl (λ same. other (inl same)));
+  values = (c.in_ok-grow_extents.ensures.files tells).1;
   journal = c.in_ok-grow_extents.ensures.journal tells;
   head = c.in_ok-grow_extents.ensures.head tells;
 }

@@ -8,7 +8,8 @@ use Rattle.volume_space.specs.declared.ahead.WhichTree.{WhichTree}
 use Rattle.volume_space.specs.declared.ahead.WhichTree.TheVariants as which
 use Rattle.volume_space.proofs.GrowthFitted.{wanted_fits, wanted_loads}
 use Rattle.volume_space.proofs.SpreadSpent.{spent_more}
-use Rattle.volume_space.proofs.WhenKept.{fits_kept, free_kept, holds_kept, load_kept, load_kept_spread, on_ok, settled_kept, spread_kept, stands_kept, touches_those, unchanged_kept}
+use Rattle.volume_base.proofs.KeptMarks.{holds_kept, settled_kept, stands_kept, unchanged_kept}
+use Rattle.volume_space.proofs.WhenKept.{fits_kept, free_kept, load_kept, load_kept_spread, on_ok, spread_kept, touches_those}
 use Rattle.volume_space.proofs.ahead.grow_tree.Goals as goal
 
 pub grow_extents_kept-requires-clause-stands : goal.grow_extents_kept-requires-clause-stands

@@ -21,7 +21,8 @@ pub returns-clause-ahead : goal.returns-clause-ahead
 returns-clause-ahead g c tells = record {
   keeps = record { sound = sound_here c.grow_attributes_spread.new.volume (g.P.SectorView.space c.grow_attributes_spread.new.space) (c.in_ok-grow_attributes_spread.ensures.stands.stands ((c.grow_attributes_spread.ensures.touches []).same.tells ∙ tells)) (c.in_ok-grow_attributes_spread.ensures.settled tells); tree = c.in_ok-grow_attributes_spread.ensures.tree tells };
   grows = c.in_ok-grow_attributes_spread.ensures.grows tells;
-  files = λ id kind other. c.in_ok-grow_attributes_spread.ensures.files tells id kind (inl (λ same. other (inr (inr same))));
+  files = λ id kind other. (c.in_ok-grow_attributes_spread.ensures.files tells).0 id kind (inl (λ same. other (inr (inr same))));
+  values = (c.in_ok-grow_attributes_spread.ensures.files tells).1;
   journal = c.in_ok-grow_attributes_spread.ensures.journal tells;
   head = c.in_ok-grow_attributes_spread.ensures.head tells;
 }

@@ -25,7 +25,7 @@ use Rattle.volume_base.proofs.Besides.{blocks_edit}
 use Rattle.volume_base.proofs.Commanding.{touches_both}
 use Rattle.volume_space.proofs.CutWhole.{cut_whole}
 use Rattle.volume_base.proofs.FoundEntry.{ok_both, settled_spelled}
-use Rattle.volume_space.proofs.KeptUsed.{used_blocks, used_both}
+use Rattle.volume_base.proofs.KeptUsed.{used_blocks, used_both}
 use Rattle.volume_base.proofs.Seeing.{cause_since}
 use Rattle.volume_space.proofs.SpreadFile.{blocks_stored, eight_in, few_stay, has_extents, has_file, kind_is, stays_in_use, store_room}
 use Rattle.volume_space.proofs.StoreRoom.{store_spent}

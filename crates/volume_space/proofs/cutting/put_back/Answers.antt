@@ -8,15 +8,16 @@ use Rattle.btree_edit.specs.Causes.{HasTroubleCause}
 use Rattle.btree_file.specs.State.{sectors_of_tree}
 use Rattle.sector_disk.specs.Lists.{Content}
 use Rattle.volume_header.specs.Header.{FitsHeader}
-use Rattle.volume_space.specs.Cutting.{KeepsUsed, given_load}
-use Rattle.volume_space.specs.Mapping.{HoldsUnchanged, changed_sectors}
+use Rattle.volume_space.specs.Cutting.{given_load}
+use Rattle.volume_base.specs.Holding.{KeepsUsed}
+use Rattle.volume_base.specs.Mapping.{HoldsUnchanged, changed_sectors}
 use Rattle.volume_base.specs.Service.{IsInService}
 use Rattle.volume_base.specs.Standing.{StandsOver, attribute_sectors, map_sectors, own_sectors}
 use Rattle.volume_base.specs.Touching.{Touches}
 use Rattle.volume_base.specs.declared.volume.Volume.{Volume}
 use Rattle.volume_base.proofs.Commanding.{touches_both, touches_none}
 use Rattle.volume_space.proofs.GivenBack.{few_given, puts_given, stands_given, unchanged_given, used_given}
-use Rattle.volume_space.proofs.KeptUsed.{used_none}
+use Rattle.volume_base.proofs.KeptUsed.{used_none}
 use Rattle.volume_base.proofs.Touched.{touches_header, touches_within}
 use Rattle.volume_space.proofs.cutting.put_back.Goals as goal
 

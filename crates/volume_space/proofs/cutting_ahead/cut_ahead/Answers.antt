@@ -4,7 +4,7 @@ use Rattle.volume_base.specs.Room.{capacity_of}
 use Rattle.volume_space.proofs.StepSpent.{ahead_within, cut_behind}
 use Rattle.volume_space.proofs.CutShort.{short_behind}
 use Rattle.volume_space.proofs.PastSizes.{ahead_behind}
-use Rattle.volume_space.proofs.Freed.{frees_behind, frees_err, frees_looked, frees_short}
+use Rattle.volume_base.proofs.Freed.{frees_behind, frees_err, frees_looked, frees_short}
 use Rattle.volume_space.proofs.cutting_ahead.cut_ahead.Goals as goal
 
 pub returns-in-Ok-clause-came : goal.returns-in-Ok-clause-came

@@ -4,7 +4,7 @@ use Rattle.hfs_volume.specs.Content.{volume_of}
 use Rattle.hfs_volume.specs.Weight.{has_surplus}
 use Rattle.volume_base.specs.Room.{capacity_of}
 use Rattle.volume_space.proofs.PastSizes.{first_result, past_told}
-use Rattle.volume_space.proofs.Freed.{frees_none, frees_wanting}
+use Rattle.volume_base.proofs.Freed.{frees_none, frees_wanting}
 use Rattle.volume_space.proofs.cutting_ahead.cut_entry.Goals as goal
 
 pub surplus_in-requires : goal.surplus_in-requires

@@ -13,7 +13,7 @@ use Rattle.volume_space.proofs.StepSpent.{past_spent}
 use Rattle.volume_space.proofs.CutShort.{no_rest, short_ahead}
 use Rattle.volume_space.proofs.NextCut.{shrunk_next}
 use Rattle.volume_space.proofs.PastSizes.{past_next, sized_id}
-use Rattle.volume_space.proofs.Freed.{frees_err, frees_none, frees_ok}
+use Rattle.volume_base.proofs.Freed.{frees_err, frees_none, frees_ok}
 use Rattle.volume_space.proofs.cutting_ahead.cut_past.Goals as goal
 
 pub tidy_cut-requires-clause-next : goal.tidy_cut-requires-clause-next

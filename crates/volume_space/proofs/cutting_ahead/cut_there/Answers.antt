@@ -13,7 +13,7 @@ use Rattle.volume_space.proofs.CutShort.{short_behind}
 use Rattle.volume_space.proofs.NextCut.{there_by}
 use Rattle.volume_space.proofs.PastSizes.{cuts_behind}
 use Rattle.volume_base.proofs.Still.{lists_still}
-use Rattle.volume_space.proofs.Freed.{frees_behind, frees_err, frees_looked, frees_short}
+use Rattle.volume_base.proofs.Freed.{frees_behind, frees_err, frees_looked, frees_short}
 use Rattle.volume_base.proofs.Framed.{serves_still}
 use Rattle.volume_space.proofs.cutting_ahead.cut_there.Goals as goal
 

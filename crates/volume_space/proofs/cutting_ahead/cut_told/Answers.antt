@@ -7,7 +7,7 @@ use Rattle.hfs_volume.specs.Weight.{has_surplus}
 use Rattle.volume_base.specs.Room.{capacity_of}
 use Rattle.volume_space.proofs.PastSizes.{cuts_longer, cuts_path, cuts_sized}
 use Rattle.volume_base.proofs.ToldFile.{about, told_node}
-use Rattle.volume_space.proofs.Freed.{frees_none, frees_wanting}
+use Rattle.volume_base.proofs.Freed.{frees_none, frees_wanting}
 use Rattle.volume_space.proofs.cutting_ahead.cut_told.Goals as goal
 
 pub returns-clause-came : goal.returns-clause-came

@@ -6,8 +6,8 @@ use Rattle.std.proofs.lemmas.Result.{err_from_is_err_and}
 use Rattle.hx_bytes.specs.declared.faults.Trouble.{Trouble}
 use Rattle.btree_file.specs.State.{sectors_of_tree}
 use Rattle.sector_disk.specs.Lists.{Content}
-use Rattle.volume_space.specs.Mapping.{changed_sectors}
-use Rattle.volume_space.specs.Standing.{HoldsOn}
+use Rattle.volume_base.specs.Mapping.{changed_sectors}
+use Rattle.volume_base.specs.Holding.{HoldsOn}
 use Rattle.volume_base.specs.Standing.{attribute_sectors, map_sectors, own_sectors}
 use Rattle.volume_base.specs.declared.volume.Volume.{Volume}
 use Rattle.volume_base.proofs.Commanding.{touches_both}

@@ -13,7 +13,7 @@ use Rattle.sector_disk.specs.Space.{Space}
 use Rattle.volume_header.specs.Header.{FitsHeader}
 use Rattle.volume_header.specs.declared.header.VolumeHeader.{VolumeHeader}
 use Rattle.volume_space.specs.Growing.{HasFreeRun, LengthensExtents, TakesRun, blocks_filled, run_load, with_extents}
-use Rattle.volume_space.specs.Mapping.{HoldsUnchanged, changed_sectors}
+use Rattle.volume_base.specs.Mapping.{HoldsUnchanged, changed_sectors}
 use Rattle.volume_base.specs.Service.{IsInService}
 use Rattle.volume_base.specs.Standing.{StandsOver, own_sectors}
 use Rattle.volume_base.specs.Touching.{Touches}

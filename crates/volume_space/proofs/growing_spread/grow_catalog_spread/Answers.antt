@@ -7,10 +7,10 @@ use Rattle.flag_rows.specs.Bits.{sectors_for}
 use Rattle.hx_bytes.specs.declared.extents.Extent.{Extent}
 use Rattle.hx_bytes.specs.declared.faults.Trouble.{Trouble}
 use Rattle.btree_file.specs.State.{sectors_of_tree}
-use Rattle.volume_space.specs.Growing.{blocks_filled, run_load}
-use Rattle.volume_space.specs.Mapping.{changed_sectors}
+use Rattle.volume_space.specs.Growing.{blocks_filled, run_load, TakesRun, growth_load}
+use Rattle.volume_base.specs.Mapping.{changed_sectors}
 use Rattle.volume_space.specs.Spreading.{edits_load}
-use Rattle.volume_space.specs.Standing.{HoldsOn}
+use Rattle.volume_base.specs.Holding.{HoldsOn}
 use Rattle.volume_base.specs.Standing.{attribute_sectors, map_sectors, own_sectors}
 use Rattle.volume_base.specs.declared.volume.Tree.{Tree}
 use Rattle.volume_base.specs.declared.volume.Volume.{Volume}
@@ -22,7 +22,6 @@ use Rattle.hfs_volume.specs.Forks.{catalog_id, data_kind}
 use Rattle.overflow.specs.Reading.{HasExtents}
 use Rattle.hfs_volume.specs.Content.{overflow_in_volume}
 use Rattle.volume_base.specs.Lists.{lists_of}
-use Rattle.volume_space.specs.Growing.{TakesRun, growth_load}
 use Rattle.alloc_bitmap.specs.Map.{BlockMap}
 use Rattle.volume_space.proofs.SpreadCalls.{edit_room_later, holds_then, touches_as}
 use Rattle.volume_space.proofs.SpreadNumbers.{per_block_some, run_some}

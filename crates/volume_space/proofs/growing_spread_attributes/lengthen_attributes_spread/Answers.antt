@@ -16,7 +16,7 @@ use Rattle.overflow.specs.Reading.{HasExtents}
 use Rattle.volume_base.specs.Lists.{lists_of}
 use Rattle.volume_space.specs.SpreadGrowth.{StandsButOver}
 use Rattle.volume_space.specs.Growing.{HasFreeRun, LengthensAttributes, TakesRun, blocks_filled, run_load, with_attributes}
-use Rattle.volume_space.specs.Mapping.{changed_sectors}
+use Rattle.volume_base.specs.Mapping.{changed_sectors}
 use Rattle.volume_base.specs.Service.{IsInService}
 use Rattle.volume_base.specs.Standing.{own_sectors}
 use Rattle.volume_base.specs.Touching.{Touches}

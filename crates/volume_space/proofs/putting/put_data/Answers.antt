@@ -18,15 +18,14 @@ use Rattle.volume_space.specs.Writing.{is_data_met, IsToldFile, extents_in, has_
 use Rattle.volume_base.specs.declared.entries.Entry.{Entry}
 use Rattle.volume_base.specs.declared.volume.Tree.{Tree}
 use Rattle.volume_base.proofs.Commanding.{touches_both, touches_looks}
-use Rattle.volume_space.proofs.CutKept.{own_kept}
+use Rattle.volume_base.proofs.KeptMarks.{own_kept, holds_kept, settled_kept, stands_kept, unchanged_kept}
 use Rattle.volume_base.proofs.FoundEntry.{IsThere, entry_there, not_none, settled_spelled}
-use Rattle.volume_space.proofs.KeptUsed.{used_read}
+use Rattle.volume_base.proofs.KeptUsed.{used_read}
 use Rattle.volume_space.proofs.PutAlike.{alike_both, alike_kept, alike_read, can_still, laid_alike, load_alike, puts_alike, spread_alike}
 use Rattle.volume_space.proofs.PutMet.{met_alike, not_met}
 use Rattle.volume_space.proofs.PutFile.{data_met, cut_is, entry_is, has_it, its, load_now, now_is, number_is, records_now, same_file, same_files, told_is}
 use Rattle.volume_base.proofs.Seeing.{if_so}
 use Rattle.volume_base.proofs.Still.{lists_still, own_still, settled_still}
-use Rattle.volume_space.proofs.WhenKept.{holds_kept, settled_kept, stands_kept, unchanged_kept}
 use Rattle.volume_space.proofs.Filling.{filled_kept, filled_read}
 use Rattle.volume_space.proofs.putting.put_data.Goals as goal
 

@@ -15,7 +15,7 @@ use Rattle.volume_base.specs.Touching.{Touches}
 use Rattle.volume_space.specs.Recording.{records_held}
 use Rattle.volume_space.specs.Writing.{is_put_met, IsToldFile, blocks_put, can_put, extents_in, has_more, put_load}
 use Rattle.volume_base.proofs.Commanding.{touches_both, touches_looks}
-use Rattle.volume_space.proofs.KeptUsed.{used_read}
+use Rattle.volume_base.proofs.KeptUsed.{used_read}
 use Rattle.volume_space.proofs.PutMet.{met_alike}
 use Rattle.volume_space.proofs.PutAlike.{alike_read, can_still, laid_alike, load_alike, puts_alike, spread_alike}
 use Rattle.volume_base.proofs.Still.{lists_still, own_still}

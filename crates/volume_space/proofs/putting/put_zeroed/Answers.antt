@@ -7,7 +7,7 @@ use Rattle.flag_rows.specs.Runs.{fewest_of}
 use Rattle.alloc_bitmap.specs.Map.{free_of}
 use Rattle.file_io.specs.Places.{first_block, middle, old_end}
 use Rattle.hfs_volume.specs.Weight.{free_runs}
-use Rattle.volume_space.specs.Mapping.{changed_sectors}
+use Rattle.volume_base.specs.Mapping.{changed_sectors}
 use Rattle.volume_base.specs.Standing.{map_sectors, own_sectors}
 use Rattle.volume_base.specs.Touching.{Touches}
 use Rattle.volume_space.specs.Writing.{blocks_put, most_extents}

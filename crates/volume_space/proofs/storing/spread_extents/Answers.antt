@@ -5,11 +5,10 @@ use Rattle.btree_file.proofs.StandingLaws.{pairs_held}
 use Rattle.hfs_volume.specs.Records.{Overflow, overflow_of}
 use Rattle.hfs_model.specs.Sorted.{kept}
 use Rattle.hfs_volume.specs.Forks.{is_of}
-use Rattle.volume_space.proofs.Spreads.{stored_spreads}
+use Rattle.volume_space.proofs.Spreads.{stored_spreads, full_in_use}
 use Rattle.btree_file.specs.State.{state_of}
 use Rattle.hfs_volume.specs.Cost.{overflow_records}
 use Rattle.volume_space.proofs.EditsTaken.{edits_low}
-use Rattle.volume_space.proofs.Spreads.{full_in_use}
 use Rattle.volume_space.proofs.storing.spread_extents.Goals as goal
 
 pub store_extents-requires-clause-room : goal.store_extents-requires-clause-room

@@ -9,7 +9,7 @@ use Rattle.volume_base.specs.Keeping.{shrunk_of}
 use Rattle.volume_base.specs.Room.{capacity_of}
 use Rattle.volume_space.proofs.StepSpent.{next_behind}
 use Rattle.volume_space.proofs.Affording.{tidied_behind}
-use Rattle.volume_space.proofs.Freed.{frees_behind, frees_edits, frees_err, frees_looked}
+use Rattle.volume_base.proofs.Freed.{frees_behind, frees_err, frees_looked}
 use Rattle.volume_space.proofs.stripping.tidy_owner.Goals as goal
 
 pub tidy_attribute-requires-clause-waits : goal.tidy_attribute-requires-clause-waits
@@ -54,7 +54,7 @@ pub returns-in_err-name-clause-spent : goal.returns-in_err-name-clause-spent
 returns-in_err-name-clause-spent g c tells = inl (omega (arith, c.next_owned.ensures.looked.reads.looks.spare))
 
 pub returns-in-Some-clause-frees : goal.returns-in-Some-clause-frees
-returns-in-Some-clause-frees g c = frees_behind g.met.P.SectorView.follows_trans c.next_owned.ensures.looked (frees_edits c.tidy_attribute.ensures.edits)
+returns-in-Some-clause-frees g c = frees_behind g.met.P.SectorView.follows_trans c.next_owned.ensures.looked c.tidy_attribute.ensures.frees
 
 pub returns-in-None-clause-frees : goal.returns-in-None-clause-frees
 returns-in-None-clause-frees g c = frees_behind g.met.P.SectorView.follows_trans c.next_owned.ensures.looked c.tidy_blocks.ensures.frees

@@ -9,7 +9,7 @@ use Rattle.volume_base.specs.Room.{capacity_of}
 use Rattle.volume_space.proofs.StepSpent.{next_behind}
 use Rattle.volume_space.proofs.Affording.{tidied_behind}
 use Rattle.volume_space.proofs.HeldUp.{rests_none}
-use Rattle.volume_space.proofs.Freed.{frees_behind, frees_err, frees_looked}
+use Rattle.volume_base.proofs.Freed.{frees_behind, frees_err, frees_looked}
 use Rattle.volume_base.proofs.Looked.{looked_again}
 use Rattle.volume_space.proofs.tidying.tidy_unshrunk.Goals as goal
 

@@ -11,7 +11,7 @@ use Rattle.volume_base.specs.Room.{capacity_of}
 use Rattle.volume_base.specs.declared.entries.Entry.{Entry}
 use Rattle.volume_space.proofs.StepSpent.{next_behind}
 use Rattle.volume_space.proofs.Affording.{tidied_behind}
-use Rattle.volume_space.proofs.Freed.{frees_behind, frees_edits, frees_err, frees_looked}
+use Rattle.volume_base.proofs.Freed.{frees_behind, frees_edits, frees_err, frees_looked}
 use Rattle.volume_space.proofs.tidying.tidy_waiting.Goals as goal
 
 pub tidy_entry-requires-clause-name : goal.tidy_entry-requires-clause-name

@@ -1,7 +1,7 @@
 use Rattle.std.proofs.Common.{inl, arith, ap, subst}
 use Rattle.cat_records.specs.Fits.{FitsRecord}
 use Rattle.hfs_volume.specs.Records.{is_thread}
-use Rattle.volume_space.proofs.Freed.{frees_wanting}
+use Rattle.volume_base.proofs.Freed.{frees_wanting}
 use Rattle.volume_space.proofs.trimming.tidy_cut.Goals as goal
 
 pub tidy_fork-requires-clause-fits : goal.tidy_fork-requires-clause-fits

@@ -2,7 +2,7 @@ use Rattle.std.proofs.Common.{inl, arith, subst, ℕ}
 use Rattle.std.specs.Prelude.{◌&&◌}
 use Rattle.hx_bytes.specs.declared.extents.ForkRecord.{ForkRecord}
 use Rattle.volume_base.specs.Cutting.{IsCutOf}
-use Rattle.volume_space.proofs.Freed.{frees_err, frees_wanting}
+use Rattle.volume_base.proofs.Freed.{frees_err, frees_wanting}
 use Rattle.volume_space.proofs.trimming.tidy_extents.Goals as goal
 
 pub tidy_part-requires-clause-cut : goal.tidy_part-requires-clause-cut

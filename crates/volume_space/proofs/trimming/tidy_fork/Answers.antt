@@ -6,15 +6,14 @@ use Rattle.alloc_bitmap.specs.Map.{BlockMap, free_of}
 use Rattle.catalog.specs.Pairs.{value_at}
 use Rattle.hfs_volume.specs.Content.{VolumeState}
 use Rattle.hfs_volume.specs.Records.{id_in}
-use Rattle.volume_space.specs.Cutting.{IsNextCut, kind_of}
+use Rattle.volume_space.specs.Cutting.{IsNextCut, kind_of, IsForkOf}
 use Rattle.volume_base.specs.Keeping.{shrunk_of}
 use Rattle.volume_base.specs.Room.{capacity_of}
 use Rattle.volume_space.proofs.StepSpent.{next_behind}
 use Rattle.volume_space.proofs.Affording.{tidied_behind}
 use Rattle.volume_space.proofs.SpreadFile.{has_file}
 use Rattle.volume_base.proofs.Still.{lists_still}
-use Rattle.volume_space.specs.Cutting.{IsForkOf}
-use Rattle.volume_space.proofs.Freed.{frees_behind, frees_err, frees_looked, frees_wanting}
+use Rattle.volume_base.proofs.Freed.{frees_behind, frees_err, frees_looked, frees_wanting}
 use Rattle.volume_space.proofs.trimming.tidy_fork.Goals as goal
 
 pub fork_extents-requires-clause-there : goal.fork_extents-requires-clause-there

@@ -4,7 +4,7 @@ use Rattle.hfs_volume.specs.Records.{id_in}
 use Rattle.volume_space.specs.Cutting.{IsNextCut, blocks_left, kind_of}
 use Rattle.volume_base.specs.Keeping.{shrunk_of}
 use Rattle.volume_space.specs.declared.trimming.Surplus.{Surplus}
-use Rattle.volume_space.proofs.Freed.{frees_wanting}
+use Rattle.volume_base.proofs.Freed.{frees_wanting}
 use Rattle.volume_space.proofs.trimming.tidy_left.Goals as goal
 
 pub tidy_cut-requires-clause-next : goal.tidy_cut-requires-clause-next

@@ -5,18 +5,17 @@ use Rattle.alloc_bitmap.specs.Map.{free_of}
 use Rattle.catalog.specs.Pairs.{value_at}
 use Rattle.hfs_volume.specs.Content.{VolumeState}
 use Rattle.hfs_volume.specs.Records.{id_in}
-use Rattle.volume_space.specs.Cutting.{IsNextCut, kind_of}
+use Rattle.volume_space.specs.Cutting.{IsNextCut, kind_of, CutsFile}
 use Rattle.volume_base.specs.Keeping.{shrunk_of}
 use Rattle.volume_base.specs.Room.{capacity_of}
 use Rattle.volume_base.specs.Touching.{Touches}
 use Rattle.volume_space.proofs.StepSpent.{cut_spent}
 use Rattle.volume_space.proofs.HeldUp.{rests_cut}
-use Rattle.volume_space.proofs.KeptUsed.{used_both}
-use Rattle.volume_space.specs.Cutting.{CutsFile}
-use Rattle.volume_space.proofs.CutKept.{load_kept, may_kept, own_kept, used_kept}
-use Rattle.volume_space.proofs.WhenKept.{lists_kept, settled_kept, stands_kept, unchanged_kept}
+use Rattle.volume_base.proofs.KeptUsed.{used_both}
+use Rattle.volume_base.proofs.KeptMarks.{own_kept, used_kept, lists_kept, settled_kept, stands_kept, unchanged_kept}
+use Rattle.volume_space.proofs.CutKept.{load_kept, may_kept}
 use Rattle.volume_space.proofs.Shorts.{short_cut, short_next}
-use Rattle.volume_space.proofs.Freed.{frees_err, frees_none}
+use Rattle.volume_base.proofs.Freed.{frees_err, frees_none}
 use Rattle.volume_space.proofs.trimming.tidy_part.Goals as goal
 
 pub cut_fork-requires-clause-stands : goal.cut_fork-requires-clause-stands

@@ -2,7 +2,7 @@ use Rattle.std.proofs.Common.{false, inl, arith, sym, ◌∙◌, refl}
 use Rattle.hfs_volume.specs.Reclaim.{least}
 use Rattle.volume_base.specs.Keeping.{shrunk_of}
 use Rattle.volume_space.proofs.NextCut.{shrunk_next, shrunk_rests}
-use Rattle.volume_space.proofs.Freed.{frees_wanting}
+use Rattle.volume_base.proofs.Freed.{frees_wanting}
 use Rattle.volume_space.proofs.trimming.tidy_shrunk.Goals as goal
 
 pub surplus_in-requires : goal.surplus_in-requires

@@ -15,7 +15,7 @@ use Rattle.volume_space.proofs.Affording.{tidied_behind}
 use Rattle.volume_base.proofs.FoundEntry.{settled_spelled}
 use Rattle.volume_space.proofs.NextCut.{none_rests, there_by}
 use Rattle.volume_base.proofs.Still.{lists_still}
-use Rattle.volume_space.proofs.Freed.{frees_behind, frees_err, frees_looked}
+use Rattle.volume_base.proofs.Freed.{frees_behind, frees_err, frees_looked}
 use Rattle.volume_base.proofs.Framed.{serves_still}
 use Rattle.volume_space.proofs.trimming.tidy_surplus.Goals as goal
 

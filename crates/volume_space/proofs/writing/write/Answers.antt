@@ -14,7 +14,7 @@ use Rattle.volume_base.specs.Refusing.{facts_or}
 use Rattle.volume_base.specs.Touching.{Touches}
 use Rattle.volume_space.specs.Writing.{HasData, is_data_met, is_put_now}
 use Rattle.volume_base.proofs.Commanding.{touches_both, touches_looks}
-use Rattle.volume_space.proofs.KeptUsed.{used_read}
+use Rattle.volume_base.proofs.KeptUsed.{used_read}
 use Rattle.volume_space.proofs.PutAlike.{alike_read, laid_alike, now_alike}
 use Rattle.volume_space.proofs.PutMet.{data_met_alike}
 use Rattle.volume_base.proofs.Still.{own_still}

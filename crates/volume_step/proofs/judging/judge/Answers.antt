@@ -24,14 +24,15 @@ returns-in-None-clause-judged g c tells =
     not_weighed c.in_ok-weight.field-0 c.in-None.is (c.in_ok-weight.ensures.waits tells c.requires.changes)
 
 pub returns-in-Some-clause-taken : goal.returns-in-Some-clause-taken
-returns-in-Some-clause-taken g c tells now =
+returns-in-Some-clause-taken g c tells ready =
+    let now = ready.now in
     subst (λ (v : Verdict). IsTaken v now.grow) (sym c.verdict_of.ensures)
     (taken_weight (capacity_of c.args.volume.now) (takable_of c.args.volume.now) (g.P.SectorView.space c.args.space.now).content c.args.command.now c.spare.result c.requires.changes now.no_data now.load now.grow now.costs
-    (omega (arith, now.within, c.spare.ensures, c.weigh.ensures.looked.reads.looks.spare)) c.in-Some.weight (weight_found c.in_ok-weight.field-0 c.in-Some.weight _ c.in-Some.is (c.in_ok-weight.ensures.answer tells)))
+    (omega (arith, now.within, c.spare.ensures, c.weigh.ensures.looked.reads.looks.spare)) ready.alike c.in-Some.weight (weight_found c.in_ok-weight.field-0 c.in-Some.weight _ c.in-Some.is (c.in_ok-weight.ensures.answer tells)))
 
 pub returns-in-None-clause-taken : goal.returns-in-None-clause-taken
-returns-in-None-clause-taken g c tells now =
-    absurd (true≢false (sym (not_weighed c.in_ok-weight.field-0 c.in-None.is (c.in_ok-weight.ensures.waits tells c.requires.changes)).1 ∙ no_cut (volume_of (g.P.SectorView.space c.args.space.now).content) (tree_of (g.P.SectorView.space c.args.space.now).content) c.args.command.now now.no_data))
+returns-in-None-clause-taken g c tells ready =
+    absurd (true≢false (sym (not_weighed c.in_ok-weight.field-0 c.in-None.is (c.in_ok-weight.ensures.waits tells c.requires.changes)).1 ∙ no_cut (volume_of (g.P.SectorView.space c.args.space.now).content) (tree_of (g.P.SectorView.space c.args.space.now).content) c.args.command.now ready.now.no_data))
 
 pub returns-in-Some-clause-puts : goal.returns-in-Some-clause-puts
 returns-in-Some-clause-puts g c tells puts =

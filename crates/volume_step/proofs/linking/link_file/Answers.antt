@@ -47,13 +47,13 @@ returns-then-not-fits_make-clause-done g c tells met =
     ∙ c.if-not-fits_make.true))
 
 pub returns-clause-loads : goal.returns-clause-loads
-returns-clause-loads g c tells = within (command.Ln c.args.from.now c.args.to.now) c.args.volume.now c.change_linked.new.self (g.P.SectorView.space c.args.space.now) (g.P.SectorView.space c.change_linked.new.space) (g.P.SectorView.space c.ln.new.space) c.change_linked.ensures.looked.reads tells refl refl (c.requires.affords tells) (c.ln.ensures.loads (c.change_linked.ensures.looked.reads.looks.same.tells ∙ tells))
+returns-clause-loads g c tells = within (command.Ln c.args.from.now c.args.to.now) c.args.volume.now c.change_linked.new.self (g.P.SectorView.space c.args.space.now) (g.P.SectorView.space c.change_linked.new.space) (g.P.SectorView.space c.ln.new.space) c.change_linked.ensures.looked.reads tells refl refl refl (c.requires.affords tells) (c.ln.ensures.loads (c.change_linked.ensures.looked.reads.looks.same.tells ∙ tells))
 
 pub returns-then-not-fits_make-clause-loads : goal.returns-then-not-fits_make-clause-loads
 returns-then-not-fits_make-clause-loads g c tells = within_reads (command.Ln c.args.from.now c.args.to.now) c.args.volume.now c.change_linked.new.self (g.P.SectorView.space c.args.space.now) (g.P.SectorView.space c.change_linked.new.space) c.change_linked.ensures.looked.reads
 
 pub returns-in_err-reply-clause-loads : goal.returns-in_err-reply-clause-loads
-returns-in_err-reply-clause-loads g c tells = within (command.Ln c.args.from.now c.args.to.now) c.args.volume.now c.change_linked.new.self (g.P.SectorView.space c.args.space.now) (g.P.SectorView.space c.change_linked.new.space) (g.P.SectorView.space c.ln.new.space) c.change_linked.ensures.looked.reads tells refl refl (c.requires.affords tells) (c.ln.ensures.loads (c.change_linked.ensures.looked.reads.looks.same.tells ∙ tells))
+returns-in_err-reply-clause-loads g c tells = within (command.Ln c.args.from.now c.args.to.now) c.args.volume.now c.change_linked.new.self (g.P.SectorView.space c.args.space.now) (g.P.SectorView.space c.change_linked.new.space) (g.P.SectorView.space c.ln.new.space) c.change_linked.ensures.looked.reads tells refl refl refl (c.requires.affords tells) (c.ln.ensures.loads (c.change_linked.ensures.looked.reads.looks.same.tells ∙ tells))
 
 pub returns-in_err-changes-clause-loads : goal.returns-in_err-changes-clause-loads
 returns-in_err-changes-clause-loads g c tells = within_reads (command.Ln c.args.from.now c.args.to.now) c.args.volume.now c.change_linked.new.self (g.P.SectorView.space c.args.space.now) (g.P.SectorView.space c.change_linked.new.space) c.change_linked.ensures.looked.reads

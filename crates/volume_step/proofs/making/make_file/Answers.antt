@@ -38,10 +38,10 @@ pub returns-then-not-fits_make-clause-loads : goal.returns-then-not-fits_make-cl
 returns-then-not-fits_make-clause-loads g c tells = within_none (command.Create c.args.path.now) c.args.volume.now (g.P.SectorView.space c.args.space.now) (g.P.SectorView.space c.args.space.now) (omega arith)
 
 pub returns-clause-loads : goal.returns-clause-loads
-returns-clause-loads g c tells = within_now (command.Create c.args.path.now) c.args.volume.now (g.P.SectorView.space c.args.space.now) (g.P.SectorView.space c.create.new.space) refl refl (c.requires.affords tells) (c.create.ensures.loads tells)
+returns-clause-loads g c tells = within_now (command.Create c.args.path.now) c.args.volume.now (g.P.SectorView.space c.args.space.now) (g.P.SectorView.space c.create.new.space) refl refl refl (c.requires.affords tells) (c.create.ensures.loads tells)
 
 pub returns-in_err-changes-clause-loads : goal.returns-in_err-changes-clause-loads
-returns-in_err-changes-clause-loads g c tells = within_now (command.Create c.args.path.now) c.args.volume.now (g.P.SectorView.space c.args.space.now) (g.P.SectorView.space c.create.new.space) refl refl (c.requires.affords tells) (c.create.ensures.loads tells)
+returns-in_err-changes-clause-loads g c tells = within_now (command.Create c.args.path.now) c.args.volume.now (g.P.SectorView.space c.args.space.now) (g.P.SectorView.space c.create.new.space) refl refl refl (c.requires.affords tells) (c.create.ensures.loads tells)
 
 pub returns-clause-edits : goal.returns-clause-edits
 returns-clause-edits g c = edits_ok (edits_spent c.in_ok-changes.ensures.edits (λ tells. omega arith))

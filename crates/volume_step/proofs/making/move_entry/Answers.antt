@@ -56,10 +56,10 @@ returns-then-not-fits_move-clause-done g c tells met =
     (met_still c.args.volume.now c.change_moved.new.self (g.P.SectorView.space c.args.space.now) (g.P.SectorView.space c.change_moved.new.space) c.change_moved.ensures.looked.reads tells asked met))) ∙ c.if-not-fits_move.true))
 
 pub returns-clause-loads : goal.returns-clause-loads
-returns-clause-loads g c tells = within (command.Mv c.args.from.now c.args.to.now) c.args.volume.now c.change_moved.new.self (g.P.SectorView.space c.args.space.now) (g.P.SectorView.space c.change_moved.new.space) (g.P.SectorView.space c.mv.new.space) c.change_moved.ensures.looked.reads tells refl refl (c.requires.affords tells) (c.mv.ensures.loads (c.change_moved.ensures.looked.reads.looks.same.tells ∙ tells))
+returns-clause-loads g c tells = within (command.Mv c.args.from.now c.args.to.now) c.args.volume.now c.change_moved.new.self (g.P.SectorView.space c.args.space.now) (g.P.SectorView.space c.change_moved.new.space) (g.P.SectorView.space c.mv.new.space) c.change_moved.ensures.looked.reads tells refl refl refl (c.requires.affords tells) (c.mv.ensures.loads (c.change_moved.ensures.looked.reads.looks.same.tells ∙ tells))
 
 pub returns-in_err-reply-clause-loads : goal.returns-in_err-reply-clause-loads
-returns-in_err-reply-clause-loads g c tells = within (command.Mv c.args.from.now c.args.to.now) c.args.volume.now c.change_moved.new.self (g.P.SectorView.space c.args.space.now) (g.P.SectorView.space c.change_moved.new.space) (g.P.SectorView.space c.mv.new.space) c.change_moved.ensures.looked.reads tells refl refl (c.requires.affords tells) (c.mv.ensures.loads (c.change_moved.ensures.looked.reads.looks.same.tells ∙ tells))
+returns-in_err-reply-clause-loads g c tells = within (command.Mv c.args.from.now c.args.to.now) c.args.volume.now c.change_moved.new.self (g.P.SectorView.space c.args.space.now) (g.P.SectorView.space c.change_moved.new.space) (g.P.SectorView.space c.mv.new.space) c.change_moved.ensures.looked.reads tells refl refl refl (c.requires.affords tells) (c.mv.ensures.loads (c.change_moved.ensures.looked.reads.looks.same.tells ∙ tells))
 
 pub returns-in_err-changes-clause-loads : goal.returns-in_err-changes-clause-loads
 returns-in_err-changes-clause-loads g c tells = within_reads (command.Mv c.args.from.now c.args.to.now) c.args.volume.now c.change_moved.new.self (g.P.SectorView.space c.args.space.now) (g.P.SectorView.space c.change_moved.new.space) c.change_moved.ensures.looked.reads

@@ -29,7 +29,7 @@ returns-then-spare-eq0-clause-done g c tells met =
     absurd (omega (arith, moment_fits c.args.moment c.args.volume.now (g.P.SectorView.space c.args.space.now) met, c.spare.ensures, c.if-spare-eq0.true))
 
 pub returns-clause-loads : goal.returns-clause-loads
-returns-clause-loads g c tells = within_now (command.At c.args.moment) c.args.volume.now (g.P.SectorView.space c.args.space.now) (g.P.SectorView.space c.at-reply.new.space) refl refl (c.requires.affords tells) (c.at-reply.ensures.loads tells)
+returns-clause-loads g c tells = within_now (command.At c.args.moment) c.args.volume.now (g.P.SectorView.space c.args.space.now) (g.P.SectorView.space c.at-reply.new.space) refl refl refl (c.requires.affords tells) (c.at-reply.ensures.loads tells)
 
 pub returns-then-spare-eq0-clause-loads : goal.returns-then-spare-eq0-clause-loads
 returns-then-spare-eq0-clause-loads g c tells = within_none (command.At c.args.moment) c.args.volume.now (g.P.SectorView.space c.args.space.now) (g.P.SectorView.space c.args.space.now) (omega arith)

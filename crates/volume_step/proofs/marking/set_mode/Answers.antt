@@ -44,10 +44,10 @@ returns-then-not-fits_update-clause-done g c tells met =
     absurd (true≢false (sym (c.fits_update.ensures.met (update_fits (command.Chmod c.args.path.now c.args.rights) c.args.volume.now c.change_at.new.self (g.P.SectorView.space c.args.space.now) (g.P.SectorView.space c.change_at.new.space) c.change_at.ensures.looked.reads tells (c.change_at.ensures.serves.settled (c.change_at.ensures.looked.reads.looks.same.tells ∙ tells)) refl met)) ∙ c.if-not-fits_update.true))
 
 pub returns-clause-loads : goal.returns-clause-loads
-returns-clause-loads g c tells = within (command.Chmod c.args.path.now c.args.rights) c.args.volume.now c.change_at.new.self (g.P.SectorView.space c.args.space.now) (g.P.SectorView.space c.change_at.new.space) (g.P.SectorView.space c.chmod.new.space) c.change_at.ensures.looked.reads tells refl refl (c.requires.affords tells) (c.chmod.ensures.loads (c.change_at.ensures.looked.reads.looks.same.tells ∙ tells))
+returns-clause-loads g c tells = within (command.Chmod c.args.path.now c.args.rights) c.args.volume.now c.change_at.new.self (g.P.SectorView.space c.args.space.now) (g.P.SectorView.space c.change_at.new.space) (g.P.SectorView.space c.chmod.new.space) c.change_at.ensures.looked.reads tells refl refl refl (c.requires.affords tells) (c.chmod.ensures.loads (c.change_at.ensures.looked.reads.looks.same.tells ∙ tells))
 
 pub returns-in_err-reply-clause-loads : goal.returns-in_err-reply-clause-loads
-returns-in_err-reply-clause-loads g c tells = within (command.Chmod c.args.path.now c.args.rights) c.args.volume.now c.change_at.new.self (g.P.SectorView.space c.args.space.now) (g.P.SectorView.space c.change_at.new.space) (g.P.SectorView.space c.chmod.new.space) c.change_at.ensures.looked.reads tells refl refl (c.requires.affords tells) (c.chmod.ensures.loads (c.change_at.ensures.looked.reads.looks.same.tells ∙ tells))
+returns-in_err-reply-clause-loads g c tells = within (command.Chmod c.args.path.now c.args.rights) c.args.volume.now c.change_at.new.self (g.P.SectorView.space c.args.space.now) (g.P.SectorView.space c.change_at.new.space) (g.P.SectorView.space c.chmod.new.space) c.change_at.ensures.looked.reads tells refl refl refl (c.requires.affords tells) (c.chmod.ensures.loads (c.change_at.ensures.looked.reads.looks.same.tells ∙ tells))
 
 pub returns-in_err-changes-clause-loads : goal.returns-in_err-changes-clause-loads
 returns-in_err-changes-clause-loads g c tells = within_reads (command.Chmod c.args.path.now c.args.rights) c.args.volume.now c.change_at.new.self (g.P.SectorView.space c.args.space.now) (g.P.SectorView.space c.change_at.new.space) c.change_at.ensures.looked.reads

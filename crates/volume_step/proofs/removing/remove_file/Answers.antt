@@ -57,13 +57,13 @@ returns-then-not-fits_lose-clause-done g c tells met =
     ∙ c.if-not-fits_lose.true))
 
 pub returns-clause-loads : goal.returns-clause-loads
-returns-clause-loads g c tells = within (command.Rm c.args.path.now) c.args.volume.now c.change_at.new.self (g.P.SectorView.space c.args.space.now) (g.P.SectorView.space c.change_at.new.space) (g.P.SectorView.space c.rm.new.space) c.change_at.ensures.looked.reads tells refl refl (c.requires.affords tells) (c.rm.ensures.loads (c.change_at.ensures.looked.reads.looks.same.tells ∙ tells))
+returns-clause-loads g c tells = within (command.Rm c.args.path.now) c.args.volume.now c.change_at.new.self (g.P.SectorView.space c.args.space.now) (g.P.SectorView.space c.change_at.new.space) (g.P.SectorView.space c.rm.new.space) c.change_at.ensures.looked.reads tells refl refl refl (c.requires.affords tells) (c.rm.ensures.loads (c.change_at.ensures.looked.reads.looks.same.tells ∙ tells))
 
 pub returns-then-not-fits_lose-clause-loads : goal.returns-then-not-fits_lose-clause-loads
 returns-then-not-fits_lose-clause-loads g c tells = within_reads (command.Rm c.args.path.now) c.args.volume.now c.change_at.new.self (g.P.SectorView.space c.args.space.now) (g.P.SectorView.space c.change_at.new.space) c.change_at.ensures.looked.reads
 
 pub returns-in_err-reply-clause-loads : goal.returns-in_err-reply-clause-loads
-returns-in_err-reply-clause-loads g c tells = within (command.Rm c.args.path.now) c.args.volume.now c.change_at.new.self (g.P.SectorView.space c.args.space.now) (g.P.SectorView.space c.change_at.new.space) (g.P.SectorView.space c.rm.new.space) c.change_at.ensures.looked.reads tells refl refl (c.requires.affords tells) (c.rm.ensures.loads (c.change_at.ensures.looked.reads.looks.same.tells ∙ tells))
+returns-in_err-reply-clause-loads g c tells = within (command.Rm c.args.path.now) c.args.volume.now c.change_at.new.self (g.P.SectorView.space c.args.space.now) (g.P.SectorView.space c.change_at.new.space) (g.P.SectorView.space c.rm.new.space) c.change_at.ensures.looked.reads tells refl refl refl (c.requires.affords tells) (c.rm.ensures.loads (c.change_at.ensures.looked.reads.looks.same.tells ∙ tells))
 
 pub returns-in_err-changes-clause-loads : goal.returns-in_err-changes-clause-loads
 returns-in_err-changes-clause-loads g c tells = within_reads (command.Rm c.args.path.now) c.args.volume.now c.change_at.new.self (g.P.SectorView.space c.args.space.now) (g.P.SectorView.space c.change_at.new.space) c.change_at.ensures.looked.reads

@@ -108,14 +108,15 @@ returns-in-CutFirst-clause-shrunk g c tells =
     (λ i. (c.judge.ensures.looked.reads.keeps.shrunk i, c.judge.ensures.looked.reads.looks.content tells i)) (c.cut_first.ensures.shrunk (c.judge.ensures.looked.reads.looks.same.tells ∙ tells))
 
 pub returns-in-CommitFirst-clause-ready : goal.returns-in-CommitFirst-clause-ready
-returns-in-CommitFirst-clause-ready g c tells now = absurd (subst (λ (v : Verdict). IsTaken v now.grow) c.in-CommitFirst.is (c.in_ok-why.ensures.taken tells now))
+returns-in-CommitFirst-clause-ready g c tells ready = absurd (subst (λ (v : Verdict). IsTaken v ready.now.grow) c.in-CommitFirst.is (c.in_ok-why.ensures.taken tells ready))
 
 pub returns-in-CutFirst-clause-ready : goal.returns-in-CutFirst-clause-ready
-returns-in-CutFirst-clause-ready g c tells now = absurd (subst (λ (v : Verdict). IsTaken v now.grow) c.in-CutFirst.is (c.in_ok-why.ensures.taken tells now))
+returns-in-CutFirst-clause-ready g c tells ready = absurd (subst (λ (v : Verdict). IsTaken v ready.now.grow) c.in-CutFirst.is (c.in_ok-why.ensures.taken tells ready))
 
 pub returns-in-Grows-clause-ready : goal.returns-in-Grows-clause-ready
-returns-in-Grows-clause-ready g c tells now =
-    let first = subst (λ (v : Verdict). IsTaken v now.grow) c.in-Grows.is (c.in_ok-why.ensures.taken tells now) in
+returns-in-Grows-clause-ready g c tells ready =
+    let now = ready.now in
+    let first = subst (λ (v : Verdict). IsTaken v now.grow) c.in-Grows.is (c.in_ok-why.ensures.taken tells ready) in
     let waits : WaitsForGrowth c.in-Grows.tree c.in-Grows.more (capacity_of c.args.volume.now) c.args.command.now (g.P.SectorView.space c.args.space.now).content =
     subst (λ (v : Verdict). IsJudged v (capacity_of c.args.volume.now) c.args.command.now (g.P.SectorView.space c.args.space.now).content) c.in-Grows.is (c.in_ok-why.ensures.judged tells) in
     let there = growth_there c.args.volume.now (g.P.SectorView.space c.args.space.now).content (c.requires.serves.settled tells) c.args.command.now c.requires.changes now.no_data waits.no_refusal (capacity_of c.args.volume.now) (takable_of c.args.volume.now)
@@ -124,9 +125,10 @@ returns-in-Grows-clause-ready g c tells now =
     (wants_now c.args.command.now c.args.volume.now c.judge.new.volume (g.P.SectorView.space c.args.space.now) (g.P.SectorView.space c.judge.new.space) c.judge.ensures.looked.reads tells c.requires.changes now c.in-Grows.tree c.in-Grows.more first.0 first.1 there)
 
 pub returns-in-Fits-clause-ready : goal.returns-in-Fits-clause-ready
-returns-in-Fits-clause-ready g c tells now =
+returns-in-Fits-clause-ready g c tells ready =
+    let now = ready.now in
     let still = now_still c.args.command.now c.args.volume.now c.judge.new.volume (g.P.SectorView.space c.args.space.now) (g.P.SectorView.space c.judge.new.space) c.judge.ensures.looked.reads tells now in
-    c.perform.ensures.ready (c.judge.ensures.looked.reads.looks.same.tells ∙ tells) c.requires.changes still.0 (still.1 ∙ subst (λ (v : Verdict). IsTaken v now.grow) c.in-Fits.is (c.in_ok-why.ensures.taken tells now))
+    c.perform.ensures.ready (c.judge.ensures.looked.reads.looks.same.tells ∙ tells) c.requires.changes still.0 (still.1 ∙ subst (λ (v : Verdict). IsTaken v now.grow) c.in-Fits.is (c.in_ok-why.ensures.taken tells ready))
 
 pub returns-in-CommitFirst-clause-puts : goal.returns-in-CommitFirst-clause-puts
 returns-in-CommitFirst-clause-puts g c tells puts = absurd (subst IsDirect c.in-CommitFirst.is (c.in_ok-why.ensures.puts tells puts))

@@ -10,7 +10,7 @@ use Rattle.volume_step.proofs.Widening.{keeps_shrunk}
 use Rattle.volume_step.proofs.ReadyData.{any_ok}
 use Rattle.volume_step.specs.Loads.{IsWithinLoad}
 use Rattle.hfs_language.specs.declared.command.Command.TheVariants as command
-use Rattle.volume_base.proofs.Joined.{edits_wanting}
+use Rattle.volume_base.proofs.Freed.{frees_edits, frees_wanting}
 use Rattle.volume_step.proofs.stepping.perform_without_data.Goals as goal
 
 pub returns-in-At-clause-shrunk : goal.returns-in-At-clause-shrunk
@@ -19,11 +19,8 @@ returns-in-At-clause-shrunk g c tells = keeps_shrunk c.args.command.now (g.P.Sec
 pub returns-in-Chmod-clause-shrunk : goal.returns-in-Chmod-clause-shrunk
 returns-in-Chmod-clause-shrunk g c tells = keeps_shrunk c.args.command.now (g.P.SectorView.space c.args.space.now).content (shrunk_of c.args.volume.now) (shrunk_of c.set_mode.new.volume) (ap (λ (k : Command). shrunk_by (tree_of (g.P.SectorView.space c.args.space.now).content) (Ok k)) c.in-Chmod.is) c.set_mode.ensures.edits.blocks.shrunk c.set_mode.result
 
-pub returns-in-SetAttr-clause-shrunk : goal.returns-in-SetAttr-clause-shrunk
-returns-in-SetAttr-clause-shrunk g c tells = keeps_shrunk c.args.command.now (g.P.SectorView.space c.args.space.now).content (shrunk_of c.args.volume.now) (shrunk_of c.set_attribute.new.volume) (ap (λ (k : Command). shrunk_by (tree_of (g.P.SectorView.space c.args.space.now).content) (Ok k)) c.in-SetAttr.is) c.set_attribute.ensures.edits.blocks.shrunk c.set_attribute.result
-
 pub returns-in-DelAttr-clause-shrunk : goal.returns-in-DelAttr-clause-shrunk
-returns-in-DelAttr-clause-shrunk g c tells = keeps_shrunk c.args.command.now (g.P.SectorView.space c.args.space.now).content (shrunk_of c.args.volume.now) (shrunk_of c.delete_attribute.new.volume) (ap (λ (k : Command). shrunk_by (tree_of (g.P.SectorView.space c.args.space.now).content) (Ok k)) c.in-DelAttr.is) c.delete_attribute.ensures.edits.blocks.shrunk c.delete_attribute.result
+returns-in-DelAttr-clause-shrunk g c tells = keeps_shrunk c.args.command.now (g.P.SectorView.space c.args.space.now).content (shrunk_of c.args.volume.now) (shrunk_of c.delete_attribute.new.volume) (ap (λ (k : Command). shrunk_by (tree_of (g.P.SectorView.space c.args.space.now).content) (Ok k)) c.in-DelAttr.is) c.delete_attribute.ensures.frees.used.shrunk c.delete_attribute.result
 
 pub returns-in-Mkdir-clause-shrunk : goal.returns-in-Mkdir-clause-shrunk
 returns-in-Mkdir-clause-shrunk g c tells = keeps_shrunk c.args.command.now (g.P.SectorView.space c.args.space.now).content (shrunk_of c.args.volume.now) (shrunk_of c.make_folder.new.volume) (ap (λ (k : Command). shrunk_by (tree_of (g.P.SectorView.space c.args.space.now).content) (Ok k)) c.in-Mkdir.is) c.make_folder.ensures.edits.blocks.shrunk c.make_folder.result
@@ -35,7 +32,7 @@ pub returns-in-Mv-clause-shrunk : goal.returns-in-Mv-clause-shrunk
 returns-in-Mv-clause-shrunk g c tells = keeps_shrunk c.args.command.now (g.P.SectorView.space c.args.space.now).content (shrunk_of c.args.volume.now) (shrunk_of c.move_entry.new.volume) (ap (λ (k : Command). shrunk_by (tree_of (g.P.SectorView.space c.args.space.now).content) (Ok k)) c.in-Mv.is) c.move_entry.ensures.edits.blocks.shrunk c.move_entry.result
 
 pub returns-in-Rmdir-clause-shrunk : goal.returns-in-Rmdir-clause-shrunk
-returns-in-Rmdir-clause-shrunk g c tells = keeps_shrunk c.args.command.now (g.P.SectorView.space c.args.space.now).content (shrunk_of c.args.volume.now) (shrunk_of c.remove_folder.new.volume) (ap (λ (k : Command). shrunk_by (tree_of (g.P.SectorView.space c.args.space.now).content) (Ok k)) c.in-Rmdir.is) c.remove_folder.ensures.edits.blocks.shrunk c.remove_folder.result
+returns-in-Rmdir-clause-shrunk g c tells = keeps_shrunk c.args.command.now (g.P.SectorView.space c.args.space.now).content (shrunk_of c.args.volume.now) (shrunk_of c.remove_folder.new.volume) (ap (λ (k : Command). shrunk_by (tree_of (g.P.SectorView.space c.args.space.now).content) (Ok k)) c.in-Rmdir.is) c.remove_folder.ensures.frees.used.shrunk c.remove_folder.result
 
 pub returns-in-Rm-clause-shrunk : goal.returns-in-Rm-clause-shrunk
 returns-in-Rm-clause-shrunk g c tells = keeps_shrunk c.args.command.now (g.P.SectorView.space c.args.space.now).content (shrunk_of c.args.volume.now) (shrunk_of c.remove_file.new.volume) (ap (λ (k : Command). shrunk_by (tree_of (g.P.SectorView.space c.args.space.now).content) (Ok k)) c.in-Rm.is) c.remove_file.ensures.edits.blocks.shrunk c.remove_file.result
@@ -50,9 +47,6 @@ returns-in-At-clause-plain g c = any_ok c.date.result (λ tree. ap (λ (k : Comm
 
 pub returns-in-Chmod-clause-plain : goal.returns-in-Chmod-clause-plain
 returns-in-Chmod-clause-plain g c = any_ok c.set_mode.result (λ tree. ap (λ (k : Command). data_of tree k) c.in-Chmod.is)
-
-pub returns-in-SetAttr-clause-plain : goal.returns-in-SetAttr-clause-plain
-returns-in-SetAttr-clause-plain g c = any_ok c.set_attribute.result (λ tree. ap (λ (k : Command). data_of tree k) c.in-SetAttr.is)
 
 pub returns-in-DelAttr-clause-plain : goal.returns-in-DelAttr-clause-plain
 returns-in-DelAttr-clause-plain g c = any_ok c.delete_attribute.result (λ tree. ap (λ (k : Command). data_of tree k) c.in-DelAttr.is)
@@ -87,9 +81,6 @@ returns-in-At-clause-loads g c tells = subst (λ (k : Command). IsWithinLoad k c
 pub returns-in-Chmod-clause-loads : goal.returns-in-Chmod-clause-loads
 returns-in-Chmod-clause-loads g c tells = subst (λ (k : Command). IsWithinLoad k c.args.volume.now (g.P.SectorView.space c.args.space.now) (g.P.SectorView.space c.set_mode.new.space)) (sym c.in-Chmod.is) (c.set_mode.ensures.loads tells)
 
-pub returns-in-SetAttr-clause-loads : goal.returns-in-SetAttr-clause-loads
-returns-in-SetAttr-clause-loads g c tells = subst (λ (k : Command). IsWithinLoad k c.args.volume.now (g.P.SectorView.space c.args.space.now) (g.P.SectorView.space c.set_attribute.new.space)) (sym c.in-SetAttr.is) (subst (λ (l : List ℕ). IsWithinLoad (command.SetAttr c.in-SetAttr.path c.in-SetAttr.name l) c.args.volume.now (g.P.SectorView.space c.args.space.now) (g.P.SectorView.space c.set_attribute.new.space)) c.as_slice.ensures (c.set_attribute.ensures.loads tells))
-
 pub returns-in-DelAttr-clause-loads : goal.returns-in-DelAttr-clause-loads
 returns-in-DelAttr-clause-loads g c tells = subst (λ (k : Command). IsWithinLoad k c.args.volume.now (g.P.SectorView.space c.args.space.now) (g.P.SectorView.space c.delete_attribute.new.space)) (sym c.in-DelAttr.is) (c.delete_attribute.ensures.loads tells)
 
@@ -105,8 +96,29 @@ returns-in-Mv-clause-loads g c tells = subst (λ (k : Command). IsWithinLoad k c
 pub returns-in-Rmdir-clause-loads : goal.returns-in-Rmdir-clause-loads
 returns-in-Rmdir-clause-loads g c tells = subst (λ (k : Command). IsWithinLoad k c.args.volume.now (g.P.SectorView.space c.args.space.now) (g.P.SectorView.space c.remove_folder.new.space)) (sym c.in-Rmdir.is) (c.remove_folder.ensures.loads tells)
 
-pub returns-in-Trunc-clause-edits : goal.returns-in-Trunc-clause-edits
-returns-in-Trunc-clause-edits g c = edits_wanting _ g.met.P.SectorView.follows_refl c.requires.serves.stands
+pub returns-in-At-clause-frees : goal.returns-in-At-clause-frees
+returns-in-At-clause-frees g c = frees_edits c.date.ensures.edits
+
+pub returns-in-Chmod-clause-frees : goal.returns-in-Chmod-clause-frees
+returns-in-Chmod-clause-frees g c = frees_edits c.set_mode.ensures.edits
+
+pub returns-in-Mkdir-clause-frees : goal.returns-in-Mkdir-clause-frees
+returns-in-Mkdir-clause-frees g c = frees_edits c.make_folder.ensures.edits
+
+pub returns-in-Create-clause-frees : goal.returns-in-Create-clause-frees
+returns-in-Create-clause-frees g c = frees_edits c.make_file.ensures.edits
+
+pub returns-in-Mv-clause-frees : goal.returns-in-Mv-clause-frees
+returns-in-Mv-clause-frees g c = frees_edits c.move_entry.ensures.edits
+
+pub returns-in-Rm-clause-frees : goal.returns-in-Rm-clause-frees
+returns-in-Rm-clause-frees g c = frees_edits c.remove_file.ensures.edits
+
+pub returns-in-Ln-clause-frees : goal.returns-in-Ln-clause-frees
+returns-in-Ln-clause-frees g c = frees_edits c.link_file.ensures.edits
+
+pub returns-in-Trunc-clause-frees : goal.returns-in-Trunc-clause-frees
+returns-in-Trunc-clause-frees g c = frees_wanting g.met.P.SectorView.follows_refl c.requires.serves.stands
 
 -- ---- none of them but `mv` changes nothing
 
@@ -115,9 +127,6 @@ returns-in-At-clause-still g c tells rests = absurd (true≢false (sym rests ∙
 
 pub returns-in-Chmod-clause-still : goal.returns-in-Chmod-clause-still
 returns-in-Chmod-clause-still g c tells rests = absurd (true≢false (sym rests ∙ ap (λ (k : Command). changes_nothing (tree_of (g.P.SectorView.space c.args.space.now).content) k) c.in-Chmod.is))
-
-pub returns-in-SetAttr-clause-still : goal.returns-in-SetAttr-clause-still
-returns-in-SetAttr-clause-still g c tells rests = absurd (true≢false (sym rests ∙ ap (λ (k : Command). changes_nothing (tree_of (g.P.SectorView.space c.args.space.now).content) k) c.in-SetAttr.is))
 
 pub returns-in-DelAttr-clause-still : goal.returns-in-DelAttr-clause-still
 returns-in-DelAttr-clause-still g c tells rests = absurd (true≢false (sym rests ∙ ap (λ (k : Command). changes_nothing (tree_of (g.P.SectorView.space c.args.space.now).content) k) c.in-DelAttr.is))

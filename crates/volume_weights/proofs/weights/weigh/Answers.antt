@@ -20,7 +20,7 @@ returns-in_ok-weigh_chmod-in-Chmod-clause-answer g c tells =
 
 pub returns-in_ok-weigh_setattr-in-SetAttr-clause-answer : goal.returns-in_ok-weigh_setattr-in-SetAttr-clause-answer
 returns-in_ok-weigh_setattr-in-SetAttr-clause-answer g c tells =
-    c.in_ok-weigh_setattr-in-SetAttr.ensures.answer tells c.in-SetAttr.name
+    c.in_ok-weigh_setattr-in-SetAttr.ensures.answer tells
     ∙ ap (λ (value : List ℕ). weighed c.args.volume.now.capacity (free_in blocks.Takable c.args.volume.now.map) (volume_of (g.P.SectorView.space c.args.space.now).content) (tree_of (g.P.SectorView.space c.args.space.now).content) (command.SetAttr c.in-SetAttr.path c.in-SetAttr.name value)) c.as_slice.ensures
     ∙ ap (λ (k : Command). weighed c.args.volume.now.capacity (free_in blocks.Takable c.args.volume.now.map) (volume_of (g.P.SectorView.space c.args.space.now).content) (tree_of (g.P.SectorView.space c.args.space.now).content) k) (sym c.in-SetAttr.is)
 

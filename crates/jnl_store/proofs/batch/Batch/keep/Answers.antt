@@ -1,7 +1,6 @@
-use Rattle.std.proofs.Common.{◌≡◌, ◌∙◌, List, ap}
+use Rattle.std.proofs.Common.{◌≡◌, ◌∙◌, ap}
 use Rattle.jnl_store.specs.Batch.{Staged, restored}
 use Rattle.jnl_store.specs.Table.{Tabled}
-use Rattle.jnl_store.specs.declared.puts.Put.{Put}
 use Rattle.jnl_store.proofs.Saved.{restored_all}
 use Rattle.jnl_store.proofs.batch.Batch.keep.Goals as goal
 

@@ -1,8 +1,8 @@
-use Rattle.std.proofs.Common.{◌≡◌, ◌≤◌, ◌<◌, ◌⊎◌, ◌∙◌, ℕ, List, true, ap, arith, length, subst, sym, take}
+use Rattle.std.proofs.Common.{◌≡◌, ◌<◌, ◌⊎◌, ◌∙◌, List, ap, arith, length, subst, sym, take}
 use Rattle.std.specs.Prelude.{IsTrue}
-use Rattle.jnl_store.specs.Batch.{Staged, names, restored}
+use Rattle.jnl_store.specs.Batch.{AreOnce, Staged, bytes_of, names}
 use Rattle.jnl_store.specs.declared.puts.Put.{Put}
-use Rattle.jnl_store.proofs.Saved.{fits_room, names_placed, no_fewer, restored_placed}
+use Rattle.jnl_store.proofs.Saved.{fits_room, kept_content, kept_count, kept_each, names_placed, no_fewer, restored_placed}
 use Rattle.jnl_store.proofs.batch.Batch.put.Goals as goal
 
 pub invariant_of-self : goal.invariant_of-self
@@ -32,3 +32,21 @@ returns-clause-kept c =
     restored_placed all c.put.new.self.items saved placed.0 i.kept placed.2 c.self.invariant.kept_some
     (λ is. ap (names saved) placed.1 ∙ c.save.ensures.there (ap (names (take i.kept all)) (sym placed.1) ∙ is))
     ∙ c.save.ensures.same ∙ ap (λ (s : Staged). s.kept) c.self.view_is
+
+pub returns-then-keeps-clause-content : goal.returns-then-keeps-clause-content
+returns-then-keeps-clause-content c content =
+    let i = c.self.inside in
+    let e : i.puts.items ≡ c.args.self.now.all = ap (λ (s : Staged). s.all) c.self.view_is in
+    kept_content c.args.self.now.all c.args.at c.args.from.now content (subst AreOnce e c.keeps.ensures.once) (ap (λ (l : List Put). bytes_of l c.args.at) (sym e) ∙ c.keeps.ensures.keeps c.if-keeps.true)
+
+pub returns-then-keeps-clause-names : goal.returns-then-keeps-clause-names
+returns-then-keeps-clause-names c s =
+    let i = c.self.inside in
+    let e : i.puts.items ≡ c.args.self.now.all = ap (λ (s : Staged). s.all) c.self.view_is in
+    kept_each c.args.self.now.all c.args.at s c.args.from.now (ap (λ (l : List Put). bytes_of l c.args.at) (sym e) ∙ c.keeps.ensures.keeps c.if-keeps.true)
+
+pub returns-then-keeps-clause-count : goal.returns-then-keeps-clause-count
+returns-then-keeps-clause-count c =
+    let i = c.self.inside in
+    let e : i.puts.items ≡ c.args.self.now.all = ap (λ (s : Staged). s.all) c.self.view_is in
+    kept_count c.args.self.now.all c.args.at c.args.from.now (ap (λ (l : List Put). bytes_of l c.args.at) (sym e) ∙ c.keeps.ensures.keeps c.if-keeps.true)

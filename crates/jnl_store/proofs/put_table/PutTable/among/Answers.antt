@@ -16,15 +16,15 @@ index-requires c =
 pub returns-then-k-count-clause-put : goal.returns-then-k-count-clause-put
 returns-then-k-count-clause-put c =
     let e : c.self.inside.puts.items ≡ c.args.self.now.items = ap (λ (t : Tabled). t.items) c.self.view_is in
-    ap (λ (p : Put). Some p) c.index.ensures
+    sym (ap (λ (p : Put). Some p) c.index.ensures
     ∙ among_here c.self.inside.puts.items c.in-Some.k c.args.at c.args.count c.index.result.now c.self.invariant.once (subst (λ (l : List Put). has l c.in-Some.k c.args.at) (sym e) c.in-Some.ensures) (omega (arith, c.if-k-count.true))
-    ∙ ap (λ (l : List Put). put_in (take c.args.count l) c.args.at) e
+    ∙ ap (λ (l : List Put). put_in (take c.args.count l) c.args.at) e)
 
 pub returns-else-k-count-clause-put : goal.returns-else-k-count-clause-put
 returns-else-k-count-clause-put c =
     let e : c.self.inside.puts.items ≡ c.args.self.now.items = ap (λ (t : Tabled). t.items) c.self.view_is in
-    among_beyond c.self.inside.puts.items c.in-Some.k c.args.at c.args.count c.self.invariant.once (subst (λ (l : List Put). has l c.in-Some.k c.args.at) (sym e) c.in-Some.ensures) (omega (arith, c.if-k-count.false))
-    ∙ ap (λ (l : List Put). put_in (take c.args.count l) c.args.at) e
+    sym (among_beyond c.self.inside.puts.items c.in-Some.k c.args.at c.args.count c.self.invariant.once (subst (λ (l : List Put). has l c.in-Some.k c.args.at) (sym e) c.in-Some.ensures) (omega (arith, c.if-k-count.false))
+    ∙ ap (λ (l : List Put). put_in (take c.args.count l) c.args.at) e)
 
 pub returns-in-None-clause-put : goal.returns-in-None-clause-put
-returns-in-None-clause-put c = among_none c.args.self.now.items c.args.count c.args.at c.in-None.ensures
+returns-in-None-clause-put c = sym (among_none c.args.self.now.items c.args.count c.args.at c.in-None.ensures)

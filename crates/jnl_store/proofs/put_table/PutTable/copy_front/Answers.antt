@@ -1,6 +1,5 @@
-use Rattle.std.proofs.Common.{◌≡◌, ◌<◌, ◌+◌, ◌∙◌, List, ap, arith, length, subst, sym, take}
+use Rattle.std.proofs.Common.{◌≡◌, ◌<◌, ◌+◌, ◌∙◌, List, ap, arith, length, sym, take}
 use Rattle.std.proofs.lemmas.List.{length-take-le}
-use Rattle.jnl_store.specs.Batch.{AreOnce}
 use Rattle.jnl_store.specs.Table.{Tabled}
 use Rattle.jnl_store.specs.declared.puts.Put.{Put}
 use Rattle.jnl_store.proofs.Saved.{copied_step}

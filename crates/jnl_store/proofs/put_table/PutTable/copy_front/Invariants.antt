@@ -1,4 +1,4 @@
-use Rattle.std.proofs.Common.{◌≡◌, ℕ, length, take}
+use Rattle.std.proofs.Common.{◌≡◌, length, take}
 use Rattle.jnl_store.proofs.put_table.PutTable.copy_front.Given as goal
 
 abbrev pub invariant-loop-k : goal.invariant-loop-k

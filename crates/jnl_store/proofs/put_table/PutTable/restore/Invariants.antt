@@ -1,4 +1,4 @@
-use Rattle.std.proofs.Common.{◌≡◌, ℕ, length}
+use Rattle.std.proofs.Common.{◌≡◌, length}
 use Rattle.jnl_store.specs.Batch.{restored_front}
 use Rattle.jnl_store.proofs.put_table.PutTable.restore.Given as goal
 

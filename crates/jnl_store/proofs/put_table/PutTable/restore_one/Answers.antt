@@ -1,4 +1,4 @@
-use Rattle.std.proofs.Common.{◌≡◌, ◌<◌, ◌+◌, ℕ, List, get_or, set, length, sym, ◌∙◌, ap, subst, arith, length-set}
+use Rattle.std.proofs.Common.{◌≡◌, ◌<◌, List, get_or, set, length, sym, ◌∙◌, ap, subst, arith, length-set}
 use Rattle.jnl_store.specs.Batch.{has, restored_front, saved_or}
 use Rattle.jnl_store.specs.Table.{Tabled}
 use Rattle.jnl_store.specs.declared.puts.Put.{Put}
@@ -14,7 +14,7 @@ invariant_of-self c =
     let saved = c.args.saved.now.items in
     let put = c.index.result.now in
     let at_is : c.was-old.result.at ≡ (get_or i.puts.items c.args.k put).at = ap (λ (p : Put). p.at) c.was-old.ensures ∙ saved_at saved put ∙ ap (λ (p : Put). p.at) c.index.ensures in
-    table-set i.puts.items i.sectors.items i.places.items _ _ _ _ c.args.k c.was-old.result c.self.invariant (subst (λ n. has i.puts.items c.args.k n) (sym at_is) (has_get i.puts.items c.args.k put below))
+    table-set i.puts.items i.index.sectors _ _ _ c.args.k c.was-old.result c.self.invariant (subst (λ n. has i.puts.items c.args.k n) (sym at_is) (has_get i.puts.items c.args.k put below))
 
 pub returns-clause-items : goal.returns-clause-items
 returns-clause-items c old is =

@@ -5,7 +5,7 @@ use Rattle.hfs_serving.proofs.Causes.{counts_none, fine}
 use Rattle.volume_space.proofs.Sounding.{sound_here}
 use Rattle.volume_base.specs.Keeping.{shrunk_of}
 use Rattle.volume_base.specs.Room.{capacity_of}
-use Rattle.volume_space.specs.Standing.{HoldsOn}
+use Rattle.volume_base.specs.Holding.{HoldsOn}
 use Rattle.volume_base.specs.declared.volume.Volume.{Volume}
 use Rattle.volume_step.proofs.Unfilled.{filled_none, service_filling, settled_filling, stands_filling}
 use Rattle.served_volume.proofs.Calls.{quiet, short}
@@ -83,3 +83,6 @@ invariant_of-self g c =
       sized = service_on w (g.G.SectorView.space c.mark.new.space) (told_none c.args.self.now.sectors) (sym sectors) (service_filling u None (g.G.SectorView.space c.mark.new.space) c.mark.ensures.stands.service);
       filled = filled_none w (told_none c.args.self.now.sectors) refl;
     }
+
+pub returns-clause-barriers : goal.returns-clause-barriers
+returns-clause-barriers g c = (c.mark.ensures.touches []).same.barriers

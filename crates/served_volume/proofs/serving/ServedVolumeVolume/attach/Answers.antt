@@ -58,3 +58,9 @@ returns-in-Err-clause-faults g c =
     let counts = c.look.ensures.counts c.args.base.now c.attach-found.ensures.below c.attach-found.ensures.looks.same.sink_faults in
     handed (counts_none _ _) c.in-Err.trouble c.in-Err.trouble _
     (subst (λ (r : Result Volume Trouble). Faults (g.G.Ground.failed c.args.base.now) (g.G.SectorView.space c.args.base.now) (g.G.Ground.failed c.attach-found.new.space) (g.G.SectorView.space c.attach-found.new.space) r) c.in-Err.is (faults_of_call c.attach-found.result counts c.attach-found.ensures.cause)) refl refl
+
+pub returns-in-Ok-clause-barriers : goal.returns-in-Ok-clause-barriers
+returns-in-Ok-clause-barriers g c = c.attach-found.ensures.looks.same.barriers
+
+pub returns-in-Err-clause-barriers : goal.returns-in-Err-clause-barriers
+returns-in-Err-clause-barriers g c = c.attach-found.ensures.looks.same.barriers

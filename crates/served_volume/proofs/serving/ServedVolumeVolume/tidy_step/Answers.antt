@@ -1,4 +1,4 @@
-use Rattle.std.proofs.Common.{ℕ, [], refl, sym, ◌∙◌, subst}
+use Rattle.std.proofs.Common.{◌≡◌, ℕ, [], refl, sym, ◌∙◌, subst}
 use Rattle.std.specs.Prelude.{None, Option, Result}
 use Rattle.alloc_bitmap.specs.Untold.{told_none}
 use Rattle.hx_bytes.specs.declared.faults.Trouble.{Trouble}
@@ -20,6 +20,10 @@ use Rattle.served_volume.proofs.Heading.{journal_alike}
 use Rattle.served_volume.proofs.Seen.{touches_space}
 use Rattle.served_volume.proofs.Service.{service_on}
 use Rattle.served_volume.proofs.Housekeeping.{tidies_as}
+use Rattle.served_volume.specs.Wanting.{WantsCommit}
+use Rattle.volume_space.specs.declared.tidying.Tidying.TheVariants as tidying
+use Rattle.hfs_serving.proofs.Tries.{if_ok}
+use Rattle.served_volume.proofs.Wanted.{tidied_first}
 use Rattle.served_volume.proofs.serving.ServedVolumeVolume.tidy_step.Goals as goal
 
 pub tidy-came-requires-clause-stands : goal.tidy-came-requires-clause-stands
@@ -130,3 +134,15 @@ invariant_of-self g c =
       sized = service_on w (g.G.SectorView.space c.tidy-came.new.space) (told_none c.args.self.now.sectors) (sym sectors) (service_filling c.tidy-came.new.volume None (g.G.SectorView.space c.tidy-came.new.space) c.tidy-came.ensures.service);
       filled = filled_none w (told_none c.args.self.now.sectors) refl;
     }
+
+pub returns-in-Ok-clause-wanted : goal.returns-in-Ok-clause-wanted
+returns-in-Ok-clause-wanted g c tells =
+    let wants = WantsCommit c.args.self.now.volume (g.G.SectorView.space c.args.base.now) None in
+    if_ok _ _ c.next_of.result
+    (λ next same is. value_of (λ (q : Tidying). q ≡ tidying.CommitFirst → wants) c.tidy-came.result c.in-Ok.came c.in-Ok.is (c.tidy-came.ensures.short tells) (tidied_first c.in-Ok.came (sym same ∙ is))) c.next_of.ensures.same
+
+pub returns-in-Ok-clause-barriers : goal.returns-in-Ok-clause-barriers
+returns-in-Ok-clause-barriers g c = (c.tidy-came.ensures.touches []).same.barriers
+
+pub returns-in-Err-clause-barriers : goal.returns-in-Err-clause-barriers
+returns-in-Err-clause-barriers g c = (c.tidy-came.ensures.touches []).same.barriers

@@ -1,26 +1,22 @@
 use Rattle.std.proofs.Common.{sym, ◌∙◌, ap}
-use Rattle.hfs_volume.specs.Content.{VolumeState}
-use Rattle.attributes.specs.Values.{value_at}
-use Rattle.volume_base.proofs.Listed.{told_value, told_value_why}
+use Rattle.volume_header.specs.declared.header.VolumeHeader.{VolumeHeader}
+use Rattle.volume_base.proofs.Listed.{told_later, told_value_why}
 use Rattle.volume_base.proofs.Still.{lists_still}
 use Rattle.volume_base.proofs.Framed.{looked_both}
-use Rattle.volume_base.proofs.Looked.{looked_again, looked_fault, looked_none}
+use Rattle.volume_base.proofs.Looked.{looked_none}
 use Rattle.volume_base.proofs.volume.Volume.getattr.Goals as goal
 
-pub returns-in_err-value-in-Ok-clause-looked : goal.returns-in_err-value-in-Ok-clause-looked
-returns-in_err-value-in-Ok-clause-looked g c = looked_fault c.from_residual-in_err-value-in-Ok.ensures.1 (looked_both g.met.P.SectorView.follows_trans c.owner.ensures.looked c.in_err-value-in-Ok.ensures.looked)
+pub returns-in-Ok-clause-looked : goal.returns-in-Ok-clause-looked
+returns-in-Ok-clause-looked g c = looked_both g.met.P.SectorView.follows_trans c.owner.ensures.looked c.tell_value.ensures.looked
 
-pub returns-in_ok-value-in-Ok-clause-looked : goal.returns-in_ok-value-in-Ok-clause-looked
-returns-in_ok-value-in-Ok-clause-looked g c = looked_again (looked_both g.met.P.SectorView.follows_trans c.owner.ensures.looked c.value.ensures.looked)
-
-pub returns-in_ok-value-in-Ok-clause-reply : goal.returns-in_ok-value-in-Ok-clause-reply
-returns-in_ok-value-in-Ok-clause-reply g c tells =
+pub returns-in-Ok-clause-reply : goal.returns-in-Ok-clause-reply
+returns-in-Ok-clause-reply g c tells =
     let old = g.P.SectorView.space c.args.space.now in
     let mid = g.P.SectorView.space c.owner.new.space in
-    told_value c.sound_has_plain_tree.ensures c.args.self.now old.content (c.requires.serves.stands.stands tells).trees (c.requires.serves.settled tells) c.args.path.now c.args.name.now (sym c.is_private_path.ensures ∙ c.if-is_private_path.false) c.requires.fits
-    c.in_ok-id.field-0 (c.in_ok-id.ensures.found tells) c.in-Ok.id _ _ c.in-Ok.is
-    (c.in_ok-value-in-Ok.ensures.found (c.owner.ensures.looked.reads.looks.same.tells ∙ tells) ∙ ap (λ (l : VolumeState). value_at l.attribute_pairs c.in-Ok.id c.args.name.now) (lists_still c.args.self.now c.owner.new.self old mid c.owner.ensures.looked.reads tells))
-    c.value_told.ensures
+    let looked = c.owner.ensures.looked in
+    told_later c.sound_has_plain_tree.ensures c.args.self.now old.content (c.requires.serves.stands.stands tells).trees (c.requires.serves.settled tells) c.args.path.now c.args.name.now (sym c.is_private_path.ensures ∙ c.if-is_private_path.false) c.requires.fits
+    c.in_ok-id.field-0 (c.in_ok-id.ensures.found tells) c.in-Ok.id c.in-Ok.is mid.content c.owner.new.self.header.block_size _ (looked.reads.looks.content tells) (ap (λ (h : VolumeHeader). h.block_size) looked.reads.keeps.header)
+    (lists_still c.args.self.now c.owner.new.self old mid looked.reads tells) c.tell_value.result (c.tell_value.ensures.told (looked.reads.looks.same.tells ∙ tells))
 
 pub returns-in-Err-clause-reply : goal.returns-in-Err-clause-reply
 returns-in-Err-clause-reply g c tells =
