@@ -107,9 +107,10 @@ def kit():
 
 
 def keeps_proofs():
-    """Whether the kit keeps what `rt ci` proved, for later runs: its usage then has a flag that takes nothing of that."""
+    """Whether the kit keeps what `rt ci` proved, for later runs: what its usage says of that command then names a flag that takes nothing of it."""
     told = subprocess.run(["rt", "help"], stdout=subprocess.PIPE, stderr=subprocess.STDOUT, text=True, check=False).stdout
-    return re.search(r"rt ci\b.*--anew", told) is not None
+    said = re.search(r"^ *rt ci\b.*?(?=^ *rt (?!ci\b)|\Z)", told, re.DOTALL | re.MULTILINE)
+    return said is not None and "--anew" in said[0]
 
 
 def sum_of(path):

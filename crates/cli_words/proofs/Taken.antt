@@ -8,7 +8,7 @@ use Rattle.clap.proofs.OnLiterals.{clap_on_literals}
 use Rattle.cli_words.specs.Grammar.{grammar}
 use Rattle.cli_words.specs.Words.{AreWordsOf}
 use Rattle.cli_words.specs.declared.named.Work.{Work}
-use Rattle.cli_words.specs.declared.named.Work.TheVariants.{Check, Format, Gen, Repair, Run, Wrong}
+use Rattle.cli_words.specs.declared.named.Work.TheVariants.{Check, Format, Gen, Repair, Run, Sessions, Wrong}
 use Rattle.cli_words.proofs.Levels.{behind, one_passes, two_pass}
 use Rattle.cli_words.proofs.Plain.{IsPlain, plain_name, plain_number}
 
@@ -37,6 +37,10 @@ asks_repair : (image : Text) → takes grammar (codes "repair" ∷ image ∷ [])
 unfolding clap_on_literals
 asks_repair image = refl
 
+asks_sessions : (image : Text) → takes grammar (codes "sessions" ∷ image ∷ []) ≡ (level_passes (command 5) [] nothing_held (image ∷ []) false && true)
+unfolding clap_on_literals
+asks_sessions image = refl
+
 -- `clap` takes them where they are plain
 pub takes_run : (image : Text) → IsPlain image → takes grammar (codes "run" ∷ image ∷ []) ≡ true
 takes_run image plain = asks_run image ∙ ap (λ b. b && true) (one_passes (command 1) image plain refl refl)
@@ -46,6 +50,9 @@ takes_check image plain = asks_check image ∙ ap (λ b. b && true) (one_passes 
 
 pub takes_repair : (image : Text) → IsPlain image → takes grammar (codes "repair" ∷ image ∷ []) ≡ true
 takes_repair image plain = asks_repair image ∙ ap (λ b. b && true) (one_passes (command 4) image plain refl refl)
+
+pub takes_sessions : (image : Text) → IsPlain image → takes grammar (codes "sessions" ∷ image ∷ []) ≡ true
+takes_sessions image plain = asks_sessions image ∙ ap (λ b. b && true) (one_passes (command 5) image plain refl refl)
 
 pub takes_format : (image sectors : Text) → IsPlain image → IsPlain sectors → takes grammar (codes "format" ∷ image ∷ sectors ∷ []) ≡ true
 takes_format image sectors first second =
@@ -61,5 +68,6 @@ taken words (Format sectors) are other = ap (takes grammar) are.3 ∙ takes_form
 taken words Run are other = ap (takes grammar) are.2 ∙ takes_run are.0 (plain_name are.0 are.1)
 taken words Check are other = ap (takes grammar) are.2 ∙ takes_check are.0 (plain_name are.0 are.1)
 taken words Repair are other = ap (takes grammar) are.2 ∙ takes_repair are.0 (plain_name are.0 are.1)
+taken words Sessions are other = ap (takes grammar) are.2 ∙ takes_sessions are.0 (plain_name are.0 are.1)
 taken words (Gen seed count) are other = ap (takes grammar) are.2 ∙ takes_gen (decimal seed) (decimal count) (plain_number seed are.0) (plain_number count are.1)
 taken words Wrong are other = absurd (other refl)

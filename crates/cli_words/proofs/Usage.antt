@@ -2,9 +2,9 @@
 use Rattle.std.proofs.Common.{◌≡◌, ℕ, List, [], ◌∷◌, get_or, inl, inr, refl, subst, sym, ◌∙◌, ap, codes}
 use Rattle.std.specs.Prelude.{decimal}
 use Rattle.std.proofs.lemmas.Fmt.{decimal_injective}
-use Rattle.cli_words.specs.Words.{AreRun, AreCheck, AreRepair, AreFormat, AreGen, AreInUse, AreWordsOf, IsFormatOf, IsGenOf, MayName}
+use Rattle.cli_words.specs.Words.{AreRun, AreCheck, AreRepair, AreSessions, AreFormat, AreGen, AreInUse, AreWordsOf, IsFormatOf, IsGenOf, MayName}
 use Rattle.cli_words.specs.declared.named.Work.{Work}
-use Rattle.cli_words.specs.declared.named.Work.TheVariants.{Check, Format, Gen, Repair, Run, Wrong}
+use Rattle.cli_words.specs.declared.named.Work.TheVariants.{Check, Format, Gen, Repair, Run, Sessions, Wrong}
 
 third : List (List ℕ) → List ℕ
 third words = get_or words 2 []
@@ -49,6 +49,37 @@ no_run_of_repair words repair run = apart_repair_run words repair.0 run.0 repair
 
 pub no_check_of_repair : (words : List (List ℕ)) → AreRepair words → AreCheck words → ⊥
 no_check_of_repair words repair check = apart_repair_check words repair.0 check.0 repair.2 check.2
+
+-- and so do words that ask for sessions
+apart_sessions_run : (words : List (List ℕ)) (a b : List ℕ) → words ≡ codes "sessions" ∷ a ∷ [] → words ≡ codes "run" ∷ b ∷ [] → ⊥
+apart_sessions_run words a b sessions run = absurd (cc (sessions, run))
+
+apart_sessions_check : (words : List (List ℕ)) (a b : List ℕ) → words ≡ codes "sessions" ∷ a ∷ [] → words ≡ codes "check" ∷ b ∷ [] → ⊥
+apart_sessions_check words a b sessions check = absurd (cc (sessions, check))
+
+apart_sessions_repair : (words : List (List ℕ)) (a b : List ℕ) → words ≡ codes "sessions" ∷ a ∷ [] → words ≡ codes "repair" ∷ b ∷ [] → ⊥
+apart_sessions_repair words a b sessions repair = absurd (cc (sessions, repair))
+
+apart_sessions_format : (words : List (List ℕ)) (a b d : List ℕ) → words ≡ codes "sessions" ∷ a ∷ [] → words ≡ codes "format" ∷ b ∷ d ∷ [] → ⊥
+apart_sessions_format words a b d sessions format = absurd (cc (sessions, format))
+
+apart_sessions_gen : (words : List (List ℕ)) (a b d : List ℕ) → words ≡ codes "sessions" ∷ a ∷ [] → words ≡ codes "gen" ∷ b ∷ d ∷ [] → ⊥
+apart_sessions_gen words a b d sessions gen = absurd (cc (sessions, gen))
+
+pub no_run_of_sessions : (words : List (List ℕ)) → AreSessions words → AreRun words → ⊥
+no_run_of_sessions words sessions run = apart_sessions_run words sessions.0 run.0 sessions.2 run.2
+
+pub no_check_of_sessions : (words : List (List ℕ)) → AreSessions words → AreCheck words → ⊥
+no_check_of_sessions words sessions check = apart_sessions_check words sessions.0 check.0 sessions.2 check.2
+
+pub no_repair_of_sessions : (words : List (List ℕ)) → AreSessions words → AreRepair words → ⊥
+no_repair_of_sessions words sessions repair = apart_sessions_repair words sessions.0 repair.0 sessions.2 repair.2
+
+pub no_format_of_sessions : (words : List (List ℕ)) (sectors : ℕ) → AreSessions words → AreFormat words sectors → ⊥
+no_format_of_sessions words sectors sessions format = apart_sessions_format words sessions.0 format.0 (decimal sectors) sessions.2 format.3
+
+pub no_gen_of_sessions : (words : List (List ℕ)) (seed count : ℕ) → AreSessions words → AreGen words seed count → ⊥
+no_gen_of_sessions words seed count sessions gen = apart_sessions_gen words sessions.0 (decimal seed) (decimal count) sessions.2 gen.2
 
 pub same_sectors : (words : List (List ℕ)) (a b : ℕ) → AreFormat words a → AreFormat words b → a ≡ b
 same_sectors words a b first second =
@@ -116,11 +147,13 @@ words_of_format words a b (Format many) are is = (a, is.0, is.1, are ∙ ap (λ 
 words_of_format words a b Run are is = absurd is
 words_of_format words a b Check are is = absurd is
 words_of_format words a b Repair are is = absurd is
+words_of_format words a b Sessions are is = absurd is
 words_of_format words a b (Gen seed count) are is = absurd is
 words_of_format words a b Wrong are is = (
   λ run. apart words run.0 a b run.2 are,
   λ check. apart_check words check.0 a b check.2 are,
   λ repair. apart_repair_format words repair.0 a b repair.2 are,
+  λ sessions. apart_sessions_format words sessions.0 a b sessions.2 are,
   λ many format. is many (subst MayName (sym (the_second_of words _ _ _ format.3) ∙ the_second_of words _ _ _ are) format.1) format.2 (sym (the_third_of words _ _ _ are) ∙ the_third_of words _ _ _ format.3),
   λ seed count gen. apart_gen_format words a b (decimal seed) (decimal count) are gen.2,
 )
@@ -130,22 +163,25 @@ words_of_gen words a b (Format many) are is = absurd is
 words_of_gen words a b Run are is = absurd is
 words_of_gen words a b Check are is = absurd is
 words_of_gen words a b Repair are is = absurd is
+words_of_gen words a b Sessions are is = absurd is
 words_of_gen words a b (Gen seed count) are is = (is.0, is.1, are ∙ (λ i. codes "gen" ∷ is.2 i ∷ is.3 i ∷ []))
 words_of_gen words a b Wrong are is = (
   λ run. apart_gen_run words run.0 a b run.2 are,
   λ check. apart_gen_check words check.0 a b check.2 are,
   λ repair. apart_gen_repair words repair.0 a b repair.2 are,
+  λ sessions. apart_sessions_gen words sessions.0 a b sessions.2 are,
   λ many format. apart_gen_format words format.0 (decimal many) a b format.3 are,
   λ seed count gen. is seed count gen.0 gen.1 (sym (the_second_of words _ _ _ are) ∙ the_second_of words _ _ _ gen.2) (sym (the_third_of words _ _ _ are) ∙ the_third_of words _ _ _ gen.2),
 )
 
 -- words that name a work aren't wrong
 pub not_wrong : (words : List (List ℕ)) (work : Work) → AreWordsOf words work → (work ≡ Wrong → ⊥) → AreWordsOf words Wrong → ⊥
-not_wrong words (Format many) are other wrong = wrong.3 many are
+not_wrong words (Format many) are other wrong = wrong.4 many are
 not_wrong words Run are other wrong = wrong.0 are
 not_wrong words Check are other wrong = wrong.1 are
 not_wrong words Repair are other wrong = wrong.2 are
-not_wrong words (Gen seed count) are other wrong = wrong.4 seed count are
+not_wrong words Sessions are other wrong = wrong.3 are
+not_wrong words (Gen seed count) are other wrong = wrong.5 seed count are
 not_wrong words Wrong are other wrong = other refl
 
 -- words that name another work aren't `format`'s
@@ -154,8 +190,9 @@ not_format words (Format many) n are other format = other many refl
 not_format words Run n are other format = not_both words n are format
 not_format words Check n are other format = no_format words n are format
 not_format words Repair n are other format = no_format_of_repair words n are format
+not_format words Sessions n are other format = no_format_of_sessions words n are format
 not_format words (Gen seed count) n are other format = no_format_of_gen words n seed count format are
-not_format words Wrong n are other format = are.3 n format
+not_format words Wrong n are other format = are.4 n format
 
 -- words that name another work than `format` are in use for each image
 pub in_use : (words : List (List ℕ)) (work : Work) (n : ℕ) → AreWordsOf words work → (work ≡ Wrong → ⊥) → ((many : ℕ) → work ≡ Format many → ⊥) → AreInUse words n
@@ -163,5 +200,6 @@ in_use words (Format many) n are right other = absurd (other many refl)
 in_use words Run n are right other = inl are
 in_use words Check n are right other = inr (inl are)
 in_use words Repair n are right other = inr (inr (inl are))
-in_use words (Gen seed count) n are right other = inr (inr (inr (inr (seed, count, are))))
+in_use words Sessions n are right other = inr (inr (inr (inl are)))
+in_use words (Gen seed count) n are right other = inr (inr (inr (inr (inr (seed, count, are)))))
 in_use words Wrong n are right other = absurd (right refl)

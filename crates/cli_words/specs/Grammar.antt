@@ -19,9 +19,10 @@ program = record (new_app (codes "hfsx")) { top = record ((new_app (codes "hfsx"
 
 -- the program with its commands
 abbrev pub grammar : App
-grammar = with_subcommand (with_subcommand (with_subcommand (with_subcommand (with_subcommand program
+grammar = with_subcommand (with_subcommand (with_subcommand (with_subcommand (with_subcommand (with_subcommand program
     (with_two (codes "format") (codes "IMAGE") (codes "SECTORS")).top)
     (with_one (codes "run") (codes "IMAGE")).top)
     (with_one (codes "check") (codes "IMAGE")).top)
     (with_two (codes "gen") (codes "SEED") (codes "COUNT")).top)
-    (with_one (codes "repair") (codes "IMAGE")).top
+    (with_one (codes "repair") (codes "IMAGE")).top)
+    (with_one (codes "sessions") (codes "IMAGE")).top

@@ -2,7 +2,7 @@
 use Rattle.std.specs.Prelude.{◌≡◌, ◌≢◌, ◌⊎◌, ◌<◌, ◌^◌, ℕ, List, [], ◌∷◌, map, slice_index, String, string_bytes, codes, decimal}
 use Rattle.std.specs.declared.alloc.Global.{Global}
 use Rattle.cli_words.specs.declared.named.Work.{Work}
-use Rattle.cli_words.specs.declared.named.Work.TheVariants.{Check, Format, Gen, Repair, Run, Wrong}
+use Rattle.cli_words.specs.declared.named.Work.TheVariants.{Check, Format, Gen, Repair, Run, Sessions, Wrong}
 
 -- the words as lists of bytes
 abbrev pub texts : List (String Global) → List (List ℕ)
@@ -25,6 +25,10 @@ AreCheck words = (image : List ℕ) × MayName image × (words ≡ codes "check"
 -- the words are `repair IMAGE`
 abbrev pub AreRepair : List (List ℕ) → Type 0
 AreRepair words = (image : List ℕ) × MayName image × (words ≡ codes "repair" ∷ image ∷ [])
+
+-- the words are `sessions IMAGE`
+abbrev pub AreSessions : List (List ℕ) → Type 0
+AreSessions words = (image : List ℕ) × MayName image × (words ≡ codes "sessions" ∷ image ∷ [])
 
 -- the words are `format IMAGE SECTORS`
 abbrev pub AreFormat : List (List ℕ) → ℕ → Type 0
@@ -52,9 +56,10 @@ AreWordsOf words (Format sectors) = AreFormat words sectors
 AreWordsOf words Run = AreRun words
 AreWordsOf words Check = AreCheck words
 AreWordsOf words Repair = AreRepair words
+AreWordsOf words Sessions = AreSessions words
 AreWordsOf words (Gen seed count) = AreGen words seed count
-AreWordsOf words Wrong = ¬ AreRun words × ¬ AreCheck words × ¬ AreRepair words × ((sectors : ℕ) → ¬ AreFormat words sectors) × ((seed count : ℕ) → ¬ AreGen words seed count)
+AreWordsOf words Wrong = ¬ AreRun words × ¬ AreCheck words × ¬ AreRepair words × ¬ AreSessions words × ((sectors : ℕ) → ¬ AreFormat words sectors) × ((seed count : ℕ) → ¬ AreGen words seed count)
 
 -- the words ask for a work, and where they give a number of sectors, it is that of the image
 abbrev pub AreInUse : List (List ℕ) → ℕ → Type 0
-AreInUse words sectors = AreRun words ⊎ (AreCheck words ⊎ (AreRepair words ⊎ (AreFormat words sectors ⊎ ((seed count : ℕ) × AreGen words seed count))))
+AreInUse words sectors = AreRun words ⊎ (AreCheck words ⊎ (AreRepair words ⊎ (AreSessions words ⊎ (AreFormat words sectors ⊎ ((seed count : ℕ) × AreGen words seed count)))))

@@ -21,7 +21,7 @@ pub(crate) fn take_words(alloc: Global, words: &[String], work: Work) -> Result<
     Ok(())
 }
 
-// The program with its five commands, of which each word line has one.
+// The program with its six commands, of which each word line has one.
 fn grammar<'a>(alloc: Global) -> Result<Command<'a>, AllocError>
     ensures { IfOk result (λ command. app_of command ≡ grammar) }
 {
@@ -32,7 +32,8 @@ fn grammar<'a>(alloc: Global) -> Result<Command<'a>, AllocError>
         .subcommand(with_one(alloc, "run", "IMAGE")?)?
         .subcommand(with_one(alloc, "check", "IMAGE")?)?
         .subcommand(with_two(alloc, "gen", "SEED", "COUNT")?)?
-        .subcommand(with_one(alloc, "repair", "IMAGE")?)
+        .subcommand(with_one(alloc, "repair", "IMAGE")?)?
+        .subcommand(with_one(alloc, "sessions", "IMAGE")?)
 }
 
 // A command with one value.

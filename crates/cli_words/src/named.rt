@@ -17,6 +17,8 @@ pub enum Work {
     Gen { seed: u64, count: u64 },
     /// `repair IMAGE`
     Repair,
+    /// `sessions IMAGE`
+    Sessions,
     /// Any other words.
     Wrong,
 }
@@ -38,6 +40,9 @@ pub fn named_work(words: &[String]) -> Work
             }
             if verb.as_str() == "repair" {
                 return Work::Repair;
+            }
+            if verb.as_str() == "sessions" {
+                return Work::Sessions;
             }
             Work::Wrong
         }

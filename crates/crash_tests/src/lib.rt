@@ -22,6 +22,8 @@ mod replays;
 #[cfg(test)]
 mod runs;
 #[cfg(test)]
+mod sessions;
+#[cfg(test)]
 mod tests;
 #[cfg(test)]
 mod twice;

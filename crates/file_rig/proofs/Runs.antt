@@ -1,6 +1,5 @@
 -- What reads give through a gathered run, as it takes sectors and is handed over.
 use Rattle.std.proofs.Common.{◌≡◌, ◌⊎◌, ◌<◌, ◌≤◌, ◌+◌, ◌-◌, ◌∷◌, [], ◌++◌, ℕ, Bool, true, false, IsTrue, IsFalse, List, ⊎_elim, length, set, take, drop, refl, sym, ◌∙◌, ap, arith, length-append, length-take-le, length-drop, take-append-drop, add-zero}
-use Rattle.std.proofs.Math.Seq.{take-set-lt}
 use Rattle.std.proofs.lemmas.Bool.{cases_lt, cases_eq}
 use Rattle.std.proofs.lemmas.List.{append-nil, append_assoc, set-append_left, set-append_right, set_at, drop_more, length-set, get_or-set_same, get_or-set_other, get_or-take, get_or-drop}
 use Rattle.sector_disk.specs.Lists.{Content, sector, put_sectors}
@@ -37,15 +36,13 @@ put_next content list first value fits =
     ∙ sym (ap (λ (l : Content). set (front ++ l) (first + length list) value) rest ∙ set_at front (sector content (first + length list)) (drop (first + length list + 1) content) value (first + length list) long)
 
 -- a sector that was read ahead is written
-pub changes_front : (old new : Run) (items : Content) (count at place : ℕ) (value : List ℕ) → old.values ≡ take count items → count ≤ length items → at ≡ old.first + place → place < count
-    → new.first ≡ old.first → new.values ≡ take count (set items place value) → Changes old at value new
-changes_front old new items count at place value was whole is inside first values =
-    let long : length old.values ≡ count = ap length was ∙ length-take-le count items whole in
+pub changes_at : (old new : Run) (at place : ℕ) (value : List ℕ) → at ≡ old.first + place → place < length old.values → new.first ≡ old.first → new.values ≡ set old.values place value → Changes old at value new
+changes_at old new at place value is inside first values =
     let behind : at - old.first ≡ place = omega (arith, is) in
     record {
-      inside = record { from = omega (arith, is); to = omega (arith, is, inside, long) };
+      inside = record { from = omega (arith, is); to = omega (arith, is, inside) };
       first = first;
-      values = values ∙ take-set-lt count items place value inside ∙ ap (λ (l : Content). set l place value) (sym was) ∙ ap (λ n. set old.values n value) (sym behind);
+      values = values ∙ ap (λ n. set old.values n value) (sym behind);
     }
 
 -- what reads give where the run has the sector, and where it hasn't
@@ -134,17 +131,17 @@ fresh_written old new gathered after ahead kept at value inside fresh is keeps =
     }
 
 -- what was read ahead of the place, apart from the gathered run
-pub fresh_fill : (read : Bool) (held : Content) (gathered new : Run) (first : ℕ) → gathered.first + length gathered.values ≤ length held → first + 64 ≤ length held → IsApart gathered first 64
-    → (IsTrue read → (new.first ≡ first) × (new.values ≡ take 64 (drop first held))) → (IsFalse read → new.values ≡ []) → AreFresh held gathered new
-fresh_fill false held gathered new first fits room apart is none = record { within = fits; fresh = λ k k_in. absurd (omega (arith, k_in, ap length (none refl))) }
-fresh_fill true held gathered new first fits room apart is none =
-    let there : (new.first ≡ first) × (new.values ≡ take 64 (drop first held)) = is refl in
-    let long : length new.values ≡ 64 = ap length there.1 ∙ length-take-le 64 (drop first held) (omega (arith, room, length-drop first held)) in
+pub fresh_fill : (read : Bool) (held : Content) (gathered new : Run) (first count : ℕ) → gathered.first + length gathered.values ≤ length held → first + count ≤ length held → IsApart gathered first count
+    → (IsTrue read → (new.first ≡ first) × (new.values ≡ take count (drop first held))) → (IsFalse read → new.values ≡ []) → AreFresh held gathered new
+fresh_fill false held gathered new first count fits room apart is none = record { within = fits; fresh = λ k k_in. absurd (omega (arith, k_in, ap length (none refl))) }
+fresh_fill true held gathered new first count fits room apart is none =
+    let there : (new.first ≡ first) × (new.values ≡ take count (drop first held)) = is refl in
+    let long : length new.values ≡ count = ap length there.1 ∙ length-take-le count (drop first held) (omega (arith, room, length-drop first held)) in
     record {
       within = fits;
       fresh = λ k k_in.
           let outside : IsIn gathered (first + k) → ⊥ = λ inside. ⊎_elim (λ before. absurd (omega (arith, before, inside.from, k_in, long))) (λ behind. absurd (omega (arith, behind, inside.to))) apart in
-          ap (λ (l : Content). sector l k) there.1 ∙ get_or-take 64 (drop first held) k [] (omega (arith, k_in, long)) ∙ get_or-drop first held k []
+          ap (λ (l : Content). sector l k) there.1 ∙ get_or-take count (drop first held) k [] (omega (arith, k_in, long)) ∙ get_or-drop first held k []
           ∙ sym (over_outside gathered held (first + k) fits outside) ∙ ap (λ n. sector (over gathered held) (n + k)) (sym there.0);
     }
 

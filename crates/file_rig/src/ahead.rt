@@ -7,27 +7,43 @@ use hx_bytes::Sector;
 use std::alloc::{AllocError, Global};
 use std::marker::Model;
 
-/// How many sectors are read at once: 32 KiB.
-pub const MOST_AHEAD: usize = 64;
+/// How many sectors are read at once: a page of 4 KiB at first, and 32 KiB at most.
+const PAGE: usize = 8;
 
-/// A run of sectors, and the one whose read would go on from the read before.
+const MOST_AHEAD: usize = 64;
+
+/// A run of sectors.
 #[derive(Drop)]
 pub struct Ahead {
     first: u64,
-    count: usize,
-    next: u64,
-    buffer: Vec<Sector>,
+    values: Vec<Sector>,
+}
+
+/// Sectors that stand side by side.
+#[derive(Clone, Copy)]
+pub struct Stretch {
+    pub first: u64,
+    pub count: usize,
 }
 
 impl Model for Ahead {
-    ghost use Rattle.std.specs.Prelude.{◌≡◌, ◌≤◌, take, vec_len};
     ghost use Rattle.file_rig.specs.Runs.{Run};
 
     ghost Value = { Run };
 
-    ghost view = { λ ahead. record { first = ahead.first; values = take ahead.count ahead.buffer.items } };
+    ghost view = { λ ahead. record { first = ahead.first; values = ahead.values.items } };
+}
 
-    ghost invariant = { λ ahead. (ahead.count ≤ 64) × (vec_len ahead.buffer ≡ 64) };
+impl Stretch {
+    /// Whether it ends before the last of so many sectors.
+    pub fn fits(&self, sectors: u64) -> bool
+        ensures { IsTrue result → self.now.first + self.now.count ≤ sectors }
+    {
+        match self.first.checked_add(self.count as u64) {
+            Some(end) => end <= sectors,
+            None => false,
+        }
+    }
 }
 
 impl Ahead {
@@ -37,9 +53,7 @@ impl Ahead {
     {
         Ok(Ahead {
             first: 0,
-            count: 0,
-            next: 0,
-            buffer: vec![in alloc; [0; 512]; MOST_AHEAD]?,
+            values: Vec::with_capacity(alloc, MOST_AHEAD)?,
         })
     }
 
@@ -48,47 +62,44 @@ impl Ahead {
         ensures { MatchOption result (IsIn self.now at → ⊥) (λ value. IsIn self.now at × (value.now ≡ value_in self.now at)) }
     {
         let place = at.checked_sub(self.first)? as usize;
-        if place < self.count {
-            self.buffer.get(place)
-        } else {
-            None
+        self.values.get(place)
+    }
+
+    /// What is read for a sector that isn't in the run: its page, or twice as many sectors as the run has, where it is the next behind the run.
+    pub fn stretch_for(&self, at: u64) -> Stretch
+        ensures { result.count ≤ MOST_AHEAD }
+    {
+        let count = self.values.len();
+        if count > 0 && at == self.first.saturating_add(count as u64) {
+            return Stretch {
+                first: at,
+                count: count.saturating_mul(2).min(MOST_AHEAD),
+            };
+        }
+        Stretch {
+            first: at - at % PAGE as u64,
+            count: PAGE,
         }
     }
 
-    /// Whether a read of this sector goes on from the read before, so that more of such reads are likely.
-    pub fn follows(&mut self, at: u64) -> bool
-        ensures { self.new ≡ self.old }
-    {
-        let follows = at == self.next;
-        self.next = at.saturating_add(1);
-        follows
-    }
-
-    /// Whether a run from here on ends before the last of so many sectors.
-    pub fn fits(at: u64, sectors: u64) -> bool
-        ensures { IsTrue result → at + MOST_AHEAD ≤ sectors }
-    {
-        match at.checked_add(MOST_AHEAD as u64) {
-            Some(end) => end <= sectors,
-            None => false,
-        }
-    }
-
-    /// Reads a run, and says whether it was read. What was read before is forgotten.
-    pub fn fill<P: Place>(&mut self, place: &mut P, first: u64) -> bool
-        requires { IsTrue (P.state place.old).tells → first + MOST_AHEAD ≤ length (P.state place.old).held }
-        ensures read { IsTrue (P.state place.old).tells → IsTrue result → (self.new.first ≡ first) × (self.new.values ≡ take MOST_AHEAD (drop first (P.state place.old).held)) }
+    /// Reads a stretch, and says whether it was read. What was read before is forgotten.
+    pub fn fill<P: Place>(&mut self, place: &mut P, stretch: Stretch) -> bool
+        requires { IsTrue (P.state place.old).tells → stretch.first + stretch.count ≤ length (P.state place.old).held }
+        ensures read { IsTrue (P.state place.old).tells → IsTrue result → (self.new.first ≡ stretch.first) × (self.new.values ≡ take stretch.count (drop stretch.first (P.state place.old).held)) }
         ensures failed { IsFalse result → self.new.values ≡ [] }
         ensures same { P.state place.new ≡ P.state place.old }
     {
-        self.count = 0;
-        match place.read_run(first, self.buffer.as_mut_slice()) {
-            Ok(()) => {
-                self.first = first;
-                self.count = MOST_AHEAD;
-                true
+        self.first = stretch.first;
+        let Ok(()) = self.values.resize(stretch.count, [0; 512]) else {
+            self.values.clear();
+            return false;
+        };
+        match place.read_run(stretch.first, self.values.as_mut_slice()) {
+            Ok(()) => true,
+            Err(_) => {
+                self.values.clear();
+                false
             }
-            Err(_) => false,
         }
     }
 
@@ -98,8 +109,8 @@ impl Ahead {
     {
         if let Some(place) = at.checked_sub(self.first) {
             let place = place as usize;
-            if place < self.count {
-                self.buffer[place] = *value;
+            if place < self.values.len() {
+                self.values[place] = *value;
             }
         }
     }

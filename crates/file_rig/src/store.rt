@@ -3,7 +3,7 @@ ghost use Rattle.std.specs.Prelude.{◌≡◌, ◌≤◌, ◌<◌, ◌+◌, [], 
 ghost use Rattle.sector_disk.specs.Lists.{sector, put_sectors};
 ghost use Rattle.file_rig.specs.Place.{AreFresh, SameOutside, IsWritten};
 
-use crate::ahead::{Ahead, MOST_AHEAD};
+use crate::ahead::Ahead;
 use crate::failure::Failure;
 use crate::gathered::Gathered;
 use crate::place::Place;
@@ -113,19 +113,20 @@ impl<P: Place + Drop> Store<P> {
     }
 }
 
-// Reads ahead where this read goes on from the read before and wasn't read yet, if the place has the last write of each of
-// the sectors. Where that fails nothing is said: the sector alone is read then.
+// Reads the sector with its neighbours where it wasn't read yet, if the place has the last write of each of them. Where that fails nothing is said:
+// the sector alone is read then.
 fn read_on<P: Place>(place: &mut P, ahead: &mut Ahead, gathered: &Gathered, at: u64, sectors: u64)
     requires size { IsTrue (P.state place.old).tells → length (P.state place.old).held ≡ sectors }
     requires fresh { IsTrue (P.state place.old).tells → AreFresh (P.state place.old).held gathered.now ahead.old }
     ensures fresh { IsTrue (P.state place.old).tells → AreFresh (P.state place.old).held gathered.now ahead.new }
     ensures same { P.state place.new ≡ P.state place.old }
 {
-    if !ahead.follows(at) || ahead.get(at).is_some() {
+    if ahead.get(at).is_some() {
         return;
     }
-    if Ahead::fits(at, sectors) && gathered.is_apart(at, MOST_AHEAD as u64) {
-        let _ = ahead.fill(place, at);
+    let stretch = ahead.stretch_for(at);
+    if stretch.fits(sectors) && gathered.is_apart(stretch.first, stretch.count as u64) {
+        let _ = ahead.fill(place, stretch);
     }
 }
 

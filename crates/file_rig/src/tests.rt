@@ -159,17 +159,26 @@ fn a_run_that_could_not_be_handed_over_is_read_and_tried_again(
 fn reads_go_ahead_and_give_what_was_written_since(rt: HostRuntime) -> Result<(), Fail> {
     let dial = Dial::new();
     let mut store = store_over(rt.alloc(), &dial)?;
+    // A page, and then twice as many sectors with each read that goes on.
     is(&rt, &mut store, 20, 0);
-    is(&rt, &mut store, 21, 0);
+    is(&rt, &mut store, 16, 0);
+    is(&rt, &mut store, 23, 0);
+    assert_eq!(rt; dial.reads.get(), 1);
+    is(&rt, &mut store, 24, 0);
+    is(&rt, &mut store, 39, 0);
     assert_eq!(rt; dial.reads.get(), 2);
-    is(&rt, &mut store, 84, 0);
-    assert_eq!(rt; dial.reads.get(), 2);
-    put(&rt, &mut store, 30, 7);
+    is(&rt, &mut store, 40, 0);
+    put(&rt, &mut store, 50, 7);
     assert!(rt; store.flush().is_ok());
-    is(&rt, &mut store, 30, 7);
-    assert_eq!(rt; dial.reads.get(), 2);
-    is(&rt, &mut store, 85, 0);
+    is(&rt, &mut store, 50, 7);
+    is(&rt, &mut store, 71, 0);
     assert_eq!(rt; dial.reads.get(), 3);
+    is(&rt, &mut store, 72, 0);
+    is(&rt, &mut store, 135, 0);
+    assert_eq!(rt; dial.reads.get(), 4);
+    is(&rt, &mut store, 10, 0);
+    is(&rt, &mut store, 15, 0);
+    assert_eq!(rt; dial.reads.get(), 5);
     Ok(())
 }
 

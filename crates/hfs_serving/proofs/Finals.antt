@@ -1,7 +1,7 @@
 -- Runs that their source ended.
 use Rattle.std.proofs.Common.{◌≡◌, ◌+◌, ◌++◌, [], ℕ, List, IsTrue, length, length-drop, take, drop, Result, Err, refl, sym, ◌∙◌, ap, subst, arith, append_assoc}
 use Rattle.std.specs.Prelude.{IsErrOf, Some}
-use Rattle.std.proofs.lemmas.List.{length-map, length-take-le, take-append-drop, take_all}
+use Rattle.std.proofs.lemmas.List.{length-map, length-take-le, take_all}
 use Rattle.sector_disk.specs.Source.{Stream}
 use Rattle.hfs_language.specs.Language.{most_bytes}
 use Rattle.hfs_language.specs.Lines.{HasNoNewline}
@@ -15,7 +15,7 @@ use Rattle.hfs_serving.specs.declared.telling.Stop.{Stop}
 use Rattle.hfs_serving.specs.declared.telling.Stop.TheVariants as stop
 use Rattle.hfs_serving.proofs.Pending.{On}
 use Rattle.line_source.specs.Input.{ahead, SplitsIntoLines}
-use Rattle.line_source.proofs.Cuts.{front_cut}
+use Rattle.hfs_serving.proofs.WholeLines.{cuts_front}
 
 source_input : (e : InputFault) → stop_of_input e ≡ stop.Source → e ≡ input.Source
 source_input input.Source is = refl
@@ -50,14 +50,15 @@ module _ (taken : List ℕ) (source : Stream) (pending : List (List ℕ)) (taken
   front_taken : (new : Stream) → IsTrue source.tells → (gone : List ℕ) × (ahead taken_now now ≡ gone ++ new.left) → HasTaken taken source served new
   front_taken new tells away =
       let takes = on.0.takes tells in
-      let cut = front_cut takes.used away.0 new.left on.0.texts (subst (λ (l : List ℕ). SplitsIntoLines takes.used on.0.texts l) away.1 takes.cut) in
+      let front = cuts_front on.0.count takes.used on.0.texts (away.0 ++ new.left) (subst (λ (l : List ℕ). SplitsIntoLines takes.used on.0.texts l) away.1 takes.cut) in
+      let behind = sym (append_assoc front.later away.0 new.left) in
       record {
-        used = takes.used ++ away.0;
-        bytes = takes.bytes ∙ ap (λ (l : List ℕ). takes.used ++ l) away.1 ∙ sym (append_assoc takes.used away.0 new.left);
-        first = (
-          drop on.0.count on.0.texts ++ cut.0,
-          cut.1 ∙ ap (λ (l : List (List ℕ)). l ++ cut.0) (sym (take-append-drop on.0.count on.0.texts)) ∙ append_assoc served (drop on.0.count on.0.texts) cut.0,
-        );
+        used = front.first;
+        rest = front.later ++ away.0;
+        bytes =
+            takes.bytes ∙ ap (λ (l : List ℕ). takes.used ++ l) away.1 ∙ ap (λ (l : List ℕ). l ++ (away.0 ++ new.left)) front.bytes ∙ append_assoc front.first front.later (away.0 ++ new.left)
+            ∙ ap (λ (l : List ℕ). front.first ++ l) behind;
+        cut = subst (λ (l : List ℕ). SplitsIntoLines front.first served l) behind front.cut;
       }
 
   -- the source ended it

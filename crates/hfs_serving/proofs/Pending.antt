@@ -1,5 +1,5 @@
 -- Lines of a source that are read and served.
-use Rattle.std.proofs.Common.{◌≡◌, ◌≤◌, ◌+◌, ◌++◌, ◌∷◌, ◌==◌, [], Bool, true, ℕ, List, IsTrue, length, length-append, length-drop, take, drop, refl, sym, ◌∙◌, ap, subst, arith, append_assoc}
+use Rattle.std.proofs.Common.{◌≡◌, ◌≤◌, ◌+◌, ◌++◌, ◌∷◌, ◌==◌, [], Bool, true, ℕ, List, IsTrue, length, length-append, length-drop, take, drop, refl, sym, ◌∙◌, ap, subst, arith}
 use Rattle.std.specs.Prelude.{Option}
 use Rattle.std.proofs.lemmas.Bool.Decides.{nat_tests}
 use Rattle.std.proofs.lemmas.List.{drop-append-le, drop-drop, drop-map, length-map, map-append, take-append-le, take-map, take_all}
@@ -15,7 +15,7 @@ use Rattle.hfs_serving.specs.Spoken.{CrashesSpoken, ServesSpoken}
 use Rattle.hfs_serving.specs.Taking.{HasTaken}
 use Rattle.line_source.specs.Batch.{AddsLines, held}
 use Rattle.line_source.specs.Input.{ahead, SplitsIntoLines, TakesLines}
-use Rattle.line_source.proofs.Cuts.{front_cut, takes_both, takes_none}
+use Rattle.line_source.proofs.Cuts.{takes_both, takes_none}
 
 -- ---- more lines were read
 
@@ -125,9 +125,10 @@ module _ (taken : List ℕ) (source : Stream) (pending : List (List ℕ)) (taken
         let takes = on.0.takes tells in
         let away = gone tells in
         record {
-          used = takes.used ++ away.0;
-          bytes = takes.bytes ∙ ap (λ (l : List ℕ). takes.used ++ l) away.1 ∙ sym (append_assoc takes.used away.0 new.left);
-          first = front_cut takes.used away.0 new.left on.0.texts (subst (λ (l : List ℕ). SplitsIntoLines takes.used on.0.texts l) away.1 takes.cut);
+          used = takes.used;
+          rest = away.0;
+          bytes = takes.bytes ∙ ap (λ (l : List ℕ). takes.used ++ l) away.1;
+          cut = subst (λ (l : List ℕ). SplitsIntoLines takes.used on.0.texts l) away.1 takes.cut;
         },
     stops on.0.count on.0.texts on.0.inside on.0.pending_are on.1,
   )

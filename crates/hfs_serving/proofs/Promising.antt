@@ -1,6 +1,6 @@
 -- From a run over a rig to its promises.
-use Rattle.std.proofs.Common.{◌≡◌, ◌+◌, ◌++◌, [], ℕ, List, refl, length, append_assoc, take, drop, sym, ◌∙◌, arith, ap, subst}
-use Rattle.std.proofs.lemmas.List.{append-nil, take-append-drop}
+use Rattle.std.proofs.Common.{◌≡◌, ◌+◌, ◌++◌, [], ℕ, List, inl, refl, length, append_assoc, take, sym, ◌∙◌, arith, ap, subst}
+use Rattle.std.proofs.lemmas.List.{append-nil}
 use Rattle.std.specs.Prelude.{None, Option, IsTrue}
 use Rattle.sector_disk.specs.Disk.{IsImage, LeftNow, State}
 use Rattle.sector_disk.specs.Source.{Stream}
@@ -27,8 +27,9 @@ use Rattle.hfs_serving.specs.Steps.{CrashesStep, KeepsRun}
 use Rattle.hfs_serving.specs.Taking.{HasTaken}
 use Rattle.hfs_serving.specs.Top.{AreTaken}
 use Rattle.hfs_language.specs.Lines.{lines}
-use Rattle.line_source.specs.Input.{ahead, TakesLines}
-use Rattle.line_source.proofs.Cuts.{front_cut, none_left}
+use Rattle.line_source.specs.Input.{ahead, SplitsIntoLines, TakesLines}
+use Rattle.line_source.proofs.Cuts.{none_left}
+use Rattle.hfs_serving.proofs.WholeLines.{cuts_front}
 use Rattle.hfs_serving.proofs.Agreeing.{stands_durable}
 use Rattle.hfs_serving.proofs.Bridging.{found_by}
 use Rattle.hfs_serving.proofs.Grounding.{outside_by}
@@ -47,31 +48,27 @@ finds_by a b same = λ i. λ image. found_by a b image (ap (λ x. x.place) same)
 
 -- a run over the first of the lines that were taken
 pub are_taken : (source source_new : Stream) (texts : List (List ℕ)) (run : List Entry) (count : ℕ) → lines_of run ≡ take count texts → HasTaken [] source texts source_new → AreTaken source run source_new
-are_taken source source_new texts run count asked has = record {
-  taken = has.used;
-  left = has.bytes;
-  first = (
-    drop count texts ++ has.first.0,
-    has.first.1 ∙ ap (λ (l : List (List ℕ)). l ++ has.first.0) (sym (take-append-drop count texts)) ∙ append_assoc (take count texts) (drop count texts) has.first.0
-        ∙ ap (λ (l : List (List ℕ)). l ++ (drop count texts ++ has.first.0)) (sym asked),
-  );
-}
+are_taken source source_new texts run count asked has =
+    let front = cuts_front count has.used texts (has.rest ++ source_new.left) has.cut in
+    let behind = sym (append_assoc front.later has.rest source_new.left) in
+    record {
+      used = front.first;
+      rest = front.later ++ has.rest;
+      bytes = has.bytes ∙ ap (λ (l : List ℕ). l ++ (has.rest ++ source_new.left)) front.bytes ∙ append_assoc front.first front.later (has.rest ++ source_new.left) ∙ ap (λ (l : List ℕ). front.first ++ l) behind;
+      cut = subst (λ (l : List (List ℕ)). SplitsIntoLines front.first l ((front.later ++ has.rest) ++ source_new.left)) (sym asked) (subst (λ (l : List ℕ). SplitsIntoLines front.first (take count texts) l) behind front.cut);
+    }
 
 -- lines that were taken to the end
 pub has_all : (source source_new : Stream) (texts : List (List ℕ)) (taken : List ℕ) → TakesLines [] source texts taken source_new → HasTaken [] source texts source_new
-has_all source source_new texts taken takes = record {
-  used = takes.used ++ taken;
-  bytes = takes.bytes ∙ sym (append_assoc takes.used taken source_new.left);
-  first = front_cut takes.used taken source_new.left texts takes.cut;
-}
+has_all source source_new texts taken takes = record { used = takes.used; rest = taken; bytes = takes.bytes; cut = takes.cut }
 
 -- nothing was taken of the source
 pub took_none : (taken : List ℕ) (source : Stream) → HasTaken taken source [] source
-took_none taken source = record { used = taken; bytes = refl; first = (lines taken, refl) }
+took_none taken source = record { used = []; rest = taken; bytes = refl; cut = inl (λ more. refl) }
 
 -- nothing was taken
 pub has_none : (source : Stream) → HasTaken [] source [] source
-has_none source = record { used = []; bytes = refl; first = (lines [], refl) }
+has_none source = record { used = []; rest = []; bytes = refl; cut = inl (λ more. refl) }
 
 -- a stretch over lines that were taken, from what stands for the run's start
 pub keeps_from : (law : AsideIsFree) (capacity : ℕ) (start : Content) (plan : Plan) (old new : State) (texts : List (List ℕ)) → ((image : Content) (told : List ℕ) → old.clock.left old.clock.moment image told → LeftNow old image told)

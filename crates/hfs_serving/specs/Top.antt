@@ -3,22 +3,19 @@ use Rattle.std.specs.Prelude.{◌≡◌, ◌≤◌, ℕ, List, [], ◌++◌, len
 use Rattle.sector_disk.specs.Disk.{State, IsImage}
 use Rattle.sector_disk.specs.Source.{Stream}
 use Rattle.jnl_format.specs.Recovery.{Content}
-use Rattle.hfs_language.specs.Lines.{lines}
+use Rattle.line_source.specs.Input.{SplitsIntoLines}
 use Rattle.hfs_volume.specs.Aside.{NamesJournal}
 use Rattle.hfs_volume.specs.Mount.{MountsTo}
 use Rattle.volume_runs.specs.Run.{Entry, IsRun, lines_of, replies_of, tree_after}
 use Rattle.hfs_serving.specs.Opening.{Opens}
 use Rattle.hfs_serving.specs.Runs.{Answer, AreAnswered, IsPrefix, Survives, StandsIn, texts_of}
 
--- the one list of lines begins with the other
-abbrev pub AreFirst : List (List ℕ) → List (List ℕ) → Type 0
-AreFirst first all = (rest : List (List ℕ)) × (all ≡ first ++ rest)
-
--- the lines of a run are the first of the bytes that were taken of a source
+-- The lines of a run are the first of the bytes that were taken of a source: each ends with a newline, but for a last piece at the end of all bytes.
 pub record AreTaken (source : Stream) (run : List Entry) (source_new : Stream) : Type 0 where
-  pub taken : List ℕ
-  pub left : source.left ≡ taken ++ source_new.left
-  pub first : AreFirst (lines_of run) (lines taken)
+  pub used : List ℕ
+  pub rest : List ℕ
+  pub bytes : source.left ≡ used ++ (rest ++ source_new.left)
+  pub cut : SplitsIntoLines used (lines_of run) (rest ++ source_new.left)
 
 -- ---- over contents
 

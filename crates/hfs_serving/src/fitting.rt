@@ -36,7 +36,7 @@ fn look_at_path(path: &[Units])
 }
 
 /// A command whose names have their lengths, and whose numbers are below their limits, is such as a line can have.
-pub(crate) fn look_at_command(command: &Command)
+pub fn look_at_command(command: &Command)
     ensures { HasParts command.now → FitsCommand command.now }
 {
     match command {

@@ -160,8 +160,8 @@ pub fn serve_spoken<V: Volume, C: Checker, R: Rig, W: Watcher, S: LineSource, K:
     }
 }
 
-// Serves an image that was found.
-fn serve_found<V: Volume, R: Rig, W: Watcher, S: LineSource, K: Speaker>(
+/// Serves an image that was found, as `serve_spoken` does behind its check.
+pub fn serve_found<V: Volume, R: Rig, W: Watcher, S: LineSource, K: Speaker>(
     alloc: Global,
     speaker: &mut K,
     plan: Plan,

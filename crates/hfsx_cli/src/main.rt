@@ -145,7 +145,7 @@ fn image_of<'a>(
 ) -> Result<(Image<'a>, u64), Failure> {
     match work {
         Work::Format { sectors } => Image::to_format(rt, name, sectors),
-        Work::Run | Work::Repair => Image::open(rt, name),
+        Work::Run | Work::Repair | Work::Sessions => Image::open(rt, name),
         Work::Check => Image::to_check(rt, name),
         Work::Gen { .. } | Work::Wrong => Ok((Image::Absent, 0)),
     }

@@ -8,6 +8,7 @@ pub mod MadeSizes
 pub mod Refused
 pub mod Repaired
 pub mod Results
+pub mod SessionRuns
 pub mod Statuses
 pub mod Streams
 pub mod Telling

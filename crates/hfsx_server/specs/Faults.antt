@@ -21,3 +21,8 @@ status_of stop.Source = status.Source
 status_of stop.Sink = status.Sink
 status_of stop.Steps = status.Memory
 status_of stop.TooMany = status.TooMany
+
+-- the status of a run that had this trouble before it served
+abbrev pub trouble_status : Trouble → Status
+trouble_status trouble.Disk = status.Disk
+trouble_status trouble.Memory = status.Memory

@@ -5,6 +5,7 @@ pub mod Generating
 pub mod Made
 pub mod Playing
 pub mod Repairing
+pub mod Sessions
 pub mod Status
 pub mod Telling
 pub mod Watching

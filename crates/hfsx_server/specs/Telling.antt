@@ -1,5 +1,5 @@
 -- Lines that are told before the program ends.
-use Rattle.std.specs.Prelude.{◌≡◌, ◌⊎◌, ◌≤◌, ◌++◌, ℕ, List, [], ◌∷◌, IsTrue, Result, OnOk, codes, decimal, length, map, nat_lt, if◌then◌else◌}
+use Rattle.std.specs.Prelude.{◌≡◌, ◌⊎◌, ◌≤◌, ◌++◌, ℕ, true, List, [], ◌∷◌, IsTrue, Result, OnOk, codes, decimal, length, map, nat_lt, if◌then◌else◌}
 use Rattle.std.specs.List.{flat_map}
 use Rattle.sector_disk.specs.Cause.{Rose, HasCause}
 use Rattle.sector_disk.specs.Disk.{State, SameDisk, ToldPrefix, content}
@@ -10,6 +10,9 @@ use Rattle.volume_header.specs.declared.refusal.HeaderRefusal.TheVariants as hea
 use Rattle.jnl_format.specs.declared.structures.JnlRefusal.{JnlRefusal}
 use Rattle.jnl_format.specs.declared.structures.JnlRefusal.TheVariants as jnl
 use Rattle.hfs_language.specs.Text.{field, fields}
+use Rattle.jnl_format.specs.Recovery.{Content}
+use Rattle.hfs_volume.specs.Mount.{Mounts}
+use Rattle.hfs_volume.specs.TreeOf.{tree_of}
 use Rattle.hfs_volume.specs.declared.summary.Summary.{Summary}
 use Rattle.fsck_list.specs.declared.finding.Finding.{Finding}
 use Rattle.fsck_core.specs.Wants.{as_found}
@@ -18,10 +21,11 @@ use Rattle.hfs_serving.specs.declared.checking.MountRefusal.{MountRefusal}
 use Rattle.hfs_serving.specs.declared.checking.MountRefusal.TheVariants as mount
 use Rattle.hfs_serving.specs.declared.opening.OpenRefusal.{OpenRefusal}
 use Rattle.hfs_serving.specs.declared.opening.OpenRefusal.TheVariants as opening
+use Rattle.open_files.specs.Keeping.{is_taken}
 
 -- how the program is called
 abbrev pub usage_text : List ℕ
-usage_text = codes "usage: hfsx format IMAGE SECTORS | run IMAGE | check IMAGE | gen SEED COUNT | repair IMAGE\n"
+usage_text = codes "usage: hfsx format IMAGE SECTORS | run IMAGE | check IMAGE | gen SEED COUNT | sessions IMAGE | repair IMAGE\n"
 
 -- the line of a refusal: its name and its numbers
 abbrev pub refused_text : List ℕ → List ℕ → List ℕ
@@ -58,6 +62,10 @@ open_text (opening.JournalTooSmall need has) = refused_text (codes "JournalTooSm
 -- a volume that folds the case of letters
 abbrev pub case_text : List ℕ
 case_text = refused_text (codes "CaseFolding") []
+
+-- a volume whose keeping folder isn't the sessions' own
+abbrev pub taken_text : List ℕ
+taken_text = refused_text (codes "OpenTaken") []
 
 -- why an image of so many sectors isn't formatted
 abbrev pub size_refusal : ℕ → SizeRefusal
@@ -111,3 +119,7 @@ pub record Tells (old new : State) (text : List ℕ) : Type 0 where
 -- a refusal of the image stands, and its line was told, or what is found of its volume
 abbrev pub ToldRefusal : State → State → Type 0
 ToldRefusal old new = (list : List Finding) × (why : MountRefusal) × RefusesMount (content old) (map as_found list) why × ToldUnlessFailed old new (mount_text list why)
+
+-- the image was mounted, its keeping folder isn't the sessions' own, and the line of that was told
+abbrev pub ToldTaken : State → State → Type 0
+ToldTaken old new = (capacity : ℕ) × (start : Content) × Mounts (content old) capacity start × (is_taken (tree_of start) ≡ true) × ToldUnlessFailed old new taken_text

@@ -12,6 +12,7 @@ mod refusal;
 mod repairing;
 mod reports;
 mod running;
+mod sessions;
 mod status;
 mod top;
 
@@ -22,5 +23,6 @@ pub use looking::look;
 pub use refusal::{SizeRefusal, tell_mount, tell_open, tell_refusal, tell_usage};
 pub use repairing::{Mendable, RepairRefusal, find_repair, repair};
 pub use running::run;
+pub use sessions::serve_sessions;
 pub use status::Status;
 pub use top::hfsx;

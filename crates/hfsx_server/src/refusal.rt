@@ -21,8 +21,8 @@ pub enum SizeRefusal {
     TooLarge(u64),
 }
 
-const USAGE: &[u8; 91] =
-    b"usage: hfsx format IMAGE SECTORS | run IMAGE | check IMAGE | gen SEED COUNT | repair IMAGE\n";
+const USAGE: &[u8; 108] =
+    b"usage: hfsx format IMAGE SECTORS | run IMAGE | check IMAGE | gen SEED COUNT | sessions IMAGE | repair IMAGE\n";
 
 /// Tells how the program is called. A sink that fails is left at that.
 pub fn tell_usage<R: Rig>(rig: &mut R)

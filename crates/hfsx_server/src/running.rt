@@ -26,7 +26,7 @@ use std::alloc::Global;
 use watchers::Watcher;
 
 /// How many sectors of the volume are held in memory.
-const SLOTS: u32 = 1_024;
+pub(crate) const SLOTS: u32 = 1_024;
 
 /// Mounts a volume, serves it to the end of a source, and unmounts it. A refused image isn't written. Watchers are told what lines changed.
 pub fn run<R: Rig, S: LineSource, W: Watcher>(
@@ -82,7 +82,7 @@ pub fn run<R: Rig, S: LineSource, W: Watcher>(
 }
 
 // The status of a run that ended before its last line.
-fn status_of(stop: Stop) -> Status
+pub(crate) fn status_of(stop: Stop) -> Status
     ensures { result ≡ status_of stop }
 {
     match stop {

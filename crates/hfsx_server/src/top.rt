@@ -16,12 +16,15 @@ ghost use Rattle.hfsx_server.specs.Made.{IsMade, IsNoSize, made_layout};
 ghost use Rattle.hfs_volume.specs.Sound.{IsSound};
 ghost use Rattle.hfsx_server.specs.Repairing.{CanBeRepaired, IsMendableImage, KeepsImage, ToldRepairRefusal, ToldRepaired, repaired_text};
 ghost use Rattle.hfsx_server.specs.Telling.{Tells, ToldRefusal, ToldUnlessFailed, refusal_text, size_refusal, usage_text, formatted_text};
+ghost use Rattle.hfsx_server.specs.Sessions.{ServesSessions};
 ghost use Rattle.hfsx_server.specs.Watching.{IsHeard};
-ghost use Rattle.cli_words.specs.Words.{texts, AreRun, AreCheck, AreRepair, AreFormat, AreGen, AreInUse};
+ghost use Rattle.cli_words.specs.Words.{texts, AreRun, AreCheck, AreRepair, AreSessions, AreFormat, AreGen, AreInUse};
 ghost use Rattle.watchers.specs.Told.{AreTold};
 
 use crate::formatting::refused_size;
-use crate::{Status, check, format, generate, repair, run, tell_refusal, tell_usage};
+use crate::{
+    Status, check, format, generate, repair, run, serve_sessions, tell_refusal, tell_usage,
+};
 use cli_words::{Work, named_work, read_words};
 use hx_bytes::OutOfMemory;
 use line_source::LineSource;
@@ -32,10 +35,10 @@ use watchers::Watcher;
 /// Does what the words after the program's name ask for, on an image and with the lines of a source.
 ///
 /// `format IMAGE SECTORS` makes an empty volume, `run IMAGE` answers line after line, and `check IMAGE` says whether the volume is
-/// sound. `repair IMAGE` counts anew what can be counted of the volume, in one transaction. The name of the image is the caller's, who
-/// opened it. `gen SEED COUNT` plays generated lines on a volume in memory, and leaves the image alone. Other words tell how the program
-/// is called. Watchers are told what the lines of a `run` changed, once it is durable and before the replies; one that leaves is gone from
-/// the list.
+/// sound. `sessions IMAGE` answers lines of many sessions, which may hold files open whatever becomes of their names. `repair IMAGE` counts
+/// anew what can be counted of the volume, in one transaction. The name of the image is the caller's, who opened it. `gen SEED COUNT` plays
+/// generated lines on a volume in memory, and leaves the image alone. Other words tell how the program is called. Watchers are told what the
+/// lines of a `run` or of `sessions` changed, once it is durable and before the replies; one that leaves is gone from the list.
 pub fn hfsx<R: Rig, S: LineSource, W: Watcher>(
     alloc: Global,
     words: &[String],
@@ -80,7 +83,7 @@ pub fn hfsx<R: Rig, S: LineSource, W: Watcher>(
         × (IsTrue (R.state rig.old).tells → HasNothingPending (R.state rig.old) → (capacity : ℕ) (start : Content) → Mounts (content (R.state rig.old)) capacity start
         → IsHeard result heard capacity start (R.state rig.old) (S.stream source.old) (R.state rig.new) (S.stream source.new)) }
     // Other work has no changes.
-    ensures unwatched { ¬ (AreRun (texts words.now)) → watchers.new ≡ watchers.old }
+    ensures unwatched { ¬ (AreRun (texts words.now)) → ¬ (AreSessions (texts words.now)) → watchers.new ≡ watchers.old }
     ensures end { AreRun (texts words.now) → IsTrue (S.stream source.old).tells → result ≡ Status.Done → (S.stream source.new).left ≡ [] }
     // Status 7 stands exactly where line number 4,294,967,295 is read.
     ensures many { IsTrue (S.stream source.old).tells → result ≡ Status.TooMany → 4294967295 < length (lines (S.stream source.old).left) }
@@ -121,6 +124,11 @@ pub fn hfsx<R: Rig, S: LineSource, W: Watcher>(
     ensures repair_sound { AreRepair (texts words.now) → IsTrue (R.state rig.old).tells → HasNothingPending (R.state rig.old) → (capacity : ℕ) (start : Content) → IsMendableImage (content (R.state rig.old)) capacity start → IsSound start → result ≡ Status.Done
         → (R.state rig.new).told ≡ (R.state rig.old).told ++ repaired_text 0 }
 
+    // `sessions`: what it refuses and what it promises, whatever ends it and whenever power fails.
+    ensures sessions { AreSessions (texts words.now) → ServesSessions result (R.state rig.old) (S.stream source.old) (R.state rig.new) (S.stream source.new) }
+    // Watchers that stay are told the same changes, in order and once.
+    ensures sessions_watched { AreSessions (texts words.now) → (heard : List Change) × (AllByRecursion (λ w. W.leaves w ≡ false) watchers.old.items → AreTold W.told W.leaves heard watchers.old.items watchers.new.items) }
+
     // What is refused, and wrong words, leave the image as it was.
     ensures unwritten { (result ≡ Status.Refused) ⊎ (result ≡ Status.Usage) → (R.state rig.new).candidates ≡ (R.state rig.old).candidates }
 
@@ -133,6 +141,7 @@ pub fn hfsx<R: Rig, S: LineSource, W: Watcher>(
         Ok(Work::Run) => run(alloc, rig, source, watchers),
         Ok(Work::Check) => check(alloc, rig),
         Ok(Work::Repair) => repair(alloc, rig),
+        Ok(Work::Sessions) => serve_sessions(alloc, rig, source, watchers),
         Ok(Work::Gen { seed, count }) => generate(alloc, rig, seed, count),
         Ok(Work::Format { sectors }) => {
             if sectors == rig.sectors() {

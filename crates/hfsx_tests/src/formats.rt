@@ -7,7 +7,7 @@ use std::test::Fail;
 use test_kit::{put, run_on, sector_of};
 
 const USAGE: &str =
-    "usage: hfsx format IMAGE SECTORS | run IMAGE | check IMAGE | gen SEED COUNT | repair IMAGE\n";
+    "usage: hfsx format IMAGE SECTORS | run IMAGE | check IMAGE | gen SEED COUNT | sessions IMAGE | repair IMAGE\n";
 
 #[test]
 fn a_size_is_refused_or_formatted(rt: HostRuntime) -> Result<(), Fail> {
@@ -116,6 +116,9 @@ fn wrong_words_tell_the_usage(rt: HostRuntime) -> Result<(), Fail> {
         "check -v",
         "gen 7",
         "gen 7 8 9",
+        "sessions",
+        "sessions v.img w.img",
+        "sessions -v",
         // No number, and not that of the image.
         "gen 07 5",
         "gen 7 -5",

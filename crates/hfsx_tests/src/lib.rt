@@ -20,6 +20,8 @@ mod looks;
 #[cfg(test)]
 mod repairs;
 #[cfg(test)]
+mod sessions;
+#[cfg(test)]
 mod values;
 #[cfg(test)]
 mod watching;

@@ -58,6 +58,7 @@ is_kept tree id = list_any (λ entry. bytes_eq entry.name (decimal id)) (keepers
 abbrev pub is_seen : PlainTree → PlainEntry → Bool
 is_seen tree entry = not (is_at 2 keeping_name entry) && not (stands_in (keeping_entry tree) entry)
 
+-- the entries that are seen
 abbrev pub seen_entries : PlainTree → List PlainEntry
 seen_entries tree = kept (is_seen tree) tree.entries
 
@@ -78,6 +79,7 @@ pub record SeenNode : Type 0 where
   pub attributes : List PlainAttribute
   pub bytes : List ℕ
 
+-- what is seen of a folder or file
 abbrev pub seen_node : PlainNode → SeenNode
 seen_node node = record { id = node.id; folder = node.folder; mode = node.mode; created = node.created; attributes = node.attributes; bytes = node.bytes }
 
@@ -86,6 +88,7 @@ pub record Seen : Type 0 where
   pub entries : List PlainEntry
   pub nodes : List SeenNode
 
+-- what is seen of a tree
 abbrev pub seen : PlainTree → Seen
 seen tree = record { entries = seen_entries tree; nodes = map seen_node (kept (is_seen_node tree) tree.nodes) }
 
@@ -119,13 +122,15 @@ releases tree = map (λ entry. command.Rm (keeping_name ∷ entry.name ∷ [])) 
 abbrev pub is_own_keeper : Bool → List ℕ → ℕ → Bool
 is_own_keeper folder name id = not folder && bytes_eq name (decimal id)
 
+-- the entry keeps a file, as sessions make it
 abbrev pub is_own : PlainEntry → Bool
 is_own entry = is_own_keeper entry.folder entry.name entry.id
 
+-- what the root has under the folder's name isn't the sessions' own: it is a file, or it holds a folder or an entry whose name isn't its file's id
+abbrev pub is_taken_by : PlainTree → Option PlainEntry → Bool
+is_taken_by tree None = false
+is_taken_by tree (Some entry) = not entry.folder || list_any (λ keeper. not (is_own keeper)) (keepers tree)
+
 -- A volume isn't served where the folder's name is a file, or where the folder holds a folder or an entry whose name isn't its file's id.
 abbrev pub is_taken : PlainTree → Bool
-is_taken tree = is_taken_by (keeping_entry tree)
-  where
-    is_taken_by : Option PlainEntry → Bool
-    is_taken_by None = false
-    is_taken_by (Some entry) = not entry.folder || list_any (λ keeper. not (is_own keeper)) (keepers tree)
+is_taken tree = is_taken_by tree (keeping_entry tree)

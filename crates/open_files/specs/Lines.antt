@@ -43,6 +43,7 @@ words_act part _ = plain_act part
 abbrev pub act_of : List ℕ → Result Act Refusal
 act_of part = if is_utf8 part then words_act part (slice_split (λ b. b == 32) part) else Err BadCommand
 
+-- what is asked for behind the number of a session; without one it is no command
 abbrev pub asks_in : Option Part → Result SessionLine Refusal
 asks_in None = Err BadCommand
 asks_in (Some part) = after (λ act. record { session = part.session; act = act }) (act_of part.rest)

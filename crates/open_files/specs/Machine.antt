@@ -39,6 +39,7 @@ pub record Plan : Type 0 where
 abbrev pub only_says : List OpenFile → SessionReply → Plan
 only_says handles says = record { ahead = []; own = None; says = says; handles = handles; behind = [] }
 
+-- a line that does nothing and is told why
 abbrev pub refused : List OpenFile → Refusal → Plan
 refused handles why = only_says handles (told.Plain (reply.No why))
 
@@ -49,6 +50,7 @@ pub record Taken : Type 0 where
   pub path : List (List ℕ)
   pub id : ℕ
 
+-- the name of what a path reaches, if that is a file
 abbrev pub taken_entry : List (List ℕ) → Result PlainEntry Refusal → Option Taken
 taken_entry path (Ok entry) = if entry.folder then None else Some (record { path = path; id = entry.id })
 taken_entry path (Err why) = None
@@ -58,6 +60,7 @@ abbrev pub replaced : ℕ → Option PlainEntry → Result PlainEntry Refusal
 replaced moved None = Err refusal.NotFound
 replaced moved (Some entry) = if entry.id == moved then Err refusal.NotFound else Ok entry
 
+-- The name that a command takes away from a file, if it takes one: that of `rm`, or the one that `mv` gives to another.
 abbrev pub taken_by : PlainTree → Command → Option Taken
 taken_by tree (command.Rm path) = taken_entry path (reached tree path)
 taken_by tree (command.Mv from to) = taken_entry to (then_ (to_mv tree from to) (λ pair. replaced pair.0.id pair.1.found))
@@ -67,6 +70,7 @@ taken_by tree _ = None
 abbrev pub is_last_of_open : Machine → Taken → Bool
 is_last_of_open machine taken = (seen_names machine.tree taken.id == 1) && is_held machine.handles taken.id
 
+-- what saves the file whose name is taken, where it is the last seen one of a file that is open
 abbrev pub saves_taken : Machine → Option Taken → List Command
 saves_taken machine None = []
 saves_taken machine (Some taken) = if is_last_of_open machine taken then saves machine.tree taken.path taken.id else []
@@ -75,6 +79,7 @@ saves_taken machine (Some taken) = if is_last_of_open machine taken then saves m
 abbrev pub saves_for : Machine → Command → List Command
 saves_for machine asked = if refuses machine.tree (Ok asked) then [] else saves_taken machine (taken_by machine.tree asked)
 
+-- what a command of the plain language does: the saves ahead of it and the command, unless it names the keeping folder
 abbrev pub plan_plain : Machine → Command → Plan
 plan_plain machine asked = if names_keeping asked then refused machine.handles refusal.Private
     else record { ahead = saves_for machine asked; own = Some asked; says = told.Plain reply.Ok; handles = machine.handles; behind = [] }
@@ -87,10 +92,12 @@ to_open tree path = if is_private_path path then Err refusal.Private
     else if is_keeping_path path then Err refusal.Private
     else then_ (to_node tree path) (λ node. unless node.folder refusal.IsFolder node)
 
+-- the file is open under this handle, unless the session has as many as it may have
 abbrev pub open_at : Machine → ℕ → ℕ → Option ℕ → Plan
 open_at machine session id None = only_says machine.handles told.TooManyOpen
 open_at machine session id (Some handle) = only_says (with_handle (record { session = session; handle = handle; file = id }) machine.handles) (told.Opened handle)
 
+-- what `open` does, by the file that its path names
 abbrev pub plan_open : Machine → ℕ → Result PlainNode Refusal → Plan
 plan_open machine session (Err why) = refused machine.handles why
 plan_open machine session (Ok file) = open_at machine session file.id (free_handle machine.handles session)
@@ -100,6 +107,7 @@ abbrev pub bytes_of : Option PlainNode → List ℕ
 bytes_of None = []
 bytes_of (Some file) = file.bytes
 
+-- what `hread` does, by the file of its handle
 abbrev pub plan_read : Machine → ℕ → ℕ → ℕ → Option ℕ → Plan
 plan_read machine handle from long None = only_says machine.handles (told.NoHandle handle)
 plan_read machine handle from long (Some id) = if nat_lt most_bytes long then refused machine.handles refusal.TooLarge
@@ -117,6 +125,7 @@ releases_of tree handles (id ∷ ids) = if not (is_held handles id || list_any (
 abbrev pub closes : Machine → List OpenFile → List ℕ → Plan
 closes machine left files = record { ahead = []; own = None; says = told.Plain reply.Ok; handles = left; behind = releases_of machine.tree left files }
 
+-- what `close` does, by the file of its handle
 abbrev pub plan_close : Machine → ℕ → ℕ → Option ℕ → Plan
 plan_close machine session handle None = only_says machine.handles (told.NoHandle handle)
 plan_close machine session handle (Some id) = closes machine (without_handle session handle machine.handles) (id ∷ [])
@@ -131,6 +140,7 @@ plan_act machine session (act.HandleRead handle from long) = plan_read machine h
 plan_act machine session (act.Close handle) = plan_close machine session handle (file_of machine.handles session handle)
 plan_act machine session act.End = closes machine (without_session session machine.handles) (files_of session machine.handles)
 
+-- what a line does, by what it asks for
 abbrev pub plan_of : Machine → Result SessionLine Refusal → Plan
 plan_of machine (Ok asks) = plan_act machine asks.session asks.act
 plan_of machine (Err why) = refused machine.handles why

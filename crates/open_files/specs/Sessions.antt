@@ -19,6 +19,7 @@ behind_digits digits line = if begins_with digits line then Some (drop (length d
 abbrev pub behind_number : ℕ → List ℕ → Option (List ℕ)
 behind_number number line = behind_digits (decimal number) line
 
+-- the part behind this number, or else the other one
 abbrev pub part_behind : ℕ → Option (List ℕ) → Option Part → Option Part
 part_behind number (Some rest) other = Some (record { session = number; rest = rest })
 part_behind number None other = other

@@ -1,5 +1,6 @@
 //! The keeping folder's names, and the commands that save and release a file.
 ghost use Rattle.std.specs.Prelude.{◌≡◌, decimal, IfOk};
+ghost use Rattle.std.specs.Str.{bytes_eq};
 ghost use Rattle.open_files.specs.Keeping.{is_keeping_path, is_own_keeper, kept_path, keeping_name, keeping_path, names_keeping, release, saves_by};
 
 use crate::copy_path;
@@ -67,9 +68,16 @@ pub fn is_keeping_path(path: &Path) -> bool
     ensures { result ≡ is_keeping_path path.now }
 {
     match path.get(0) {
-        Some(name) => name.as_slice() == KEEPING_NAME.as_slice(),
+        Some(name) => is_keeping_name(name),
         None => false,
     }
+}
+
+/// Whether the name is the keeping folder's, where it stands in the root.
+pub fn is_keeping_name(name: &Units) -> bool
+    ensures { result ≡ bytes_eq name.now keeping_name }
+{
+    name.as_slice() == KEEPING_NAME.as_slice()
 }
 
 /// Whether a command names the keeping folder, or something in it.

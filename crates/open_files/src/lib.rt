@@ -17,7 +17,8 @@ mod table;
 pub use act::{Act, OpenFile, SessionLine, SessionReply};
 pub use copies::{copy_name, copy_path};
 pub use keeping::{
-    is_keeping_path, is_own_keeper, keeping_path, kept_path, names_keeping, release, saves,
+    is_keeping_name, is_keeping_path, is_own_keeper, keeping_path, kept_path, names_keeping,
+    release, saves,
 };
 pub use line::read_session;
 pub use print::print_session_reply;

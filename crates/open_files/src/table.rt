@@ -100,10 +100,11 @@ impl Table {
         self.files.iter().any(|opened| opened.file == id)
     }
 
-    /// The session's least handle; none where it has none.
+    /// The session's least handle; none where it has none. The handles stand in the order of their sessions and numbers, none of them twice.
     pub fn first(&self, session: u8) -> Option<u32>
         ensures first { result ≡ first_handle self.now session }
         ensures least { IfSome result (IsLeast self.now session) }
+        ensures order { are_in_order self.now ≡ true }
     {
         first_of(self.files.as_slice(), session)
     }

@@ -104,7 +104,8 @@ module _ (v w : Volume) (capacity : ℕ) (committed now : Content) (shrunk : Opt
             (was.told ∙ sym (told_alike capacity line said now next a.content b.content known.alike f.alike f.still number));
       }
 
-  stays : b.content ≡ a.content → shrunk_of w ≡ shrunk_of v → Stays (λ was is file. Knows w capacity was is file b) committed now shrunk b
+  -- it only looked
+  pub stays : b.content ≡ a.content → shrunk_of w ≡ shrunk_of v → Stays (λ was is file. Knows w capacity was is file b) committed now shrunk b
   stays same kept =
       let f = follow v w capacity committed now shrunk a b known below reads heads leaves in
       let is : next ≡ now = f.still same in

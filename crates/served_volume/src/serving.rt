@@ -9,7 +9,7 @@ use crate::tidied::next_of;
 use hfs_language::Command;
 use hfs_serving::{Ground, Next, Performed, Recalled, Volume};
 use hfs_volume::aside_is_free;
-use hx_bytes::Trouble;
+use hx_bytes::{Bytes, Trouble};
 use std::alloc::Global;
 use volume_step::tidy;
 
@@ -63,6 +63,21 @@ impl Volume for ServedVolume {
             Ok(outcome) => Ok(performed(outcome)),
             Err(trouble) => Err(trouble),
         }
+    }
+
+    fn read_id<G: Ground>(
+        &mut self,
+        base: &mut G,
+        id: u32,
+        from: u64,
+        long: u32,
+    ) -> Result<Option<Bytes>, Trouble> {
+        if self.is_elsewhere(base) {
+            return Err(Trouble::Memory);
+        }
+        let read = self.volume.read_id(self.alloc, base, id, from, long);
+        base.look();
+        read
     }
 
     fn recall<G: Ground>(&self, _base: &G) -> Recalled {

@@ -54,7 +54,7 @@ module _ (v : Volume) (content : Content) (holds : HoldsTrees v content) (settle
         number = refl;
       }
 
-  found_is : (e : Placed) → Contains (entries_of (records_of (volume_of content))) e → entry_by_id (volume_of content).catalog_pairs (id_of e) ≡ Some (record { parent = e.parent; name = e.name; rec = e.value })
+  pub found_is : (e : Placed) → Contains (entries_of (records_of (volume_of content))) e → entry_by_id (volume_of content).catalog_pairs (id_of e) ≡ Some (record { parent = e.parent; name = e.name; rec = e.value })
   found_is e stands = entry_is (volume_of content).catalog_pairs settled.sound.entries.threads (settled_sorted v content holds settled) (short_names (volume_of content).catalog_pairs keys) e stands
 
   module _ (id : ℕ) (node : PlainNode) (there : Contains (tree_of content).nodes node) (number : node.id ≡ id) where

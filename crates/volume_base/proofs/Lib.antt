@@ -20,6 +20,7 @@ pub mod Entered
 pub mod Extending
 pub mod Facts
 pub mod FileBytes
+pub mod FilesById
 pub mod FilesKept
 pub mod Fitted
 pub mod FoundEntry

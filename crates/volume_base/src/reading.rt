@@ -1,5 +1,5 @@
 //! `read`: bytes of a file.
-ghost use Rattle.std.specs.Prelude.{◌≡◌, ◌≤◌, ◌<◌, ◌*◌, ◌/◌, ◌%◌, true, Ok, IsTrue, IfOk, length, take, drop};
+ghost use Rattle.std.specs.Prelude.{◌≡◌, ◌≤◌, ◌<◌, ◌*◌, ◌/◌, ◌%◌, false, true, Ok, Some, IsTrue, IfOk, length, take, drop};
 ghost use Rattle.std.specs.List.{All, list_all};
 ghost use Rattle.btree_edit.specs.Causes.{HasTroubleCause};
 ghost use Rattle.btree_file.specs.Frame.{ReadsSpace};
@@ -9,15 +9,18 @@ ghost use Rattle.file_io.specs.Bytes.{IsBlockSize, fork_bytes};
 ghost use Rattle.fork_map.specs.Blocks.{blocks_of, fork_sectors};
 ghost use Rattle.hfs_language.specs.Written.{FitsPath};
 ghost use Rattle.hfs_language.specs.declared.command.Command.TheVariants as command;
+ghost use Rattle.hfs_model.specs.Plain.{node_at};
 ghost use Rattle.hfs_model.specs.Step.{step_line};
+ghost use Rattle.hfs_model.specs.declared.plain.PlainNode.{PlainNode};
 ghost use Rattle.hfs_volume.specs.Content.{volume_of, records_of};
 ghost use Rattle.hfs_volume.specs.TreeOf.{tree_of, file_bytes};
 ghost use Rattle.volume_base.specs.Frame.{Looked, Serves};
 ghost use Rattle.volume_base.specs.Lists.{lists_of};
 ghost use Rattle.volume_base.specs.Looking.{IsCatalogOver, ReadsTree};
 ghost use Rattle.volume_base.specs.Opening.{ends_inside};
-ghost use Rattle.volume_base.specs.Reading.{HasFile, to_read, file_in};
+ghost use Rattle.volume_base.specs.Reading.{HasFile, bytes_by_id, file_in_record, file_of, to_read, file_in};
 
+use crate::entries::Entry;
 use crate::extents::inside_or_none;
 use crate::looking::load_extents;
 use crate::names::is_private_path;
@@ -26,7 +29,7 @@ use crate::opening::DATA;
 use crate::volume::Volume;
 use btree_edit::Desk;
 use btree_file::TreeFile;
-use cat_records::FileRecord;
+use cat_records::{CatRecord, FileRecord};
 use file_io::read;
 use fork_map::ExtentList;
 use hfs_language::{Path, Refusal, Reply};
@@ -51,6 +54,26 @@ fn to_read(long: u64, node: &Node) -> Result<FileRecord, Refusal>
             }
             Ok(*file)
         }
+    }
+}
+
+/// The file of what was found by a CNID, if it is one.
+fn file_of(found: Option<Entry>) -> Option<FileRecord>
+    ensures { result ≡ file_of found }
+{
+    match found {
+        Some(entry) => file_in_record(&entry.rec),
+        None => None,
+    }
+}
+
+fn file_in_record(rec: &CatRecord) -> Option<FileRecord>
+    ensures { result ≡ file_in_record rec.now }
+{
+    match rec {
+        CatRecord::File(file) => Some(*file),
+        CatRecord::Folder(_) => None,
+        CatRecord::Thread(_) => None,
     }
 }
 
@@ -190,6 +213,32 @@ impl Volume {
             from,
             long as u32,
         )
+    }
+
+    /// So many bytes, 65,536 at most, of the file with a CNID from a place on, or fewer where the file ends, whatever names
+    /// the file has; none where no file of the catalog has this CNID. It changes nothing. `Memory` comes where memory is
+    /// wanting, `Disk` where a read failed.
+    pub fn read_id<P: SectorSpace>(
+        &mut self,
+        alloc: Global,
+        space: &mut P,
+        id: u32,
+        from: u64,
+        long: u32,
+    ) -> Result<Option<Bytes>, Trouble>
+        requires serves { Serves self.old (P.SectorView.space space.old) }
+        requires few { long ≤ 65536 }
+        ensures bytes { IsTrue (P.SectorView.space space.old).tells → IfOk result (λ found. found ≡ bytes_by_id (P.SectorView.space space.old).content (lists_of self.old (P.SectorView.space space.old).content).catalog_pairs id from long) }
+        // Of a file of the plain tree, these are its bytes there.
+        ensures seen { IsTrue (P.SectorView.space space.old).tells → IfOk result (λ found. (file : PlainNode) → node_at (tree_of (P.SectorView.space space.old).content) id ≡ Some file → file.folder ≡ false → found ≡ Some (take long (drop from file.bytes))) }
+        ensures looked { Looked P.SectorView.space P.SectorView.follows self.old self.new space.old space.new result }
+        ensures serves { Serves self.new (P.SectorView.space space.new) }
+    {
+        let found = self.entry(alloc, space, id)?;
+        match file_of(found) {
+            Some(file) => Ok(Some(self.read_file(alloc, space, &file, from, u64::from(long))?)),
+            None => Ok(None),
+        }
     }
 
     /// The reply to `read`: so many bytes, 65,536 at most, of the file that a path stands for, from a place on, or fewer where

@@ -10,4 +10,4 @@ mod reading;
 mod slots;
 
 pub use asker::Asker;
-pub use looking::look_into;
+pub use looking::{look_into, look_through};

@@ -54,8 +54,9 @@ pub fn look_into<C: Checker, D: SectorDisk, A: Asker>(
     }
 }
 
-// Answers commands from what an image with this plan stands for.
-fn look_through<D: SectorDisk, A: Asker>(
+/// Answers the commands that are asked, to the last, from what an image stands for that was found with this plan, as `look_into` does behind its
+/// check. The image is only read.
+pub fn look_through<D: SectorDisk, A: Asker>(
     alloc: Global,
     plan: &Plan,
     disk: &mut D,

@@ -17,4 +17,5 @@ returns c =
     let second = c.in_ok-subcommand-2.ensures.shape c.in_ok-with_one.ensures.local ∙ ap₂ under first c.in_ok-with_one.ensures.app in
     let third = c.in_ok-subcommand-3.ensures.shape c.in_ok-with_one-2.ensures.local ∙ ap₂ under second c.in_ok-with_one-2.ensures.app in
     let fourth = c.in_ok-subcommand-4.ensures.shape c.in_ok-with_two-2.ensures.local ∙ ap₂ under third c.in_ok-with_two-2.ensures.app in
-    IfOk-weaker c.subcommand-5.result _ _ (λ r h. h.shape c.in_ok-with_one-3.ensures.local ∙ ap₂ under fourth c.in_ok-with_one-3.ensures.app) c.subcommand-5.ensures
+    let fifth = c.in_ok-subcommand-5.ensures.shape c.in_ok-with_one-3.ensures.local ∙ ap₂ under fourth c.in_ok-with_one-3.ensures.app in
+    IfOk-weaker c.subcommand-6.result _ _ (λ r h. h.shape c.in_ok-with_one-4.ensures.local ∙ ap₂ under fifth c.in_ok-with_one-4.ensures.app) c.subcommand-6.ensures

@@ -9,8 +9,9 @@ use Rattle.cli_words.specs.declared.named.Work.TheVariants.{Wrong}
 use Rattle.hfs_serving.proofs.Served.{reads_heard, reads_keep}
 use Rattle.sector_disk.proofs.Writing.{reads_none}
 use Rattle.watchers.proofs.Tellings.{told_nothing}
-use Rattle.cli_words.proofs.Usage.{in_use, no_check, no_check_of_gen, no_check_of_repair, no_format, no_format_of_gen, no_format_of_repair, no_repair_of_gen, no_run_of_gen, no_run_of_repair, not_both, not_format, same_count, same_sectors, same_seed}
+use Rattle.cli_words.proofs.Usage.{in_use, no_check, no_check_of_gen, no_check_of_repair, no_check_of_sessions, no_format, no_format_of_gen, no_format_of_repair, no_format_of_sessions, no_gen_of_sessions, no_repair_of_gen, no_repair_of_sessions, no_run_of_gen, no_run_of_repair, no_run_of_sessions, not_both, not_format, same_count, same_sectors, same_seed}
 use Rattle.hfsx_server.proofs.Repaired.{keeps_unread}
+use Rattle.hfsx_server.proofs.SessionRuns.{sessions_unserved}
 use Rattle.hfsx_server.proofs.top.hfsx.Goals as goal
 
 named : (words : List (List ℕ)) (read work : Work) → read ≡ work → AreWordsOf words read → AreWordsOf words work
@@ -22,8 +23,9 @@ returns-else-sectors-clause-usage g c =
       λ _ right. ⊎_elim (λ run. not_both words c.in-Ok-Format.sectors run (named (texts c.args.words.now) _ _ c.in-Ok-Format.field-0-is c.in-Ok-Format.ensures.work))
           (λ rest. ⊎_elim (λ check. no_format words c.in-Ok-Format.sectors check (named (texts c.args.words.now) _ _ c.in-Ok-Format.field-0-is c.in-Ok-Format.ensures.work))
           (λ further. ⊎_elim (λ repair. no_format_of_repair words c.in-Ok-Format.sectors repair (named (texts c.args.words.now) _ _ c.in-Ok-Format.field-0-is c.in-Ok-Format.ensures.work))
+          (λ later. ⊎_elim (λ sessions. no_format_of_sessions words c.in-Ok-Format.sectors sessions (named (texts c.args.words.now) _ _ c.in-Ok-Format.field-0-is c.in-Ok-Format.ensures.work))
           (λ others. ⊎_elim (λ format. c.if-sectors.false (same_sectors words _ _ (named (texts c.args.words.now) _ _ c.in-Ok-Format.field-0-is c.in-Ok-Format.ensures.work) format ∙ sym c.sectors.ensures))
-          (λ gen. no_format_of_gen words _ gen.0 gen.1 (named (texts c.args.words.now) _ _ c.in-Ok-Format.field-0-is c.in-Ok-Format.ensures.work) gen.2) others) further) rest) right,
+          (λ gen. no_format_of_gen words _ gen.0 gen.1 (named (texts c.args.words.now) _ _ c.in-Ok-Format.field-0-is c.in-Ok-Format.ensures.work) gen.2) others) later) further) rest) right,
       λ _. refl,
     )
 
@@ -32,10 +34,10 @@ returns-else-sectors-clause-format_refused g c format =
     absurd (c.if-sectors.false (same_sectors (texts c.args.words.now) _ _ (named (texts c.args.words.now) _ _ c.in-Ok-Format.field-0-is c.in-Ok-Format.ensures.work) format ∙ sym c.sectors.ensures))
 
 pub returns-in-Ok-Wrong-clause-usage : goal.returns-in-Ok-Wrong-clause-usage
-returns-in-Ok-Wrong-clause-usage g c = (λ _ right. ⊎_elim (λ run. (named (texts c.args.words.now) _ _ c.in-Ok-Wrong.field-0-is c.in-Ok-Wrong.ensures.work).0 run) (λ rest. ⊎_elim (λ check. (named (texts c.args.words.now) _ _ c.in-Ok-Wrong.field-0-is c.in-Ok-Wrong.ensures.work).1 check) (λ further. ⊎_elim (λ repair. (named (texts c.args.words.now) _ _ c.in-Ok-Wrong.field-0-is c.in-Ok-Wrong.ensures.work).2 repair) (λ others. ⊎_elim (λ format. (named (texts c.args.words.now) _ _ c.in-Ok-Wrong.field-0-is c.in-Ok-Wrong.ensures.work).3 _ format) (λ gen. (named (texts c.args.words.now) _ _ c.in-Ok-Wrong.field-0-is c.in-Ok-Wrong.ensures.work).4 gen.0 gen.1 gen.2) others) further) rest) right, λ _. refl)
+returns-in-Ok-Wrong-clause-usage g c = (λ _ right. ⊎_elim (λ run. (named (texts c.args.words.now) _ _ c.in-Ok-Wrong.field-0-is c.in-Ok-Wrong.ensures.work).0 run) (λ rest. ⊎_elim (λ check. (named (texts c.args.words.now) _ _ c.in-Ok-Wrong.field-0-is c.in-Ok-Wrong.ensures.work).1 check) (λ further. ⊎_elim (λ repair. (named (texts c.args.words.now) _ _ c.in-Ok-Wrong.field-0-is c.in-Ok-Wrong.ensures.work).2 repair) (λ later. ⊎_elim (λ sessions. (named (texts c.args.words.now) _ _ c.in-Ok-Wrong.field-0-is c.in-Ok-Wrong.ensures.work).3 sessions) (λ others. ⊎_elim (λ format. (named (texts c.args.words.now) _ _ c.in-Ok-Wrong.field-0-is c.in-Ok-Wrong.ensures.work).4 _ format) (λ gen. (named (texts c.args.words.now) _ _ c.in-Ok-Wrong.field-0-is c.in-Ok-Wrong.ensures.work).5 gen.0 gen.1 gen.2) others) later) further) rest) right, λ _. refl)
 
 pub returns-in-Ok-Wrong-clause-format_refused : goal.returns-in-Ok-Wrong-clause-format_refused
-returns-in-Ok-Wrong-clause-format_refused g c format = absurd ((named (texts c.args.words.now) _ _ c.in-Ok-Wrong.field-0-is c.in-Ok-Wrong.ensures.work).3 _ format)
+returns-in-Ok-Wrong-clause-format_refused g c format = absurd ((named (texts c.args.words.now) _ _ c.in-Ok-Wrong.field-0-is c.in-Ok-Wrong.ensures.work).4 _ format)
 
 pub returns-then-sectors-clause-unwritten : goal.returns-then-sectors-clause-unwritten
 returns-then-sectors-clause-unwritten g c either = ⊎_elim (λ refused. (c.format.ensures.refusal refused).candidates) (λ usage. absurd (c.format.ensures.no_usage usage)) either
@@ -261,13 +263,13 @@ pub returns-else-sectors-clause-gen_sound : goal.returns-else-sectors-clause-gen
 returns-else-sectors-clause-gen_sound g c seed count gen = absurd (no_format_of_gen (texts c.args.words.now) _ seed count (named (texts c.args.words.now) _ _ c.in-Ok-Format.field-0-is c.in-Ok-Format.ensures.work) gen)
 
 pub returns-in-Ok-Wrong-clause-gen_told : goal.returns-in-Ok-Wrong-clause-gen_told
-returns-in-Ok-Wrong-clause-gen_told g c seed count gen tells done = absurd ((named (texts c.args.words.now) _ _ c.in-Ok-Wrong.field-0-is c.in-Ok-Wrong.ensures.work).4 seed count gen)
+returns-in-Ok-Wrong-clause-gen_told g c seed count gen tells done = absurd ((named (texts c.args.words.now) _ _ c.in-Ok-Wrong.field-0-is c.in-Ok-Wrong.ensures.work).5 seed count gen)
 
 pub returns-in-Ok-Wrong-clause-gen_unwritten : goal.returns-in-Ok-Wrong-clause-gen_unwritten
-returns-in-Ok-Wrong-clause-gen_unwritten g c seed count gen = absurd ((named (texts c.args.words.now) _ _ c.in-Ok-Wrong.field-0-is c.in-Ok-Wrong.ensures.work).4 seed count gen)
+returns-in-Ok-Wrong-clause-gen_unwritten g c seed count gen = absurd ((named (texts c.args.words.now) _ _ c.in-Ok-Wrong.field-0-is c.in-Ok-Wrong.ensures.work).5 seed count gen)
 
 pub returns-in-Ok-Wrong-clause-gen_sound : goal.returns-in-Ok-Wrong-clause-gen_sound
-returns-in-Ok-Wrong-clause-gen_sound g c seed count gen = absurd ((named (texts c.args.words.now) _ _ c.in-Ok-Wrong.field-0-is c.in-Ok-Wrong.ensures.work).4 seed count gen)
+returns-in-Ok-Wrong-clause-gen_sound g c seed count gen = absurd ((named (texts c.args.words.now) _ _ c.in-Ok-Wrong.field-0-is c.in-Ok-Wrong.ensures.work).5 seed count gen)
 
 pub returns-in-Ok-Gen-clause-gen_told : goal.returns-in-Ok-Gen-clause-gen_told
 returns-in-Ok-Gen-clause-gen_told g c seed count gen tells done = subst (λ (n : ℕ). ToldPlayed n count (g.R.SectorDisk.state c.args.rig.now) (g.R.SectorDisk.state c.generate.new.rig)) (same_seed (texts c.args.words.now) c.in-Ok-Gen.seed seed c.in-Ok-Gen.count count (named (texts c.args.words.now) _ _ c.in-Ok-Gen.field-0-is c.in-Ok-Gen.ensures.work) gen) (subst (λ (n : ℕ). ToldPlayed c.in-Ok-Gen.seed n (g.R.SectorDisk.state c.args.rig.now) (g.R.SectorDisk.state c.generate.new.rig)) (same_count (texts c.args.words.now) c.in-Ok-Gen.seed seed c.in-Ok-Gen.count count (named (texts c.args.words.now) _ _ c.in-Ok-Gen.field-0-is c.in-Ok-Gen.ensures.work) gen) (c.generate.ensures.told tells done))
@@ -297,7 +299,7 @@ pub returns-in-Ok-Run-clause-watched : goal.returns-in-Ok-Run-clause-watched
 returns-in-Ok-Run-clause-watched g c run = c.run.ensures.watched
 
 pub returns-in-Ok-Run-clause-unwatched : goal.returns-in-Ok-Run-clause-unwatched
-returns-in-Ok-Run-clause-unwatched g c none = absurd (none (named (texts c.args.words.now) _ _ c.in-Ok-Run.field-0-is c.in-Ok-Run.ensures.work))
+returns-in-Ok-Run-clause-unwatched g c none _ = absurd (none (named (texts c.args.words.now) _ _ c.in-Ok-Run.field-0-is c.in-Ok-Run.ensures.work))
 
 -- ---- no memory to read the words
 
@@ -307,9 +309,10 @@ returns-in-Format-clause-usage g c =
       λ is right. c.refuse_format.ensures.usage.0 is (⊎_elim (λ run. absurd (not_both words c.in-Format.sectors run c.in-Format.ensures))
           (λ rest. ⊎_elim (λ check. absurd (no_format words c.in-Format.sectors check c.in-Format.ensures))
           (λ further. ⊎_elim (λ repair. absurd (no_format_of_repair words c.in-Format.sectors repair c.in-Format.ensures))
+          (λ later. ⊎_elim (λ sessions. absurd (no_format_of_sessions words c.in-Format.sectors sessions c.in-Format.ensures))
           (λ others. ⊎_elim (λ format. same_sectors words _ _ c.in-Format.ensures format)
-          (λ gen. absurd (no_format_of_gen words _ gen.0 gen.1 c.in-Format.ensures gen.2)) others) further) rest) right),
-      λ other. c.refuse_format.ensures.usage.1 (λ same. other (inr (inr (inr (inl (subst (AreFormat words) same c.in-Format.ensures)))))),
+          (λ gen. absurd (no_format_of_gen words _ gen.0 gen.1 c.in-Format.ensures gen.2)) others) later) further) rest) right),
+      λ other. c.refuse_format.ensures.usage.1 (λ same. other (inr (inr (inr (inr (inl (subst (AreFormat words) same c.in-Format.ensures))))))),
     )
 
 pub returns-in-Format-clause-format_refused : goal.returns-in-Format-clause-format_refused
@@ -560,3 +563,149 @@ pub returns-in_default-clause-repair_keeps : goal.returns-in_default-clause-repa
 returns-in_default-clause-repair_keeps g c repair tells settled capacity start mendable =
     let here = g.R.SectorDisk.state c.args.rig.now in
     keeps_unread capacity start here here settled (g.met.R.SectorDisk.only_now c.args.rig.now) (reads_none here) mendable
+
+-- ---- sessions
+
+pub returns-then-sectors-clause-sessions : goal.returns-then-sectors-clause-sessions
+returns-then-sectors-clause-sessions g c sessions = absurd (no_format_of_sessions (texts c.args.words.now) c.in-Ok-Format.sectors sessions (named (texts c.args.words.now) _ _ c.in-Ok-Format.field-0-is c.in-Ok-Format.ensures.work))
+
+pub returns-else-sectors-clause-sessions : goal.returns-else-sectors-clause-sessions
+returns-else-sectors-clause-sessions g c sessions = absurd (no_format_of_sessions (texts c.args.words.now) c.in-Ok-Format.sectors sessions (named (texts c.args.words.now) _ _ c.in-Ok-Format.field-0-is c.in-Ok-Format.ensures.work))
+
+pub returns-in-Ok-Run-clause-sessions : goal.returns-in-Ok-Run-clause-sessions
+returns-in-Ok-Run-clause-sessions g c sessions = absurd (no_run_of_sessions (texts c.args.words.now) sessions (named (texts c.args.words.now) _ _ c.in-Ok-Run.field-0-is c.in-Ok-Run.ensures.work))
+
+pub returns-in-Ok-Check-clause-sessions : goal.returns-in-Ok-Check-clause-sessions
+returns-in-Ok-Check-clause-sessions g c sessions = absurd (no_check_of_sessions (texts c.args.words.now) sessions (named (texts c.args.words.now) _ _ c.in-Ok-Check.field-0-is c.in-Ok-Check.ensures.work))
+
+pub returns-in-Ok-Repair-clause-sessions : goal.returns-in-Ok-Repair-clause-sessions
+returns-in-Ok-Repair-clause-sessions g c sessions = absurd (no_repair_of_sessions (texts c.args.words.now) sessions (named (texts c.args.words.now) _ _ c.in-Ok-Repair.field-0-is c.in-Ok-Repair.ensures.work))
+
+pub returns-in-Ok-Gen-clause-sessions : goal.returns-in-Ok-Gen-clause-sessions
+returns-in-Ok-Gen-clause-sessions g c sessions = absurd (no_gen_of_sessions (texts c.args.words.now) _ _ sessions (named (texts c.args.words.now) _ _ c.in-Ok-Gen.field-0-is c.in-Ok-Gen.ensures.work))
+
+pub returns-in-Ok-Wrong-clause-sessions : goal.returns-in-Ok-Wrong-clause-sessions
+returns-in-Ok-Wrong-clause-sessions g c sessions = absurd ((named (texts c.args.words.now) _ _ c.in-Ok-Wrong.field-0-is c.in-Ok-Wrong.ensures.work).3 sessions)
+
+pub returns-in-Format-clause-sessions : goal.returns-in-Format-clause-sessions
+returns-in-Format-clause-sessions g c sessions = absurd (no_format_of_sessions (texts c.args.words.now) c.in-Format.sectors sessions c.in-Format.ensures)
+
+pub returns-then-sectors-clause-sessions_watched : goal.returns-then-sectors-clause-sessions_watched
+returns-then-sectors-clause-sessions_watched g c sessions = absurd (no_format_of_sessions (texts c.args.words.now) c.in-Ok-Format.sectors sessions (named (texts c.args.words.now) _ _ c.in-Ok-Format.field-0-is c.in-Ok-Format.ensures.work))
+
+pub returns-else-sectors-clause-sessions_watched : goal.returns-else-sectors-clause-sessions_watched
+returns-else-sectors-clause-sessions_watched g c sessions = absurd (no_format_of_sessions (texts c.args.words.now) c.in-Ok-Format.sectors sessions (named (texts c.args.words.now) _ _ c.in-Ok-Format.field-0-is c.in-Ok-Format.ensures.work))
+
+pub returns-in-Ok-Run-clause-sessions_watched : goal.returns-in-Ok-Run-clause-sessions_watched
+returns-in-Ok-Run-clause-sessions_watched g c sessions = absurd (no_run_of_sessions (texts c.args.words.now) sessions (named (texts c.args.words.now) _ _ c.in-Ok-Run.field-0-is c.in-Ok-Run.ensures.work))
+
+pub returns-in-Ok-Check-clause-sessions_watched : goal.returns-in-Ok-Check-clause-sessions_watched
+returns-in-Ok-Check-clause-sessions_watched g c sessions = absurd (no_check_of_sessions (texts c.args.words.now) sessions (named (texts c.args.words.now) _ _ c.in-Ok-Check.field-0-is c.in-Ok-Check.ensures.work))
+
+pub returns-in-Ok-Repair-clause-sessions_watched : goal.returns-in-Ok-Repair-clause-sessions_watched
+returns-in-Ok-Repair-clause-sessions_watched g c sessions = absurd (no_repair_of_sessions (texts c.args.words.now) sessions (named (texts c.args.words.now) _ _ c.in-Ok-Repair.field-0-is c.in-Ok-Repair.ensures.work))
+
+pub returns-in-Ok-Gen-clause-sessions_watched : goal.returns-in-Ok-Gen-clause-sessions_watched
+returns-in-Ok-Gen-clause-sessions_watched g c sessions = absurd (no_gen_of_sessions (texts c.args.words.now) _ _ sessions (named (texts c.args.words.now) _ _ c.in-Ok-Gen.field-0-is c.in-Ok-Gen.ensures.work))
+
+pub returns-in-Ok-Wrong-clause-sessions_watched : goal.returns-in-Ok-Wrong-clause-sessions_watched
+returns-in-Ok-Wrong-clause-sessions_watched g c sessions = absurd ((named (texts c.args.words.now) _ _ c.in-Ok-Wrong.field-0-is c.in-Ok-Wrong.ensures.work).3 sessions)
+
+pub returns-in-Format-clause-sessions_watched : goal.returns-in-Format-clause-sessions_watched
+returns-in-Format-clause-sessions_watched g c sessions = absurd (no_format_of_sessions (texts c.args.words.now) c.in-Format.sectors sessions c.in-Format.ensures)
+
+pub returns-in-Ok-Sessions-clause-format_refused : goal.returns-in-Ok-Sessions-clause-format_refused
+returns-in-Ok-Sessions-clause-format_refused g c format = absurd (no_format_of_sessions (texts c.args.words.now) _ (named (texts c.args.words.now) _ _ c.in-Ok-Sessions.field-0-is c.in-Ok-Sessions.ensures.work) format)
+
+pub returns-in-Ok-Sessions-clause-format_refusal : goal.returns-in-Ok-Sessions-clause-format_refusal
+returns-in-Ok-Sessions-clause-format_refusal g c format tells is = absurd (no_format_of_sessions (texts c.args.words.now) _ (named (texts c.args.words.now) _ _ c.in-Ok-Sessions.field-0-is c.in-Ok-Sessions.ensures.work) format)
+
+pub returns-in-Ok-Sessions-clause-format_told : goal.returns-in-Ok-Sessions-clause-format_told
+returns-in-Ok-Sessions-clause-format_told g c format tells is = absurd (no_format_of_sessions (texts c.args.words.now) _ (named (texts c.args.words.now) _ _ c.in-Ok-Sessions.field-0-is c.in-Ok-Sessions.ensures.work) format)
+
+pub returns-in-Ok-Sessions-clause-format_made : goal.returns-in-Ok-Sessions-clause-format_made
+returns-in-Ok-Sessions-clause-format_made g c format tells is = absurd (no_format_of_sessions (texts c.args.words.now) _ (named (texts c.args.words.now) _ _ c.in-Ok-Sessions.field-0-is c.in-Ok-Sessions.ensures.work) format)
+
+pub returns-in-Ok-Sessions-clause-run_refused : goal.returns-in-Ok-Sessions-clause-run_refused
+returns-in-Ok-Sessions-clause-run_refused g c run tells is = absurd (no_run_of_sessions (texts c.args.words.now) (named (texts c.args.words.now) _ _ c.in-Ok-Sessions.field-0-is c.in-Ok-Sessions.ensures.work) run)
+
+pub returns-in-Ok-Sessions-clause-run_refuses : goal.returns-in-Ok-Sessions-clause-run_refuses
+returns-in-Ok-Sessions-clause-run_refuses g c run tells none = absurd (no_run_of_sessions (texts c.args.words.now) (named (texts c.args.words.now) _ _ c.in-Ok-Sessions.field-0-is c.in-Ok-Sessions.ensures.work) run)
+
+pub returns-in-Ok-Sessions-clause-headline : goal.returns-in-Ok-Sessions-clause-headline
+returns-in-Ok-Sessions-clause-headline g c run tells settled capacity start mounts = absurd (no_run_of_sessions (texts c.args.words.now) (named (texts c.args.words.now) _ _ c.in-Ok-Sessions.field-0-is c.in-Ok-Sessions.ensures.work) run)
+
+pub returns-in-Ok-Sessions-clause-finished : goal.returns-in-Ok-Sessions-clause-finished
+returns-in-Ok-Sessions-clause-finished g c run tells settled capacity start mounts is = absurd (no_run_of_sessions (texts c.args.words.now) (named (texts c.args.words.now) _ _ c.in-Ok-Sessions.field-0-is c.in-Ok-Sessions.ensures.work) run)
+
+pub returns-in-Ok-Sessions-clause-source_stopped : goal.returns-in-Ok-Sessions-clause-source_stopped
+returns-in-Ok-Sessions-clause-source_stopped g c run tells settled capacity start mounts is = absurd (no_run_of_sessions (texts c.args.words.now) (named (texts c.args.words.now) _ _ c.in-Ok-Sessions.field-0-is c.in-Ok-Sessions.ensures.work) run)
+
+pub returns-in-Ok-Sessions-clause-many_stopped : goal.returns-in-Ok-Sessions-clause-many_stopped
+returns-in-Ok-Sessions-clause-many_stopped g c run tells settled capacity start mounts is = absurd (no_run_of_sessions (texts c.args.words.now) (named (texts c.args.words.now) _ _ c.in-Ok-Sessions.field-0-is c.in-Ok-Sessions.ensures.work) run)
+
+pub returns-in-Ok-Sessions-clause-watched : goal.returns-in-Ok-Sessions-clause-watched
+returns-in-Ok-Sessions-clause-watched g c run = absurd (no_run_of_sessions (texts c.args.words.now) (named (texts c.args.words.now) _ _ c.in-Ok-Sessions.field-0-is c.in-Ok-Sessions.ensures.work) run)
+
+pub returns-in-Ok-Sessions-clause-end : goal.returns-in-Ok-Sessions-clause-end
+returns-in-Ok-Sessions-clause-end g c run told is = absurd (no_run_of_sessions (texts c.args.words.now) (named (texts c.args.words.now) _ _ c.in-Ok-Sessions.field-0-is c.in-Ok-Sessions.ensures.work) run)
+
+pub returns-in-Ok-Sessions-clause-few : goal.returns-in-Ok-Sessions-clause-few
+returns-in-Ok-Sessions-clause-few g c run told is = absurd (no_run_of_sessions (texts c.args.words.now) (named (texts c.args.words.now) _ _ c.in-Ok-Sessions.field-0-is c.in-Ok-Sessions.ensures.work) run)
+
+pub returns-in-Ok-Sessions-clause-check_sound : goal.returns-in-Ok-Sessions-clause-check_sound
+returns-in-Ok-Sessions-clause-check_sound g c check tells is = absurd (no_check_of_sessions (texts c.args.words.now) (named (texts c.args.words.now) _ _ c.in-Ok-Sessions.field-0-is c.in-Ok-Sessions.ensures.work) check)
+
+pub returns-in-Ok-Sessions-clause-check_found : goal.returns-in-Ok-Sessions-clause-check_found
+returns-in-Ok-Sessions-clause-check_found g c check tells is = absurd (no_check_of_sessions (texts c.args.words.now) (named (texts c.args.words.now) _ _ c.in-Ok-Sessions.field-0-is c.in-Ok-Sessions.ensures.work) check)
+
+pub returns-in-Ok-Sessions-clause-check_finds : goal.returns-in-Ok-Sessions-clause-check_finds
+returns-in-Ok-Sessions-clause-check_finds g c check tells none = absurd (no_check_of_sessions (texts c.args.words.now) (named (texts c.args.words.now) _ _ c.in-Ok-Sessions.field-0-is c.in-Ok-Sessions.ensures.work) check)
+
+pub returns-in-Ok-Sessions-clause-check_unwritten : goal.returns-in-Ok-Sessions-clause-check_unwritten
+returns-in-Ok-Sessions-clause-check_unwritten g c check = absurd (no_check_of_sessions (texts c.args.words.now) (named (texts c.args.words.now) _ _ c.in-Ok-Sessions.field-0-is c.in-Ok-Sessions.ensures.work) check)
+
+pub returns-in-Ok-Sessions-clause-gen_told : goal.returns-in-Ok-Sessions-clause-gen_told
+returns-in-Ok-Sessions-clause-gen_told g c seed count gen tells done = absurd (no_gen_of_sessions (texts c.args.words.now) _ _ (named (texts c.args.words.now) _ _ c.in-Ok-Sessions.field-0-is c.in-Ok-Sessions.ensures.work) gen)
+
+pub returns-in-Ok-Sessions-clause-gen_sound : goal.returns-in-Ok-Sessions-clause-gen_sound
+returns-in-Ok-Sessions-clause-gen_sound g c seed count gen = absurd (no_gen_of_sessions (texts c.args.words.now) _ _ (named (texts c.args.words.now) _ _ c.in-Ok-Sessions.field-0-is c.in-Ok-Sessions.ensures.work) gen)
+
+pub returns-in-Ok-Sessions-clause-gen_unwritten : goal.returns-in-Ok-Sessions-clause-gen_unwritten
+returns-in-Ok-Sessions-clause-gen_unwritten g c seed count gen = absurd (no_gen_of_sessions (texts c.args.words.now) _ _ (named (texts c.args.words.now) _ _ c.in-Ok-Sessions.field-0-is c.in-Ok-Sessions.ensures.work) gen)
+
+pub returns-in-Ok-Sessions-clause-repair_refused : goal.returns-in-Ok-Sessions-clause-repair_refused
+returns-in-Ok-Sessions-clause-repair_refused g c repair tells is = absurd (no_repair_of_sessions (texts c.args.words.now) (named (texts c.args.words.now) _ _ c.in-Ok-Sessions.field-0-is c.in-Ok-Sessions.ensures.work) repair)
+
+pub returns-in-Ok-Sessions-clause-repair_refuses : goal.returns-in-Ok-Sessions-clause-repair_refuses
+returns-in-Ok-Sessions-clause-repair_refuses g c repair tells none = absurd (no_repair_of_sessions (texts c.args.words.now) (named (texts c.args.words.now) _ _ c.in-Ok-Sessions.field-0-is c.in-Ok-Sessions.ensures.work) repair)
+
+pub returns-in-Ok-Sessions-clause-repair_unwritten : goal.returns-in-Ok-Sessions-clause-repair_unwritten
+returns-in-Ok-Sessions-clause-repair_unwritten g c repair tells none = absurd (no_repair_of_sessions (texts c.args.words.now) (named (texts c.args.words.now) _ _ c.in-Ok-Sessions.field-0-is c.in-Ok-Sessions.ensures.work) repair)
+
+pub returns-in-Ok-Sessions-clause-repair_keeps : goal.returns-in-Ok-Sessions-clause-repair_keeps
+returns-in-Ok-Sessions-clause-repair_keeps g c repair tells settled capacity start mendable = absurd (no_repair_of_sessions (texts c.args.words.now) (named (texts c.args.words.now) _ _ c.in-Ok-Sessions.field-0-is c.in-Ok-Sessions.ensures.work) repair)
+
+pub returns-in-Ok-Sessions-clause-repair_done : goal.returns-in-Ok-Sessions-clause-repair_done
+returns-in-Ok-Sessions-clause-repair_done g c repair tells settled capacity start mendable is = absurd (no_repair_of_sessions (texts c.args.words.now) (named (texts c.args.words.now) _ _ c.in-Ok-Sessions.field-0-is c.in-Ok-Sessions.ensures.work) repair)
+
+pub returns-in-Ok-Sessions-clause-repair_sound : goal.returns-in-Ok-Sessions-clause-repair_sound
+returns-in-Ok-Sessions-clause-repair_sound g c repair tells settled capacity start mendable sound is = absurd (no_repair_of_sessions (texts c.args.words.now) (named (texts c.args.words.now) _ _ c.in-Ok-Sessions.field-0-is c.in-Ok-Sessions.ensures.work) repair)
+
+pub returns-in-Ok-Sessions-clause-unwritten : goal.returns-in-Ok-Sessions-clause-unwritten
+returns-in-Ok-Sessions-clause-unwritten g c either = ⊎_elim (λ refused. c.serve_sessions.ensures.unwritten refused) (λ usage. absurd (c.serve_sessions.ensures.no_usage usage)) either
+
+pub returns-in-Ok-Sessions-clause-sessions : goal.returns-in-Ok-Sessions-clause-sessions
+returns-in-Ok-Sessions-clause-sessions g c sessions = c.serve_sessions.ensures.serves
+
+pub returns-in-Ok-Sessions-clause-sessions_watched : goal.returns-in-Ok-Sessions-clause-sessions_watched
+returns-in-Ok-Sessions-clause-sessions_watched g c sessions = c.serve_sessions.ensures.watched
+
+pub returns-in-Ok-Sessions-clause-unwatched : goal.returns-in-Ok-Sessions-clause-unwatched
+returns-in-Ok-Sessions-clause-unwatched g c run none = absurd (none (named (texts c.args.words.now) _ _ c.in-Ok-Sessions.field-0-is c.in-Ok-Sessions.ensures.work))
+
+pub returns-in_default-clause-sessions : goal.returns-in_default-clause-sessions
+returns-in_default-clause-sessions g c sessions = sessions_unserved (g.R.SectorDisk.state c.args.rig.now) (g.R.SectorDisk.state c.args.rig.now) (g.met.R.SectorDisk.only_now c.args.rig.now) (reads_none (g.R.SectorDisk.state c.args.rig.now)) (g.S.Source.stream c.args.source.now) _ (inr refl)
+
+pub returns-in_default-clause-sessions_watched : goal.returns-in_default-clause-sessions_watched
+returns-in_default-clause-sessions_watched g c sessions = ([], λ stay. told_nothing _ _ c.args.watchers.now.items stay)

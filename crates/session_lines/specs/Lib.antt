@@ -1,0 +1,15 @@
+pub mod Ahead
+pub mod Closings
+pub mod Doing
+pub mod Endings
+pub mod Errands
+pub mod Following
+pub mod Keepers
+pub mod Made
+pub mod Owning
+pub mod Readings
+pub mod Said
+pub mod Sessions
+pub mod Spelling
+pub mod Stages
+pub mod Turns
