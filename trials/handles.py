@@ -1,14 +1,15 @@
 """The machine of sessions, written from the page docs/commands.md and not from the program: a plain tree, and which files are open.
 
-    machine = Machine(plain.Plain())
+    machine = Machine(links.Links())
     machine.answer(b"2 open /f")         # b"ok 1"; the file stays until the handle is closed, whatever becomes of its names
 """
 
 import re
 
+import links
 import plain
 
-KEEPING = "\0HFSX Open Files".encode("utf-16-be")
+KEEPING = links.KEPT
 MOST_OPEN, MOST_SESSIONS = 256, 64
 
 
@@ -117,6 +118,9 @@ class Machine:
         return b"ok %d" % free[0]
 
     def plain(self, part):
+        # what follows links changes nothing, and sees nothing of the keeping folder
+        if part.split(b" ")[0] in (b"readlink", b"follow"):
+            return self.tree.answer(part)
         verb, words = plain.read_line(part)
         if any(isinstance(it, list) and it[:1] == [KEEPING] for it in words):
             raise plain.No("Private")
@@ -148,14 +152,14 @@ class Machine:
     # ---- what is seen
 
     def seen(self):
-        """Of each folder and file that is seen: its path, kind, id, mode, create date, attributes and bytes."""
+        """Of each folder and file that is seen: its path, kind, id, mode, create date, attributes, whether it is a symbolic link, and the bytes of both forks."""
         found = {}
 
         def walk(path, node):
             for name, it in node.entries.items():
                 if not path and name == KEEPING:
                     continue
-                found[plain.print_path(path + [name])] = (it.folder, it.id, it.mode, it.created, tuple(sorted(it.attributes.items())), bytes(it.data))
+                found[plain.print_path(path + [name])] = (it.folder, it.id, it.mode, it.created, tuple(sorted(it.attributes.items())), links.bits_of(it) == links.LINK, bytes(it.data), getattr(it, "resource", b""))
                 if it.folder:
                     walk(path + [name], it)
 

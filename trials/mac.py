@@ -62,6 +62,8 @@ class Mac(Volume):
         super().__init__(**words)
         self.marks, self.order, self.blhdr, self.transactions, self.begin, self.number = {}, "<", LIST, [], JOURNAL_HEADER, 7
         self.folders = None
+        # The byte that each free node of the catalog holds, where the header says (bit 31) that they are zero.
+        self.erased = None
         # The journal's files are invisible, and their type is the journal's.
         for number in (self.info_file, self.journal_file):
             self.entries[number]["finder"] = finder(b"jrnl", b"hfs+", IS_INVISIBLE | 0x1000)
@@ -181,7 +183,19 @@ class Mac(Volume):
         parts.append((at + self.begin, first))
         if len(text) > len(first):
             parts.append((at + JOURNAL_HEADER, text[len(first) :]))
-        return parts
+        return parts if self.erased is None else self.with_erased_nodes(parts)
+
+    def with_erased_nodes(self, parts):
+        """The parts of a volume whose header says that free nodes of the catalog are zero, and these nodes with their byte."""
+        headers = {1024, self.sectors * 512 - 1024}
+        parts = [(place, data[:4] + bytes([data[4] | 0x80]) + data[5:] if place in headers else data) for place, data in parts]
+        header = next(data for place, data in parts if place == 1024)
+        first = struct.unpack_from(">I", header, 288)[0] * self.block
+        node = next(data for place, data in parts if place == first)
+        nodes = struct.unpack_from(">I", node, 36)[0]
+        free = [it for it in range(nodes) if not node[248 + it // 8] & 0x80 >> it % 8]
+        assert free, "the catalog has no free node"
+        return parts + [(first + it * self.node, self.erased * self.node) for it in free]
 
     def take_home(self, pieces):
         """The bytes that the volume has in these pairs of a sector and a length, as blocks of a transaction; in their places stand zeros."""

@@ -3,6 +3,7 @@ pub mod BeforeEdits
 pub mod Firsts
 pub mod ForkParts
 pub mod ForkSet
+pub mod Framing
 pub mod Held
 pub mod Keys
 pub mod Lists

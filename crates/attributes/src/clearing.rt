@@ -1,17 +1,16 @@
 //! Attributes removed with all their records: one of them, or all of a folder or file, with the blocks of their values.
 ghost use Rattle.std.specs.Prelude.{◌≡◌, ◌≤◌, ◌++◌, [], IsTrue, OnOk, IfOk, count_by, length};
 ghost use Rattle.btree_node.specs.Keys.{IsAttrKey, attr_cmp, attr_file, attr_units, attr_start};
-ghost use Rattle.btree_node.specs.Store.{SameStore};
-ghost use Rattle.btree_node.specs.Tree.{IsTree, pairs_of};
+ghost use Rattle.btree_node.specs.Tree.{pairs_of};
 ghost use Rattle.btree_edit.specs.Causes.{HasTroubleCause};
-ghost use Rattle.btree_edit.specs.Desk.{IsDeskOf};
-ghost use Rattle.btree_edit.specs.Edits.{EditRoom, TakesEdits, TakesAtMost};
+ghost use Rattle.btree_edit.specs.Edits.{EditRoom};
 ghost use Rattle.hfs_model.specs.Sorted.{kept};
 ghost use Rattle.hfs_volume.specs.Changes.{AreSortedAttributes, DropsAttribute};
 ghost use Rattle.hfs_volume.specs.Commands.{DropsAttributes};
 ghost use Rattle.attributes.specs.Dropping.{DropsAll, is_first, is_named};
 ghost use Rattle.attributes.specs.Owned.{attributes_at, count_of, extents_owned, is_of};
 ghost use Rattle.attributes.specs.Values.{AreSpelled, AreValued, extents_at, records_at};
+ghost use Rattle.attributes.specs.Frame.{EditsAtMost, IsEditable};
 
 use crate::dropping::{drop_first, drop_next};
 use crate::pair::name_key;
@@ -33,9 +32,7 @@ pub(crate) fn drop_name<N: NodeStore>(
     blocks: &mut ExtentList,
 ) -> Result<u32, Trouble>
     // The least node size that the format allows the attributes file.
-    requires size { 4096 ≤ (N.state store.old).shape.node_size }
-    requires desk { IsDeskOf (N.state store.old).shape.node_size desk.old }
-    requires tree { IsTrue (N.state store.old).tells → IsTree IsAttrKey attr_cmp (N.state store.old) }
+    requires ready { IsEditable IsAttrKey attr_cmp 4096 (N.state store.old) desk.old }
     requires form { IsTrue (N.state store.old).tells → AreValued (pairs_of (N.state store.old)) }
     requires name { length name.now ≤ 127 }
     requires few { IsTrue (N.state store.old).tells → records_at (pairs_of (N.state store.old)) id name.now ≤ most }
@@ -44,14 +41,8 @@ pub(crate) fn drop_name<N: NodeStore>(
     ensures blocks { IsTrue (N.state store.old).tells → OnOk result (blocks.new ≡ blocks.old ++ extents_at (pairs_of (N.state store.old)) id name.now) }
     ensures dropped { IsTrue (N.state store.old).tells → OnOk result (DropsAttribute id name.now (pairs_of (N.state store.old)) (pairs_of (N.state store.new))) }
     ensures form { IsTrue (N.state store.old).tells → OnOk result (AreValued (pairs_of (N.state store.new))) }
-    ensures tree { IsTrue (N.state store.old).tells → OnOk result (IsTree IsAttrKey attr_cmp (N.state store.new)) }
-    ensures desk { IsDeskOf (N.state store.old).shape.node_size desk.new }
-    ensures header { IsTrue (N.state store.old).tells → (N.state store.old).header ≡ (N.state store.old).shape → OnOk result ((N.state store.new).header ≡ (N.state store.new).shape) }
-    ensures edits { OnOk result (TakesEdits most 266 (N.state store.old) (N.state store.new)) }
-    ensures takes { TakesAtMost most 266 (N.state store.old) (N.state store.new) }
-    ensures same { SameStore (N.state store.old) (N.state store.new) }
+    ensures frame { EditsAtMost N.state N.follows IsAttrKey attr_cmp most 266 store.old store.new desk.new result }
     ensures cause { HasTroubleCause (N.state store.old).faults (N.state store.new).faults result }
-    ensures below { N.follows store.old store.new }
 {
     let key = name_key(alloc, id, name)?;
     drop_under(alloc, store, desk, key.as_slice(), most, blocks)
@@ -66,9 +57,7 @@ fn drop_under<N: NodeStore>(
     most: u32,
     blocks: &mut ExtentList,
 ) -> Result<u32, Trouble>
-    requires size { 4096 ≤ (N.state store.old).shape.node_size }
-    requires desk { IsDeskOf (N.state store.old).shape.node_size desk.old }
-    requires tree { IsTrue (N.state store.old).tells → IsTree IsAttrKey attr_cmp (N.state store.old) }
+    requires ready { IsEditable IsAttrKey attr_cmp 4096 (N.state store.old) desk.old }
     requires form { IsTrue (N.state store.old).tells → AreSpelled (pairs_of (N.state store.old)) }
     requires key { IsAttrKey key.now }
     requires start { attr_start key.now ≡ 0 }
@@ -76,14 +65,8 @@ fn drop_under<N: NodeStore>(
     requires room { IsTrue (N.state store.old).tells → EditRoom most 266 (N.state store.old) }
     ensures count { IsTrue (N.state store.old).tells → IfOk result (λ count. count ≡ length (kept (is_named (attr_file key.now) (attr_units key.now)) (pairs_of (N.state store.old)))) }
     ensures dropped { IsTrue (N.state store.old).tells → OnOk result (DropsAll (is_named (attr_file key.now) (attr_units key.now)) (pairs_of (N.state store.old)) (pairs_of (N.state store.new)) blocks.old blocks.new) }
-    ensures tree { IsTrue (N.state store.old).tells → OnOk result (IsTree IsAttrKey attr_cmp (N.state store.new)) }
-    ensures desk { IsDeskOf (N.state store.old).shape.node_size desk.new }
-    ensures header { IsTrue (N.state store.old).tells → (N.state store.old).header ≡ (N.state store.old).shape → OnOk result ((N.state store.new).header ≡ (N.state store.new).shape) }
-    ensures edits { OnOk result (TakesEdits most 266 (N.state store.old) (N.state store.new)) }
-    ensures takes { TakesAtMost most 266 (N.state store.old) (N.state store.new) }
-    ensures same { SameStore (N.state store.old) (N.state store.new) }
+    ensures frame { EditsAtMost N.state N.follows IsAttrKey attr_cmp most 266 store.old store.new desk.new result }
     ensures cause { HasTroubleCause (N.state store.old).faults (N.state store.new).faults result }
-    ensures below { N.follows store.old store.new }
 {
     for dropped in 0..most {
         if !drop_first(alloc, store, desk, key, blocks)? {
@@ -102,9 +85,7 @@ pub fn drop_all<N: NodeStore>(
     most: u32,
 ) -> Result<Dropped, Trouble>
     // The least node size that the format allows the attributes file.
-    requires size { 4096 ≤ (N.state store.old).shape.node_size }
-    requires desk { IsDeskOf (N.state store.old).shape.node_size desk.old }
-    requires tree { IsTrue (N.state store.old).tells → IsTree IsAttrKey attr_cmp (N.state store.old) }
+    requires ready { IsEditable IsAttrKey attr_cmp 4096 (N.state store.old) desk.old }
     requires form { IsTrue (N.state store.old).tells → AreValued (pairs_of (N.state store.old)) }
     requires few { IsTrue (N.state store.old).tells → count_of id (pairs_of (N.state store.old)) ≤ most }
     requires room { IsTrue (N.state store.old).tells → EditRoom most 266 (N.state store.old) }
@@ -115,14 +96,8 @@ pub fn drop_all<N: NodeStore>(
     ensures dropped { IsTrue (N.state store.old).tells → OnOk result (DropsAttributes id (pairs_of (N.state store.old)) (pairs_of (N.state store.new))) }
     ensures sorted { IsTrue (N.state store.old).tells → OnOk result (AreSortedAttributes (pairs_of (N.state store.new))) }
     ensures form { IsTrue (N.state store.old).tells → OnOk result (AreValued (pairs_of (N.state store.new))) }
-    ensures tree { IsTrue (N.state store.old).tells → OnOk result (IsTree IsAttrKey attr_cmp (N.state store.new)) }
-    ensures desk { IsDeskOf (N.state store.old).shape.node_size desk.new }
-    ensures header { IsTrue (N.state store.old).tells → (N.state store.old).header ≡ (N.state store.old).shape → OnOk result ((N.state store.new).header ≡ (N.state store.new).shape) }
-    ensures edits { OnOk result (TakesEdits most 266 (N.state store.old) (N.state store.new)) }
-    ensures takes { TakesAtMost most 266 (N.state store.old) (N.state store.new) }
-    ensures same { SameStore (N.state store.old) (N.state store.new) }
+    ensures frame { EditsAtMost N.state N.follows IsAttrKey attr_cmp most 266 store.old store.new desk.new result }
     ensures cause { HasTroubleCause (N.state store.old).faults (N.state store.new).faults result }
-    ensures below { N.follows store.old store.new }
 {
     let start = name_key(alloc, id, &Units::new(alloc))?;
     let gone = drop_each(alloc, store, desk, id, start.as_slice(), most)?;
@@ -138,9 +113,7 @@ fn drop_each<N: NodeStore>(
     start: &[u8],
     most: u32,
 ) -> Result<Dropped, Trouble>
-    requires size { 4096 ≤ (N.state store.old).shape.node_size }
-    requires desk { IsDeskOf (N.state store.old).shape.node_size desk.old }
-    requires tree { IsTrue (N.state store.old).tells → IsTree IsAttrKey attr_cmp (N.state store.old) }
+    requires ready { IsEditable IsAttrKey attr_cmp 4096 (N.state store.old) desk.old }
     requires form { IsTrue (N.state store.old).tells → AreSpelled (pairs_of (N.state store.old)) }
     requires start { IsAttrKey start.now }
     requires before { (attr_file start.now ≡ id) × (attr_units start.now ≡ []) }
@@ -148,14 +121,8 @@ fn drop_each<N: NodeStore>(
     requires room { IsTrue (N.state store.old).tells → EditRoom most 266 (N.state store.old) }
     ensures dropped { IsTrue (N.state store.old).tells → IfOk result (λ gone. DropsAll (is_of id) (pairs_of (N.state store.old)) (pairs_of (N.state store.new)) [] gone.blocks) }
     ensures counted { IsTrue (N.state store.old).tells → IfOk result (λ gone. gone.count ≡ count_by is_first (kept (is_of id) (pairs_of (N.state store.old)))) }
-    ensures tree { IsTrue (N.state store.old).tells → OnOk result (IsTree IsAttrKey attr_cmp (N.state store.new)) }
-    ensures desk { IsDeskOf (N.state store.old).shape.node_size desk.new }
-    ensures header { IsTrue (N.state store.old).tells → (N.state store.old).header ≡ (N.state store.old).shape → OnOk result ((N.state store.new).header ≡ (N.state store.new).shape) }
-    ensures edits { OnOk result (TakesEdits most 266 (N.state store.old) (N.state store.new)) }
-    ensures takes { TakesAtMost most 266 (N.state store.old) (N.state store.new) }
-    ensures same { SameStore (N.state store.old) (N.state store.new) }
+    ensures frame { EditsAtMost N.state N.follows IsAttrKey attr_cmp most 266 store.old store.new desk.new result }
     ensures cause { HasTroubleCause (N.state store.old).faults (N.state store.new).faults result }
-    ensures below { N.follows store.old store.new }
 {
     let mut gone = Dropped {
         count: 0,

@@ -1,15 +1,15 @@
 //! One record removed: the first that an attribute still has, or a folder or file, with the extents that it told.
-ghost use Rattle.std.specs.Prelude.{◌≡◌, ◌≤◌, ◌<◌, ◌+◌, ◌*◌, ◌++◌, ◌↔◌, [], ◌==◌, IsTrue, OnOk, IfOk, length, if◌then◌else◌};
+ghost use Rattle.std.specs.Prelude.{◌≡◌, ◌<◌, ◌+◌, ◌*◌, [], ◌==◌, IsTrue, OnOk, IfOk, if◌then◌else◌};
 ghost use Rattle.btree_node.specs.Keys.{IsAttrKey, attr_cmp, attr_file, attr_units, attr_start};
-ghost use Rattle.btree_node.specs.Store.{SameStore};
 ghost use Rattle.btree_node.specs.Tree.{IsTree, pairs_of};
 ghost use Rattle.btree_edit.specs.Causes.{HasTroubleCause};
 ghost use Rattle.btree_edit.specs.Desk.{IsDeskOf};
 ghost use Rattle.btree_edit.specs.Reading.{ReadsNodes};
-ghost use Rattle.btree_edit.specs.Edits.{EditRoom, TakesEdits, TakesAtMost};
+ghost use Rattle.btree_edit.specs.Edits.{EditRoom};
 ghost use Rattle.attributes.specs.Dropping.{DropsCounted, DropsFirst, FindsCounted, FindsFirst, is_named};
 ghost use Rattle.attributes.specs.Owned.{is_of, IsKeyIfAny};
 ghost use Rattle.attributes.specs.Values.{AreSpelled};
+ghost use Rattle.attributes.specs.Frame.{EditsAtMost, IsEditable};
 
 use crate::edits::remove_key;
 use crate::finding::push_record;
@@ -31,23 +31,15 @@ pub(crate) fn drop_first<N: NodeStore>(
     blocks: &mut ExtentList,
 ) -> Result<bool, Trouble>
     // The least node size that the format allows the attributes file.
-    requires size { 4096 ≤ (N.state store.old).shape.node_size }
-    requires desk { IsDeskOf (N.state store.old).shape.node_size desk.old }
-    requires tree { IsTrue (N.state store.old).tells → IsTree IsAttrKey attr_cmp (N.state store.old) }
+    requires ready { IsEditable IsAttrKey attr_cmp 4096 (N.state store.old) desk.old }
     requires form { IsTrue (N.state store.old).tells → AreSpelled (pairs_of (N.state store.old)) }
     requires key { IsAttrKey key.now }
     requires start { attr_start key.now ≡ 0 }
     requires room { IsTrue (N.state store.old).tells → EditRoom 1 266 (N.state store.old) }
     ensures dropped { IsTrue (N.state store.old).tells → IfOk result (λ some. DropsFirst (is_named (attr_file key.now) (attr_units key.now)) (pairs_of (N.state store.old)) (pairs_of (N.state store.new)) blocks.old blocks.new some) }
     ensures form { IsTrue (N.state store.old).tells → OnOk result (AreSpelled (pairs_of (N.state store.new))) }
-    ensures tree { IsTrue (N.state store.old).tells → OnOk result (IsTree IsAttrKey attr_cmp (N.state store.new)) }
-    ensures desk { IsDeskOf (N.state store.old).shape.node_size desk.new }
-    ensures header { IsTrue (N.state store.old).tells → (N.state store.old).header ≡ (N.state store.old).shape → OnOk result ((N.state store.new).header ≡ (N.state store.new).shape) }
-    ensures edits { OnOk result (TakesEdits 1 266 (N.state store.old) (N.state store.new)) }
-    ensures takes { TakesAtMost 1 266 (N.state store.old) (N.state store.new) }
-    ensures same { SameStore (N.state store.old) (N.state store.new) }
+    ensures frame { EditsAtMost N.state N.follows IsAttrKey attr_cmp 1 266 store.old store.new desk.new result }
     ensures cause { HasTroubleCause (N.state store.old).faults (N.state store.new).faults result }
-    ensures below { N.follows store.old store.new }
 {
     match first_of(alloc, store, desk, key, blocks)? {
         None => Ok(false),
@@ -95,23 +87,15 @@ pub(crate) fn drop_next<N: NodeStore>(
     start: &[u8],
     gone: &mut Dropped,
 ) -> Result<bool, Trouble>
-    requires desk { IsDeskOf (N.state store.old).shape.node_size desk.old }
-    requires size { 4096 ≤ (N.state store.old).shape.node_size }
-    requires tree { IsTrue (N.state store.old).tells → IsTree IsAttrKey attr_cmp (N.state store.old) }
+    requires ready { IsEditable IsAttrKey attr_cmp 4096 (N.state store.old) desk.old }
     requires form { IsTrue (N.state store.old).tells → AreSpelled (pairs_of (N.state store.old)) }
     requires start { IsAttrKey start.now }
     requires before { (attr_file start.now ≡ id) × (attr_units start.now ≡ []) }
     requires room { IsTrue (N.state store.old).tells → EditRoom 1 266 (N.state store.old) }
     ensures dropped { IsTrue (N.state store.old).tells → IfOk result (λ some. DropsCounted (is_of id) (pairs_of (N.state store.old)) (pairs_of (N.state store.new)) gone.old gone.new some) }
     ensures form { IsTrue (N.state store.old).tells → OnOk result (AreSpelled (pairs_of (N.state store.new))) }
-    ensures tree { IsTrue (N.state store.old).tells → OnOk result (IsTree IsAttrKey attr_cmp (N.state store.new)) }
-    ensures desk { IsDeskOf (N.state store.old).shape.node_size desk.new }
-    ensures header { IsTrue (N.state store.old).tells → (N.state store.old).header ≡ (N.state store.old).shape → OnOk result ((N.state store.new).header ≡ (N.state store.new).shape) }
-    ensures edits { OnOk result (TakesEdits 1 266 (N.state store.old) (N.state store.new)) }
-    ensures takes { TakesAtMost 1 266 (N.state store.old) (N.state store.new) }
-    ensures same { SameStore (N.state store.old) (N.state store.new) }
+    ensures frame { EditsAtMost N.state N.follows IsAttrKey attr_cmp 1 266 store.old store.new desk.new result }
     ensures cause { HasTroubleCause (N.state store.old).faults (N.state store.new).faults result }
-    ensures below { N.follows store.old store.new }
 {
     match next_owned(alloc, store, desk, id, start, gone)? {
         None => Ok(false),

@@ -13,7 +13,7 @@ ghost use Rattle.attributes.specs.Values.{AreSpelled, AreValued, later_extents, 
 
 use crate::pair::{is_key_of_name, name_key};
 use crate::value::ValueAt;
-use btree_edit::{Desk, Found, find, seek, step};
+use btree_edit::{Desk, Found, look, seek, step};
 use btree_node::{AttrOrder, NodeStore};
 use cat_records::{AttrRecord, RecordFault, read_attr};
 use fork_map::ExtentList;
@@ -65,7 +65,7 @@ fn value_under<N: NodeStore>(
     ensures cause { HasTroubleCause (N.state store.old).faults (N.state store.new).faults result }
     ensures below { N.follows store.old store.new }
 {
-    match find::<N, AttrOrder>(store, desk, key)? {
+    match look::<N, AttrOrder>(store, desk, key)? {
         Found::At { .. } => value_held(alloc, store, desk, key),
         Found::Absent => Ok(None),
     }

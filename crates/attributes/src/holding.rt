@@ -10,7 +10,7 @@ ghost use Rattle.attributes.specs.Owned.{is_of};
 ghost use Rattle.attributes.specs.Values.{AreSpelled};
 
 use crate::pair::{is_key_of, is_key_of_name};
-use btree_edit::{Desk, Found, find, next};
+use btree_edit::{Desk, Found, look, next};
 use btree_node::{AttrOrder, NodeStore};
 use hx_bytes::Failed;
 
@@ -31,7 +31,7 @@ pub(crate) fn hold_first<N: NodeStore>(
     ensures cause { HasCause (N.state store.old).faults (N.state store.new).faults result }
     ensures below { N.follows store.old store.new }
 {
-    match find::<N, AttrOrder>(store, desk, key)? {
+    match look::<N, AttrOrder>(store, desk, key)? {
         Found::At { .. } => Ok(is_key_of_name(desk.key(), key)),
         Found::Absent => hold_later(store, desk, key),
     }

@@ -1,16 +1,15 @@
 //! Attributes set and deleted.
-ghost use Rattle.std.specs.Prelude.{◌≡◌, ◌≤◌, ◌<◌, ◌+◌, [], IsTrue, length, OnOk, IfOk};
+ghost use Rattle.std.specs.Prelude.{◌≡◌, ◌≤◌, ◌<◌, ◌+◌, IsTrue, length, OnOk, IfOk};
 ghost use Rattle.fork_map.specs.Blocks.{blocks_of};
 ghost use Rattle.btree_node.specs.Keys.{IsAttrKey, attr_cmp};
-ghost use Rattle.btree_node.specs.Store.{SameStore};
-ghost use Rattle.btree_node.specs.Tree.{IsTree, pairs_of};
+ghost use Rattle.btree_node.specs.Tree.{pairs_of};
 ghost use Rattle.btree_edit.specs.Causes.{HasTroubleCause};
-ghost use Rattle.btree_edit.specs.Desk.{IsDeskOf};
-ghost use Rattle.btree_edit.specs.Edits.{EditRoom, TakesEdits, TakesAtMost};
+ghost use Rattle.btree_edit.specs.Edits.{EditRoom};
 ghost use Rattle.hfs_volume.specs.Changes.{AreSortedAttributes, DropsAttribute, SetsFork};
 ghost use Rattle.hfs_volume.specs.Cost.{overflow_records};
 ghost use Rattle.hfs_volume.specs.Forks.{in_use};
 ghost use Rattle.attributes.specs.Values.{AnswersDelete, AreValued, SetsValue, extents_at, records_at, value_at};
+ghost use Rattle.attributes.specs.Frame.{EditsAtMost, IsEditable};
 
 use crate::clearing::drop_name;
 use crate::edits::{insert_pair, insert_pairs};
@@ -35,9 +34,7 @@ pub fn set<N: NodeStore>(
     most: u32,
 ) -> Result<ExtentList, Trouble>
     // The least node size that the format allows the attributes file.
-    requires size { 4096 ≤ (N.state store.old).shape.node_size }
-    requires desk { IsDeskOf (N.state store.old).shape.node_size desk.old }
-    requires tree { IsTrue (N.state store.old).tells → IsTree IsAttrKey attr_cmp (N.state store.old) }
+    requires ready { IsEditable IsAttrKey attr_cmp 4096 (N.state store.old) desk.old }
     requires form { IsTrue (N.state store.old).tells → AreValued (pairs_of (N.state store.old)) }
     requires some { 1 ≤ length name.now }
     requires name { length name.now ≤ 127 }
@@ -49,14 +46,8 @@ pub fn set<N: NodeStore>(
     ensures set { IsTrue (N.state store.old).tells → OnOk result (SetsValue id name.now value.now (pairs_of (N.state store.old)) (pairs_of (N.state store.new))) }
     ensures sorted { IsTrue (N.state store.old).tells → OnOk result (AreSortedAttributes (pairs_of (N.state store.new))) }
     ensures form { IsTrue (N.state store.old).tells → OnOk result (AreValued (pairs_of (N.state store.new))) }
-    ensures tree { IsTrue (N.state store.old).tells → OnOk result (IsTree IsAttrKey attr_cmp (N.state store.new)) }
-    ensures desk { IsDeskOf (N.state store.old).shape.node_size desk.new }
-    ensures header { IsTrue (N.state store.old).tells → (N.state store.old).header ≡ (N.state store.old).shape → OnOk result ((N.state store.new).header ≡ (N.state store.new).shape) }
-    ensures edits { OnOk result (TakesEdits (most + 1) 266 (N.state store.old) (N.state store.new)) }
-    ensures takes { TakesAtMost (most + 1) 266 (N.state store.old) (N.state store.new) }
-    ensures same { SameStore (N.state store.old) (N.state store.new) }
+    ensures frame { EditsAtMost N.state N.follows IsAttrKey attr_cmp (most + 1) 266 store.old store.new desk.new result }
     ensures cause { HasTroubleCause (N.state store.old).faults (N.state store.new).faults result }
-    ensures below { N.follows store.old store.new }
 {
     let mut blocks = ExtentList::new(alloc);
     let pair = inline_pair(alloc, id, name, value)?;
@@ -77,9 +68,7 @@ pub fn set_fork<N: NodeStore>(
     most: u32,
 ) -> Result<ExtentList, Trouble>
     // The least node size that the format allows the attributes file.
-    requires size { 4096 ≤ (N.state store.old).shape.node_size }
-    requires desk { IsDeskOf (N.state store.old).shape.node_size desk.old }
-    requires tree { IsTrue (N.state store.old).tells → IsTree IsAttrKey attr_cmp (N.state store.old) }
+    requires ready { IsEditable IsAttrKey attr_cmp 4096 (N.state store.old) desk.old }
     requires form { IsTrue (N.state store.old).tells → AreValued (pairs_of (N.state store.old)) }
     requires some { 1 ≤ length name.now }
     requires name { length name.now ≤ 127 }
@@ -94,14 +83,8 @@ pub fn set_fork<N: NodeStore>(
     ensures set { IsTrue (N.state store.old).tells → OnOk result (SetsFork id name.now size (in_use fork.now) (pairs_of (N.state store.old)) (pairs_of (N.state store.new))) }
     ensures sorted { IsTrue (N.state store.old).tells → OnOk result (AreSortedAttributes (pairs_of (N.state store.new))) }
     ensures form { IsTrue (N.state store.old).tells → OnOk result (AreValued (pairs_of (N.state store.new))) }
-    ensures tree { IsTrue (N.state store.old).tells → OnOk result (IsTree IsAttrKey attr_cmp (N.state store.new)) }
-    ensures desk { IsDeskOf (N.state store.old).shape.node_size desk.new }
-    ensures header { IsTrue (N.state store.old).tells → (N.state store.old).header ≡ (N.state store.old).shape → OnOk result ((N.state store.new).header ≡ (N.state store.new).shape) }
-    ensures edits { OnOk result (TakesEdits (most + (1 + overflow_records (length (in_use fork.now)))) 266 (N.state store.old) (N.state store.new)) }
-    ensures takes { TakesAtMost (most + (1 + overflow_records (length (in_use fork.now)))) 266 (N.state store.old) (N.state store.new) }
-    ensures same { SameStore (N.state store.old) (N.state store.new) }
+    ensures frame { EditsAtMost N.state N.follows IsAttrKey attr_cmp (most + (1 + overflow_records (length (in_use fork.now)))) 266 store.old store.new desk.new result }
     ensures cause { HasTroubleCause (N.state store.old).faults (N.state store.new).faults result }
-    ensures below { N.follows store.old store.new }
 {
     let mut blocks = ExtentList::new(alloc);
     let pairs = fork_pairs(alloc, id, name, size, fork)?;
@@ -120,9 +103,7 @@ pub fn delete<N: NodeStore>(
     most: u32,
 ) -> Result<Deleted, Trouble>
     // The least node size that the format allows the attributes file.
-    requires size { 4096 ≤ (N.state store.old).shape.node_size }
-    requires desk { IsDeskOf (N.state store.old).shape.node_size desk.old }
-    requires tree { IsTrue (N.state store.old).tells → IsTree IsAttrKey attr_cmp (N.state store.old) }
+    requires ready { IsEditable IsAttrKey attr_cmp 4096 (N.state store.old) desk.old }
     requires form { IsTrue (N.state store.old).tells → AreValued (pairs_of (N.state store.old)) }
     requires name { length name.now ≤ 127 }
     requires few { IsTrue (N.state store.old).tells → records_at (pairs_of (N.state store.old)) id name.now ≤ most }
@@ -133,14 +114,8 @@ pub fn delete<N: NodeStore>(
     ensures deleted { IsTrue (N.state store.old).tells → OnOk result (DropsAttribute id name.now (pairs_of (N.state store.old)) (pairs_of (N.state store.new))) }
     ensures sorted { IsTrue (N.state store.old).tells → OnOk result (AreSortedAttributes (pairs_of (N.state store.new))) }
     ensures form { IsTrue (N.state store.old).tells → OnOk result (AreValued (pairs_of (N.state store.new))) }
-    ensures tree { IsTrue (N.state store.old).tells → OnOk result (IsTree IsAttrKey attr_cmp (N.state store.new)) }
-    ensures desk { IsDeskOf (N.state store.old).shape.node_size desk.new }
-    ensures header { IsTrue (N.state store.old).tells → (N.state store.old).header ≡ (N.state store.old).shape → OnOk result ((N.state store.new).header ≡ (N.state store.new).shape) }
-    ensures edits { OnOk result (TakesEdits most 266 (N.state store.old) (N.state store.new)) }
-    ensures takes { TakesAtMost most 266 (N.state store.old) (N.state store.new) }
-    ensures same { SameStore (N.state store.old) (N.state store.new) }
+    ensures frame { EditsAtMost N.state N.follows IsAttrKey attr_cmp most 266 store.old store.new desk.new result }
     ensures cause { HasTroubleCause (N.state store.old).faults (N.state store.new).faults result }
-    ensures below { N.follows store.old store.new }
 {
     let mut blocks = ExtentList::new(alloc);
     if drop_name(alloc, store, desk, id, name, most, &mut blocks)? == 0 {

@@ -7,12 +7,12 @@ ghost use Rattle.cat_records.specs.Fits.{FitsRecord};
 ghost use Rattle.hfs_volume.specs.Records.{is_thread};
 ghost use Rattle.alloc_bitmap.specs.Untold.{told_none};
 
-use crate::sectors::Sectors;
 use btree_edit::{Desk, Inserted, Removed};
 use btree_file::{TreeFile, TreeOn};
 use cat_records::CatRecord;
 use catalog::{Children, add, children, remove};
 use hx_bytes::{Trouble, Units};
+use sector_kit::Sectors;
 use std::alloc::Global;
 
 /// Adds an entry.

@@ -6,7 +6,6 @@ ghost use Rattle.alloc_bitmap.specs.Untold.{told_none};
 
 use crate::calls::{add_entry, list_entries, remove_entry};
 use crate::made::{PER_NODE, bare_file};
-use crate::sectors::Sectors;
 use btree_edit::{Desk, Inserted, Removed};
 use btree_file::TreeFile;
 use btree_node::TreeShape;
@@ -14,6 +13,7 @@ use catalog::Children;
 use entry_kit::{Stop, entry};
 use fork_map::ExtentList;
 use hx_bytes::{Extent, Units};
+use sector_kit::Sectors;
 use std::alloc::Global;
 use tree_kit::lies_below;
 

@@ -1,6 +1,6 @@
 //! A catalog's file without a pair: its header node, in the first eight sectors (TN1150, "B-Trees").
-use crate::sectors::Sectors;
 use hx_bytes::{OutOfMemory, Sector, write_be16, write_be32};
+use sector_kit::Sectors;
 use std::alloc::Global;
 
 /// The sectors of a node of 4,096 bytes.
@@ -43,5 +43,5 @@ pub fn bare_file(alloc: Global, nodes: u32) -> Result<Sectors, OutOfMemory> {
     for _free in 8..u64::from(nodes) * u64::from(PER_NODE) {
         list.push([0; 512])?;
     }
-    Ok(Sectors { list, reads: 0 })
+    Ok(Sectors::new(list))
 }

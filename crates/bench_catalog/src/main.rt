@@ -10,7 +10,6 @@ mod filed;
 mod filling;
 mod made;
 mod measuring;
-mod sectors;
 mod subject;
 
 use measuring::{Figures, Kind, Task, measure};

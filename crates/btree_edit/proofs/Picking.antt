@@ -7,7 +7,8 @@ use Rattle.btree_node.specs.Node.{items}
 use Rattle.btree_node.specs.Levels.{Pair, entries, key_of, value_of}
 use Rattle.btree_node.specs.Store.{Store}
 use Rattle.btree_node.specs.Tree.{pairs_of, HasLevels, IsOrdered}
-use Rattle.btree_edit.specs.Desk.{HasKey, Finds, Picks, HoldsLeaf, HoldsNone, KeepsLeaf, StandsIn, IsInTree}
+use Rattle.btree_edit.specs.Desk.{HasKey, Finds, Picks, HoldsLeaf, KeepsLeaf, StandsIn, IsInTree}
+use Rattle.btree_edit.specs.Held.{HeldPair}
 use Rattle.btree_edit.specs.Reading.{LeadsTo, HasNoKey, IsPlace}
 use Rattle.btree_edit.specs.declared.desk.Desk.{Desk}
 use Rattle.btree_edit.specs.declared.finding.Found.{Found}
@@ -19,13 +20,13 @@ module _ (is_key : List ℕ → Type 0) (cmp : List ℕ → List ℕ → Orderin
     (key_length : (a : List ℕ) → is_key a → length a ≡ big_at 2 a 0 + 2)
     (store : Store) (levels : HasLevels is_key store) (ordered : IsOrdered cmp store)
     (key : List ℕ) (node : ℕ) (some : 0 < store.shape.depth) (leads : LeadsTo cmp key store (store.shape.depth - 1) node)
-    (old new : Desk) (into : old.node ≡ store.nodes node) (none : HoldsNone old)
+    (leaf : List ℕ) (old : HeldPair) (new : Desk) (into : leaf ≡ store.nodes node) (none_key : old.key ≡ []) (none_value : old.value ≡ [])
   where
-    pub finds : (found : Found) → Picks is_key cmp key node old new found → Finds cmp key store new found
+    pub finds : (found : Found) → Picks is_key cmp key node leaf old new.held found → Finds cmp key store new found
     finds (At at index) (is, place, equal, own, value) =
         let inside : index < length (items (store.nodes node)) = omega (arith, place.within, ap (λ l. length (items l)) into) in
         let pair = leads_pair is_key cmp total key_length store levels ordered key node some leads index inside in
-        let item : get_or (items old.node) index [] ≡ get_or (items (store.nodes node)) index [] = ap (λ l. get_or (items l) index []) into in (
+        let item : get_or (items leaf) index [] ≡ get_or (items (store.nodes node)) index [] = ap (λ l. get_or (items l) index []) into in (
           ap (λ l. cmp l key) own ∙ equal,
           (
             pair.0,
@@ -35,8 +36,8 @@ module _ (is_key : List ℕ → Type 0) (cmp : List ℕ → List ℕ → Orderin
               value = value ∙ ap value_of item ∙ sym (ap (λ (p : Pair). p.1) pair.2);
             },
           ),
-          ap (λ n. get_or (items (store.nodes n)) index []) is ∙ sym item ∙ pair_joined (get_or (items old.node) index [])
-              ∙ ap (λ l. l ++ value_of (get_or (items old.node) index [])) (sym own) ∙ ap (λ l. new.held.key ++ l) (sym value),
+          ap (λ n. get_or (items (store.nodes n)) index []) is ∙ sym item ∙ pair_joined (get_or (items leaf) index [])
+              ∙ ap (λ l. l ++ value_of (get_or (items leaf) index [])) (sym own) ∙ ap (λ l. new.held.key ++ l) (sym value),
         )
     finds Absent (same, reason) = (
       elim reason [
@@ -45,15 +46,15 @@ module _ (is_key : List ℕ → Type 0) (cmp : List ℕ → List ℕ → Orderin
             leads_absent is_key cmp total key_length store levels ordered key node some leads place (subst (λ l. IsPlace cmp key (items l) place) into at)
             (λ any e. unlike any (ap (λ l. cmp (key_of (get_or (items l) (place - 1) [])) key) into ∙ e))
       ],
-      record { key = ap (λ h. h.key) same ∙ none.key; value = ap (λ h. h.value) same ∙ none.value },
+      record { key = ap (λ h. h.key) same ∙ none_key; value = ap (λ h. h.value) same ∙ none_value },
     )
 
     -- where it is, it stands in the leaf
-    pub stands : (found : Found) → Picks is_key cmp key node old new found → IsInTree store new found
+    pub stands : (found : Found) → Picks is_key cmp key node leaf old new.held found → IsInTree store new found
     stands (At at index) (is, place, equal, own, value) =
         let inside : index < length (items (store.nodes node)) = omega (arith, place.within, ap (λ l. length (items l)) into) in
         let pair = leaf_place is_key cmp total key_length store levels ordered key node some leads index inside in
-        let item : get_or (items old.node) index [] ≡ get_or (items (store.nodes node)) index [] = ap (λ l. get_or (items l) index []) into in (
+        let item : get_or (items leaf) index [] ≡ get_or (items (store.nodes node)) index [] = ap (λ l. get_or (items l) index []) into in (
           length (entries store.nodes leads.front) + index,
           record {
             inside = pair.0;
@@ -72,11 +73,11 @@ module _ (is_key : List ℕ → Type 0) (cmp : List ℕ → List ℕ → Orderin
     stands Absent picked = tt
 
 -- and the leaf is on the desk still
-pub keeps_leaf : (is_key : List ℕ → Type 0) (cmp : List ℕ → List ℕ → Ordering) (key : List ℕ) (store : Store) (node : ℕ) (old new : Desk) → new.node ≡ old.node → HoldsLeaf store old.node node
-    → (found : Found) → Picks is_key cmp key node old new found → KeepsLeaf store new found
-keeps_leaf is_key cmp key store node old new same holds (At at index) picked =
+pub keeps_leaf : (is_key : List ℕ → Type 0) (cmp : List ℕ → List ℕ → Ordering) (key : List ℕ) (store : Store) (node : ℕ) (leaf : List ℕ) (old : HeldPair) (new : Desk) → new.node ≡ leaf → HoldsLeaf store leaf node
+    → (found : Found) → Picks is_key cmp key node leaf old new.held found → KeepsLeaf store new found
+keeps_leaf is_key cmp key store node leaf old new same holds (At at index) picked =
     subst (λ n. HoldsLeaf store new.node n) (sym picked.0) (subst (λ bytes. HoldsLeaf store bytes node) (sym same) holds)
-keeps_leaf is_key cmp key store node old new same holds Absent picked = tt
+keeps_leaf is_key cmp key store node leaf old new same holds Absent picked = tt
 
 -- where a pair was found, the tree has the key
 pub found_key : (cmp : List ℕ → List ℕ → Ordering) (key : List ℕ) (store : Store) (desk : Desk) (node index : ℕ) → Finds cmp key store desk (At node index) → HasKey cmp key (pairs_of store)

@@ -6,6 +6,7 @@ use Rattle.btree_node.specs.Node.{items, IsNode}
 use Rattle.btree_node.specs.Levels.{Pair, entries, key_of, value_of}
 use Rattle.btree_node.specs.Store.{Store}
 use Rattle.btree_node.specs.Tree.{level_of, pairs_of}
+use Rattle.btree_edit.specs.Held.{HeldPair}
 use Rattle.btree_edit.specs.Reading.{IsPlace, HasNoKey}
 use Rattle.btree_edit.specs.declared.desk.Desk.{Desk}
 use Rattle.btree_edit.specs.declared.finding.Found.{Found}
@@ -66,13 +67,13 @@ abbrev pub KeepsLeaf : Store → Desk → Found → Type 0
 KeepsLeaf store desk (At node index) = HoldsLeaf store desk.node node
 KeepsLeaf store desk Absent = Unit {0}
 
--- the search of one leaf: where the key is, the desk has its pair; else the desk is as it was
-abbrev pub Picks : (List ℕ → Type 0) → (List ℕ → List ℕ → Ordering) → List ℕ → ℕ → Desk → Desk → Found → Type 0
-Picks is_key cmp key node old new (At at index) =
-    (at ≡ node) × IsPlace cmp key (items old.node) (index + 1) × (cmp (key_of (slice_index_or (items old.node) index [])) key ≡ Equal)
-    × (new.held.key ≡ key_of (slice_index_or (items old.node) index [])) × (new.held.value ≡ value_of (slice_index_or (items old.node) index []))
-Picks is_key cmp key node old new Absent =
-    (new.held ≡ old.held) × (HasNoKey is_key (items old.node) ⊎ ((place : ℕ) × IsPlace cmp key (items old.node) place × (0 < place → cmp (key_of (slice_index_or (items old.node) (place - 1) [])) key ≢ Equal)))
+-- the search of one leaf: where the key is, its pair is kept; else what was kept is as it was
+abbrev pub Picks : (List ℕ → Type 0) → (List ℕ → List ℕ → Ordering) → List ℕ → ℕ → List ℕ → HeldPair → HeldPair → Found → Type 0
+Picks is_key cmp key node leaf old new (At at index) =
+    (at ≡ node) × IsPlace cmp key (items leaf) (index + 1) × (cmp (key_of (slice_index_or (items leaf) index [])) key ≡ Equal)
+    × (new.key ≡ key_of (slice_index_or (items leaf) index [])) × (new.value ≡ value_of (slice_index_or (items leaf) index []))
+Picks is_key cmp key node leaf old new Absent =
+    (new ≡ old) × (HasNoKey is_key (items leaf) ⊎ ((place : ℕ) × IsPlace cmp key (items leaf) place × (0 < place → cmp (key_of (slice_index_or (items leaf) (place - 1) [])) key ≢ Equal)))
 
 -- the pairs before this place have no greater key, and those from there on a greater one
 pub record IsAbove (cmp : List ℕ → List ℕ → Ordering) (key : List ℕ) (pairs : List Pair) (place : ℕ) : Type 0 where

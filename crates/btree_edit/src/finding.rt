@@ -1,13 +1,14 @@
 //! The pair with a key.
 ghost use Rattle.std.specs.Prelude.{◌≡◌, ◌≤◌, ◌+◌, ◌-◌, ◌<◌, IsTrue, IsSome, length, IfOk};
-ghost use Rattle.btree_node.specs.Node.{IsNode};
+ghost use Rattle.btree_node.specs.Node.{IsNode, IsNodeOf};
 ghost use Rattle.btree_node.specs.Store.{HasCause};
-ghost use Rattle.btree_node.specs.Tree.{IsTree};
+ghost use Rattle.btree_node.specs.Tree.{IsTree, kind_at};
 ghost use Rattle.btree_edit.specs.Desk.{IsDeskOf, Finds, IsInTree, KeepsLeaf, Picks};
 ghost use Rattle.btree_edit.specs.Reading.{ReadsNodes, LeadsToLeaf};
 
-use crate::desk::Desk;
-use crate::search::{key_part, place, read_node, step};
+use crate::desk::{Desk, Held};
+use crate::search::{key_part, kind_at, lead, place, read_node};
+use btree_node::reads::{is_node_of, record_at};
 use btree_node::{KeyOrder, NodeStore};
 use hx_bytes::Failed;
 
@@ -42,10 +43,7 @@ pub(crate) fn descend<N: NodeStore, K: KeyOrder>(
         return Ok(None);
     }
     while height > 1 {
-        if !read_node(store, &mut desk.node, node, height)? {
-            return Ok(None);
-        }
-        let Some(step) = step::<K>(&desk.node, key) else {
+        let Some(step) = lead::<N, K>(store, &mut desk.node, node, height, key)? else {
             return Ok(None);
         };
         node = step.child;
@@ -54,32 +52,42 @@ pub(crate) fn descend<N: NodeStore, K: KeyOrder>(
     Ok(Some(node))
 }
 
-/// Looks for a key in the leaf on the desk, and keeps its pair.
-fn pick<K: KeyOrder>(desk: &mut Desk, node: u32, key: &[u8]) -> Found
-    requires well_formed { IsNode desk.old.node }
-    requires size { length desk.old.node ≤ desk.old.held.room }
+/// Looks for a key in a leaf, and keeps its pair.
+fn pick<K: KeyOrder>(held: &mut Held, leaf: &[u8], node: u32, key: &[u8]) -> Found
+    requires long { 512 ≤ length leaf.now }
+    requires well_formed { IsNode leaf.now }
+    requires size { length leaf.now ≤ held.old.room }
     requires key { K.is_key key.now }
-    ensures picks { Picks K.is_key K.cmp key.now node desk.old desk.new result }
-    ensures node { desk.new.node ≡ desk.old.node }
-    ensures other { desk.new.other ≡ desk.old.other }
-    ensures room { desk.new.held.room ≡ desk.old.held.room }
-    ensures first { desk.new.first ≡ desk.old.first }
-    ensures second { desk.new.second ≡ desk.old.second }
-    ensures path { desk.new.path ≡ desk.old.path }
+    ensures picks { Picks K.is_key K.cmp key.now node leaf.now held.old held.new result }
+    ensures room { held.new.room ≡ held.old.room }
 {
-    let Some(place) = place::<K>(&desk.node, key) else {
+    let Some(place) = place::<K>(leaf, key) else {
         return Found::Absent;
     };
     if place == 0 {
         return Found::Absent;
     }
     let index = place - 1;
-    let item = desk.node.item(index);
+    let item = record_at(leaf, index as usize);
     if K::compare(key_part(item), key).is_ne() {
         return Found::Absent;
     }
-    desk.held.keep(item);
+    held.keep(item);
     Found::At { node, index }
+}
+
+/// The same where these are the bytes of a leaf.
+fn pick_leaf<K: KeyOrder>(held: &mut Held, leaf: &[u8], node: u32, key: &[u8]) -> Found
+    requires long { 512 ≤ length leaf.now }
+    requires size { length leaf.now ≤ held.old.room }
+    requires key { K.is_key key.now }
+    ensures picks { IsNodeOf (kind_at 1) 1 leaf.now → Picks K.is_key K.cmp key.now node leaf.now held.old held.new result }
+    ensures room { held.new.room ≡ held.old.room }
+{
+    if !is_node_of(leaf, kind_at(1), 1) {
+        return Found::Absent;
+    }
+    pick::<K>(held, leaf, node, key)
 }
 
 /// The pair with a key, which it leaves on the desk.
@@ -111,5 +119,61 @@ pub fn find<N: NodeStore, K: KeyOrder>(
     if !read_node(store, &mut desk.node, node, 1)? {
         return Ok(Found::Absent);
     }
-    Ok(pick::<K>(desk, node, key))
+    Ok(pick::<K>(&mut desk.held, desk.node.bytes(), node, key))
+}
+
+/// Looks for a key in a leaf, of whose bytes no copy is made where the store holds them.
+fn look_in<N: NodeStore, K: KeyOrder>(
+    store: &mut N,
+    desk: &mut Desk,
+    node: u32,
+    key: &[u8],
+) -> Result<Found, Failed>
+    requires desk { IsDeskOf (N.state store.old).shape.node_size desk.old }
+    requires key { K.is_key key.now }
+    ensures picks { IsTrue (N.state store.old).tells → node < (N.state store.old).shape.total → IsNodeOf (kind_at 1) 1 ((N.state store.old).nodes node)
+        → IfOk result (λ found. Picks K.is_key K.cmp key.now node ((N.state store.old).nodes node) desk.old.held desk.new.held found) }
+    ensures reads { ReadsNodes 1 (N.state store.old) (N.state store.new) }
+    ensures desk { IsDeskOf (N.state store.old).shape.node_size desk.new }
+    ensures cause { HasCause (N.state store.old).faults (N.state store.new).faults result }
+    ensures below { N.follows store.old store.new }
+{
+    if node >= store.shape().total {
+        return Ok(Found::Absent);
+    }
+    if let Some(leaf) = store.held(node) {
+        return Ok(pick_leaf::<K>(&mut desk.held, leaf, node, key));
+    }
+    if !read_node(store, &mut desk.node, node, 1)? {
+        return Ok(Found::Absent);
+    }
+    Ok(pick::<K>(&mut desk.held, desk.node.bytes(), node, key))
+}
+
+/// The pair with a key, which it leaves on the desk, as `find` does. Where the store holds the leaf it isn't copied to the desk.
+pub fn look<N: NodeStore, K: KeyOrder>(
+    store: &mut N,
+    desk: &mut Desk,
+    key: &[u8],
+) -> Result<Found, Failed>
+    requires desk { IsDeskOf (N.state store.old).shape.node_size desk.old }
+    requires key { K.is_key key.now }
+    requires tree { IsTrue (N.state store.old).tells → IsTree K.is_key K.cmp (N.state store.old) }
+    // It answers At exactly where the tree has the key, and leaves the pair.
+    ensures found { IsTrue (N.state store.old).tells → IfOk result (λ found. Finds K.cmp key.now (N.state store.old) desk.new found) }
+    // The pair stands in that leaf of the tree.
+    ensures place { IsTrue (N.state store.old).tells → IfOk result (λ found. IsInTree (N.state store.old) desk.new found) }
+    // It loads one node a level, and changes nothing.
+    ensures reads { ReadsNodes (N.state store.old).shape.depth (N.state store.old) (N.state store.new) }
+    ensures desk { IsDeskOf (N.state store.old).shape.node_size desk.new }
+    // It fails only where the store did.
+    ensures cause { HasCause (N.state store.old).faults (N.state store.new).faults result }
+    ensures below { N.follows store.old store.new }
+{
+    desk.held.forget();
+    let Some(node) = descend::<N, K>(store, desk, key)? else {
+        return Ok(Found::Absent);
+    };
+    let found = look_in::<N, K>(store, desk, node, key)?;
+    Ok(found)
 }

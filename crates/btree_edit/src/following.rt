@@ -62,7 +62,7 @@ pub(crate) fn locate<N: NodeStore, K: KeyOrder>(
     if !read_node(store, &mut desk.node, node, 1)? {
         return Ok(None);
     }
-    Ok(place::<K>(&desk.node, key))
+    Ok(place::<K>(desk.node.bytes(), key))
 }
 
 /// Keeps the first pair of the leaf behind the one on the desk, where there is such a leaf.

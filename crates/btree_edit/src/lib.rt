@@ -18,7 +18,7 @@ mod walking;
 
 pub use desk::Desk;
 pub use edits::{Inserted, Removed, insert, remove};
-pub use finding::{Found, find};
+pub use finding::{Found, find, look};
 pub use following::next;
 pub use replacing::replace;
 pub use swapping::swap;

@@ -6,6 +6,7 @@ ghost use Rattle.btree_node.specs.Store.{HasCause};
 ghost use Rattle.btree_node.specs.Tree.{kind_at};
 ghost use Rattle.btree_edit.specs.Reading.{ReadsNodes, IsPlace, HasNoKey, IsLead};
 
+use btree_node::reads::{count, is_node_of, record_at};
 use btree_node::{KeyOrder, Node, NodeStore};
 use hx_bytes::{Failed, read_be16, read_be32};
 
@@ -35,7 +36,8 @@ pub(crate) fn child_part(item: &[u8]) -> u32
 
 /// How many of a node's first records have no key above this one, where its keys rise; none where a record that was looked at has no valid key.
 /// It is found by halves.
-pub(crate) fn place<K: KeyOrder>(node: &Node, key: &[u8]) -> Option<u16>
+pub(crate) fn place<K: KeyOrder>(node: &[u8], key: &[u8]) -> Option<u16>
+    requires size { 512 ≤ length node.now }
     requires well_formed { IsNode node.now }
     requires key { K.is_key key.now }
     ensures place { IfSome result (λ at. IsPlace K.cmp key.now (items node.now) at) }
@@ -43,10 +45,10 @@ pub(crate) fn place<K: KeyOrder>(node: &Node, key: &[u8]) -> Option<u16>
     ensures no_key { IfNone result (HasNoKey K.is_key (items node.now)) }
 {
     let mut low: u16 = 0;
-    let mut high = node.count();
+    let mut high = count(node);
     while low < high {
         let middle = low + (high - low) / 2;
-        let own = key_part(node.item(middle));
+        let own = key_part(record_at(node, middle as usize));
         if !K::valid(own) {
             return None;
         }
@@ -68,7 +70,8 @@ pub struct ChildStep {
 }
 
 /// The record of an index node that leads to a key; none where there is no record, or one without a valid key.
-pub(crate) fn step<K: KeyOrder>(node: &Node, key: &[u8]) -> Option<ChildStep>
+pub(crate) fn step<K: KeyOrder>(node: &[u8], key: &[u8]) -> Option<ChildStep>
+    requires size { 512 ≤ length node.now }
     requires well_formed { IsNode node.now }
     requires key { K.is_key key.now }
     ensures step { IfSome result (λ step. IsLead K.cmp key.now (items node.now) step) }
@@ -77,11 +80,11 @@ pub(crate) fn step<K: KeyOrder>(node: &Node, key: &[u8]) -> Option<ChildStep>
     let Some(place) = place::<K>(node, key) else {
         return None;
     };
-    if node.count() == 0 {
+    if count(node) == 0 {
         return None;
     }
     let index = place.saturating_sub(1);
-    let child = child_part(node.item(index));
+    let child = child_part(record_at(node, index as usize));
     Some(ChildStep {
         place,
         index,
@@ -118,4 +121,48 @@ pub(crate) fn read_node<N: NodeStore>(
     }
     store.load(number, into)?;
     Ok(into.check(kind_at(height), height as u8))
+}
+
+/// The record of a node of this height that leads to a key; none where these are no such node's bytes, or have no such record.
+fn step_in<K: KeyOrder>(node: &[u8], height: u16, key: &[u8]) -> Option<ChildStep>
+    requires size { 512 ≤ length node.now }
+    requires low { height < 256 }
+    requires key { K.is_key key.now }
+    ensures step { IfSome result (λ step. IsLead K.cmp key.now (items node.now) step) }
+    ensures none { IsNodeOf (kind_at height) height node.now → IfNone result (HasNoKey K.is_key (items node.now) ⊎ (items node.now ≡ [])) }
+{
+    if !is_node_of(node, kind_at(height), height as u8) {
+        return None;
+    }
+    step::<K>(node, key)
+}
+
+/// The record of an index node of this height that leads to a key: of its bytes where the store holds them, or else of those that are read.
+pub(crate) fn lead<N: NodeStore, K: KeyOrder>(
+    store: &mut N,
+    into: &mut Node,
+    number: u32,
+    height: u16,
+    key: &[u8],
+) -> Result<Option<ChildStep>, Failed>
+    requires size { length into.old ≡ (N.state store.old).shape.node_size }
+    requires key { K.is_key key.now }
+    ensures step { IsTrue (N.state store.old).tells → IfOk result (λ found. IfSome found (λ step. IsLead K.cmp key.now (items ((N.state store.old).nodes number)) step)) }
+    ensures none { IsTrue (N.state store.old).tells → number < (N.state store.old).shape.total → IsNodeOf (kind_at height) height ((N.state store.old).nodes number) → height < 256
+        → IfOk result (λ found. IfNone found (HasNoKey K.is_key (items ((N.state store.old).nodes number)) ⊎ (items ((N.state store.old).nodes number) ≡ []))) }
+    ensures size { length into.new ≡ length into.old }
+    ensures reads { ReadsNodes 1 (N.state store.old) (N.state store.new) }
+    ensures cause { HasCause (N.state store.old).faults (N.state store.new).faults result }
+    ensures below { N.follows store.old store.new }
+{
+    if height > 255 || number >= store.shape().total {
+        return Ok(None);
+    }
+    if let Some(bytes) = store.held(number) {
+        return Ok(step_in::<K>(bytes, height, key));
+    }
+    if !read_node(store, into, number, height)? {
+        return Ok(None);
+    }
+    Ok(step::<K>(into.bytes(), key))
 }

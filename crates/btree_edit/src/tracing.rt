@@ -11,7 +11,7 @@ ghost use Rattle.btree_edit.specs.Reading.{ReadsNodes};
 ghost use Rattle.btree_edit.specs.Way.{stop_at, LeadsWay};
 
 use crate::desk::{Desk, PathStep};
-use crate::search::{key_part, place, read_node, step};
+use crate::search::{key_part, lead, place, read_node};
 use btree_node::{KeyOrder, Node, NodeStore};
 use hx_bytes::Failed;
 
@@ -45,10 +45,8 @@ pub(crate) fn find_path<N: NodeStore, K: KeyOrder>(
     }
     let mut node = shape.root;
     for level in 0..shape.depth - 1 {
-        if !read_node(store, &mut desk.node, node, shape.depth - level)? {
-            return Ok(false);
-        }
-        let Some(step) = step::<K>(&desk.node, key) else {
+        let height = shape.depth - level;
+        let Some(step) = lead::<N, K>(store, &mut desk.node, node, height, key)? else {
             return Ok(false);
         };
         desk.path[level as usize] = PathStep {
@@ -60,7 +58,7 @@ pub(crate) fn find_path<N: NodeStore, K: KeyOrder>(
     if !read_node(store, &mut desk.node, node, 1)? {
         return Ok(false);
     }
-    let Some(at) = place::<K>(&desk.node, key) else {
+    let Some(at) = place::<K>(desk.node.bytes(), key) else {
         return Ok(false);
     };
     desk.path[(shape.depth - 1) as usize] = PathStep { node, at };

@@ -5,7 +5,7 @@ ghost use Rattle.btree_file.specs.State.{Agrees};
 
 use crate::heading::put_header;
 use crate::marking::{find_bit, find_clear, is_reserved, mark};
-use crate::putting::{get_node, put_node};
+use crate::putting::{get_node, held_node, put_node};
 use crate::tree::TreeFile;
 use crate::written::{are_few, is_written};
 use btree_node::{Node, NodeStore, TreeShape};
@@ -59,6 +59,18 @@ impl<P: SectorSpace> NodeStore for TreeOn<'_, '_, P> {
         let tree = &mut *self.tree;
         tree.loads = tree.loads.saturating_add(1);
         get_node(&mut *self.space, &tree.fork, tree.per_block, node, into)
+    }
+
+    fn held(&self, node: u32) -> Option<&[u8]> {
+        let tree = &*self.tree;
+        let space = &*self.space;
+        held_node(
+            space,
+            &tree.fork,
+            tree.per_block,
+            node,
+            tree.shape.node_size,
+        )
     }
 
     fn save(&mut self, node: u32, from: &Node) {

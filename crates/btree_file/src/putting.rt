@@ -1,5 +1,5 @@
 //! One node of a fork, read and put.
-ghost use Rattle.std.specs.Prelude.{◌≡◌, ◌<◌, ◌≤◌, ◌+◌, ◌*◌, ◌/◌, IsTrue, length, slice_range, OnOk};
+ghost use Rattle.std.specs.Prelude.{◌≡◌, ◌<◌, ◌≤◌, ◌+◌, ◌*◌, ◌/◌, IsTrue, length, slice_range, IfSome, OnOk};
 ghost use Rattle.sector_disk.specs.Cause.{HasCause};
 ghost use Rattle.sector_disk.specs.Clock.{TimePasses};
 ghost use Rattle.sector_disk.specs.Space.{SameSpace, LeavesDurable};
@@ -51,19 +51,38 @@ fn take_held<V: SectorView>(
     ensures value { IsTrue result → IsTrue (V.space space.now).tells → into.new ≡ node_of (V.space space.now).content (fork_sectors fork.now per_block) (length into.old / 512) node }
     ensures length { length into.new ≡ length into.old }
 {
-    let size = into.bytes().len();
-    let per = size as u32 / 512;
-    let Some(first) = first_in_block(fork, per_block, node as u64 * per as u64, per) else {
+    let size = into.bytes().len() as u32;
+    let Some(bytes) = held_node(space, fork, per_block, node, size) else {
         return false;
     };
-    let Some(bytes) = space.held(first, per) else {
-        return false;
-    };
-    if bytes.len() != size {
-        return false;
-    }
     into.take_over(bytes);
     true
+}
+
+/// The bytes of a node of so many, where the view holds its sectors side by side.
+pub(crate) fn held_node<'a, V: SectorView>(
+    space: &'a V,
+    fork: &SummedFork,
+    per_block: u32,
+    node: u32,
+    size: u32,
+) -> Option<&'a [u8]>
+    requires blocks { per_block ≤ 128 }
+    requires whole { (node + 1) * (size / 512) ≤ length (fork_sectors fork.now per_block) }
+    ensures value { IsTrue (V.space space.now).tells → IfSome result (λ bytes. bytes.now ≡ node_of (V.space space.now).content (fork_sectors fork.now per_block) (size / 512) node) }
+    ensures size { IfSome result (λ bytes. length bytes.now ≡ size) }
+{
+    let per = size / 512;
+    let Some(first) = first_in_block(fork, per_block, node as u64 * per as u64, per) else {
+        return None;
+    };
+    let Some(bytes) = space.held(first, per) else {
+        return None;
+    };
+    if bytes.len() != size as usize {
+        return None;
+    }
+    Some(bytes)
 }
 
 /// Reads a node sector by sector.

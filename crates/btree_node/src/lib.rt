@@ -12,7 +12,7 @@ mod mem;
 mod moves;
 mod node;
 mod order;
-mod reads;
+pub mod reads;
 mod store;
 
 pub use bytes::{count_records, get_offset};

@@ -168,6 +168,10 @@ impl NodeStore for MemNodes {
         Ok(())
     }
 
+    fn held(&self, node: u32) -> Option<&[u8]> {
+        Some(self.nodes[node as usize].bytes())
+    }
+
     fn save(&mut self, node: u32, from: &Node) {
         self.nodes[node as usize].copy_from(from);
         self.note(node);

@@ -42,8 +42,9 @@ fn descends(table: &[u8]) -> bool
     descends
 }
 
+/// Whether these are the bytes of a node of the kind and the height.
 #[tactic(auto, unfolding(crate::specs::Node::kind_of, crate::specs::Node::height_of))]
-pub(crate) fn is_node_of(node: &[u8], kind: i8, height: u8) -> bool
+pub fn is_node_of(node: &[u8], kind: i8, height: u8) -> bool
     requires { 512 ≤ length node.now }
     ensures { IsTrue result ↔ IsNodeOf kind height node.now }
 {
@@ -53,7 +54,8 @@ pub(crate) fn is_node_of(node: &[u8], kind: i8, height: u8) -> bool
     is_well_formed(node)
 }
 
-pub(crate) fn count(node: &[u8]) -> u16
+/// How many records a node has.
+pub fn count(node: &[u8]) -> u16
     requires { 512 ≤ length node.now }
     ensures { result ≡ length (items node.now) }
 {
@@ -61,7 +63,7 @@ pub(crate) fn count(node: &[u8]) -> u16
 }
 
 /// The bytes of a record.
-pub(crate) fn record_at(node: &[u8], i: usize) -> &[u8]
+pub fn record_at(node: &[u8], i: usize) -> &[u8]
     requires size { 512 ≤ length node.now }
     requires well_formed { IsNode node.now }
     requires inside { i < length (items node.now) }

@@ -1,5 +1,5 @@
 //! A store of the nodes of one tree.
-ghost use Rattle.std.specs.Prelude.{◌≡◌, ◌<◌, ◌≤◌, ◌+◌, ◌-◌, ◌⊎◌, ◌↔◌, ℕ, true, false, List, IsTrue, length, min, OnOk, OnErr, IfOk, ◌^◌};
+ghost use Rattle.std.specs.Prelude.{◌≡◌, ◌<◌, ◌≤◌, ◌+◌, ◌-◌, ◌⊎◌, ◌↔◌, ℕ, true, false, List, IsTrue, length, min, OnOk, OnErr, IfOk, IfSome, ◌^◌};
 ghost use Rattle.btree_node.specs.Store.{Store, IsWellFormed, HasRoom, HasCause, SameStore, SameNodes, SameRoom, ChangesOnly, MapsOnly, ShapesOnly, Writes, next_count, with_free};
 
 use crate::node::Node;
@@ -56,6 +56,15 @@ pub trait NodeStore {
         ensures cause { HasCause (state self.old).faults (state self.new).faults result }
         ensures same { SameStore (state self.old) (state self.new) }
         ensures below { follows self.old self.new };
+
+    /// The bytes of a node, where the store has them side by side in memory. Nothing is read, and no load is counted.
+    fn held(&self, node: u32) -> Option<&[u8]>
+        requires inside { node < (state self.now).shape.total }
+        ensures value { IsTrue (state self.now).tells → IfSome result (λ bytes. bytes.now ≡ (state self.now).nodes node) }
+        ensures size { IfSome result (λ bytes. length bytes.now ≡ (state self.now).shape.node_size) }
+    {
+        None
+    }
 
     /// Writes a node of the tree. Of the header node and the map nodes nothing is said but that it returns.
     fn save(&mut self, node: u32, from: &Node)

@@ -13,7 +13,7 @@ ghost use Rattle.hfs_volume.specs.Records.{is_thread};
 ghost use Rattle.catalog.specs.Pairs.{value_at, thread_at, thread_in};
 
 use crate::pair::{is_thread_record, name_key};
-use btree_edit::{Desk, Found, find};
+use btree_edit::{Desk, Found, look};
 use btree_node::{CatalogOrder, NodeStore};
 use cat_records::{CatRecord, RecordFault, ThreadRecord, read_catalog};
 use hx_bytes::{Trouble, Units};
@@ -126,7 +126,7 @@ pub(crate) fn record_under<N: NodeStore>(
     ensures cause { HasTroubleCause (N.state store.old).faults (N.state store.new).faults result }
     ensures below { N.follows store.old store.new }
 {
-    match find::<N, CatalogOrder>(store, desk, key)? {
+    match look::<N, CatalogOrder>(store, desk, key)? {
         Found::At { .. } => read_value(alloc, desk.value()),
         Found::Absent => Ok(None),
     }

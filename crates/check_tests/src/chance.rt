@@ -1,6 +1,7 @@
 // Sectors of a volume overwritten by chance: what a check says is told beforehand, by what each sector is for.
-use crate::volumes::{SECTORS, Sectors, checked, made, read_bytes, says_clean, write_sector};
+use crate::volumes::{SECTORS, checked, made, read_bytes, says_clean, write_sector};
 use hx_bytes::{OutOfMemory, Sector};
+use sector_kit::Sectors;
 use std::alloc::Global;
 use std::process::Abort;
 use std::test::Fail;

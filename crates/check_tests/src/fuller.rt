@@ -1,8 +1,9 @@
 // A volume with folders, files, links and an attribute, whole and damaged.
 use crate::leaves::{Blocks, NO_BLOCKS, Rec, Value, leaf, sorted};
-use crate::volumes::{Numbers, Patch, Sectors, checked, damage, finds, is_clean, made, put_bytes};
+use crate::volumes::{Numbers, Patch, checked, damage, finds, is_clean, made, put_bytes};
 use hfs_volume::Summary;
 use hx_bytes::OutOfMemory;
+use sector_kit::Sectors;
 use std::alloc::Global;
 use std::process::Abort;
 use std::test::Fail;

@@ -5,44 +5,16 @@ use fsck_core::{Verdict, check};
 use fsck_list::Finding;
 use hfs_model::ascii;
 use hfs_volume::Summary;
-use hx_bytes::{Failed, OutOfMemory, Sector, Trouble};
+use hx_bytes::{OutOfMemory, Sector, Trouble};
 use mem_disk::MemRig;
 use sector_disk::{SectorDisk, SectorView};
+use sector_kit::Sectors;
 use std::alloc::Global;
 use std::process::Abort;
 use volume_make::format;
 
 /// The sectors of a volume that is made for a test.
 pub const SECTORS: u64 = 16_384;
-
-/// The sectors of a volume.
-#[derive(Drop)]
-pub struct Sectors {
-    list: Vec<Sector>,
-}
-
-impl SectorView for Sectors {
-    ghost use Rattle.alloc_bitmap.specs.Untold.{told_none};
-
-    ghost space = { λ s. told_none (length s.list.items) };
-
-    ghost follows = { λ _ _. Unit {0} };
-
-    ghost follows_refl = { λ _. tt };
-
-    ghost follows_trans = { λ _ _ _ _ _. tt };
-
-    fn sectors(&self) -> u64 {
-        self.list.len() as u64
-    }
-
-    fn get(&mut self, at: u64, into: &mut Sector) -> Result<(), Failed> {
-        into.copy_from_slice(&self.list[at as usize]);
-        Ok(())
-    }
-
-    ghost well_formed = { λ s tells. Prim.cc };
-}
 
 /// What a sector of a disk holds.
 fn sector_of(rig: &mut MemRig, at: u64) -> Sector {
@@ -59,12 +31,12 @@ pub fn made(alloc: Global, block: u32, journal: u64) -> Result<Sectors, OutOfMem
     let mut rig = MemRig::new(alloc, SECTORS)?;
     let name = ascii(alloc, "a")?;
     if format(alloc, &mut rig, block, journal, &name).is_err() {
-        return Ok(Sectors { list });
+        return Ok(Sectors::new(list));
     }
     for at in 0..SECTORS {
         list.push(sector_of(&mut rig, at))?;
     }
-    Ok(Sectors { list })
+    Ok(Sectors::new(list))
 }
 
 /// A byte of a volume that was changed, and what it was.

@@ -34,6 +34,7 @@ fn name(refusal: Refusal) -> &'static str
         Refusal::TooLarge => "TooLarge",
         Refusal::AttributeTooLarge => "AttributeTooLarge",
         Refusal::NoAttribute => "NoAttribute",
+        Refusal::BadTarget => "BadTarget",
         Refusal::NoTree => "NoTree",
         Refusal::NoIds(_) => "NoIds",
         Refusal::TooDeep(_) => "TooDeep",

@@ -1,7 +1,8 @@
 //! Power fails after each write and each barrier of a run.
 use crate::few::{Few, fresh_few};
 use crate::plain::told_behind;
-use crate::runs::{AT_ONCE, PIECE, is_clean, run_in_pieces, run_lines, told_by};
+use crate::runs::{AT_ONCE, PIECE, is_clean, run_lines, told_by};
+use crate::stops::{Judge, Tried, try_stops};
 use hx_bytes::OutOfMemory;
 use mem_disk::MemImage;
 use std::alloc::Global;
@@ -72,15 +73,6 @@ const READS_OF_TWO_GROWTHS: &[u8] =
 
 /// The room behind it: the catalog has 80 nodes, and had 64; the attributes file has 20, and had 16.
 const ROOM_OF_TWO_GROWTHS: &[u8] = b"ok 4096 2048 1671 1671 1982 0 16 15 3 80 25 0 20 19\n";
-
-/// What all crashes of a run left.
-#[derive(Clone, Copy)]
-pub struct Tried {
-    /// How many crashes were tried.
-    pub crashes: u64,
-    /// After how many calls an image was wrong, if one was.
-    pub wrong: Option<u64>,
-}
 
 /// All crashes of a run of all commands on a new volume.
 pub fn try_all(alloc: Global, choice: u64) -> Result<Tried, OutOfMemory> {
@@ -201,32 +193,31 @@ fn try_in_pieces(
     choice: u64,
 ) -> Result<Tried, OutOfMemory> {
     let wanted = told_behind(alloc, before, lines, reads)?;
-    let mut whole = Few::over(alloc, start)?;
-    run_in_pieces(alloc, &mut whole, lines, piece)?;
-    let mut tried = Tried {
-        crashes: 0,
-        wrong: None,
-    };
-    for call in 0..whole.rig.calls() {
-        if !whole.rig.wrote(call) {
-            continue;
-        }
-        let stop = call.saturating_add(1);
-        let mut disk = Few::over(alloc, start)?;
-        disk.rig.stop_after(stop);
-        let ran = run_in_pieces(alloc, &mut disk, lines, piece)?;
-        let image = disk.rig.image(alloc, choice)?;
-        let told = told_by(alloc, &image, reads)?;
-        if !is_clean(alloc, &image)? || !is_one_of(&wanted, ran.lines, told) {
-            tried.wrong = Some(stop);
-        }
-        tried.crashes = tried.crashes.saturating_add(1);
-    }
-    Ok(tried)
+    let telling = Telling { reads, wanted };
+    try_stops(alloc, start, lines, piece, choice, &telling)
 }
 
-// The same for lines that come in the usual pieces.
-fn try_from(
+/// Sound volumes of which lines are told one of these texts, none of those before the number of lines that were answered.
+#[derive(Drop)]
+struct Telling<'a> {
+    reads: &'a [u8],
+    wanted: Vec<Vec<u8>>,
+}
+
+impl Judge for Telling<'_> {
+    fn is_right(
+        &self,
+        alloc: Global,
+        image: &MemImage,
+        answered: u64,
+    ) -> Result<bool, OutOfMemory> {
+        let told = told_by(alloc, image, self.reads)?;
+        Ok(is_clean(alloc, image)? && is_one_of(&self.wanted, answered, told))
+    }
+}
+
+/// The same for lines that come in the usual pieces, on a volume of which nothing is known beside.
+pub fn try_from(
     alloc: Global,
     start: &MemImage,
     lines: &[u8],

@@ -1,18 +1,12 @@
 //! Each call of a run that writes, or waits for what was written, fails once.
 use crate::crashes::is_one_of;
 use crate::few::{Few, fresh_few};
+use crate::names::{LINES, READS};
 use crate::plain::told_behind;
 use crate::runs::{run_lines, told_by};
 use hfsx_server::Status;
 use hx_bytes::OutOfMemory;
 use std::alloc::Global;
-
-/// A folder, a file in it with a byte, and a second name of the file, which goes again.
-const LINES: &[u8] = b"mkdir /a\ncreate /a/f\nwrite /a/f 0 =x\nln /a/f /g\nrm /g\n";
-
-/// What is read back behind it.
-const READS: &[u8] =
-    b"ls /\nstat /\nls /a\nstat /a\nstat /a/f\nread /a/f 0 9\nstat /g\nread /g 0 9\n";
 
 /// What all faults of a run came to.
 #[derive(Clone, Copy)]

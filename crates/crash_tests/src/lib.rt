@@ -10,6 +10,8 @@ mod few;
 #[cfg(test)]
 mod journals;
 #[cfg(test)]
+mod names;
+#[cfg(test)]
 mod plain;
 #[cfg(test)]
 mod reclaims;
@@ -23,6 +25,8 @@ mod replays;
 mod runs;
 #[cfg(test)]
 mod sessions;
+#[cfg(test)]
+mod stops;
 #[cfg(test)]
 mod tests;
 #[cfg(test)]

@@ -1,7 +1,7 @@
 //! Power fails while a file loses its last name and its blocks are given back.
-use crate::crashes::Tried;
 use crate::few::{Few, fresh_long};
-use crate::runs::{run_lines, told_by};
+use crate::runs::{PIECE, run_lines, told_by};
+use crate::stops::{Judge, Tried, try_stops};
 use hx_bytes::OutOfMemory;
 use mem_disk::MemImage;
 use std::alloc::Global;
@@ -27,29 +27,21 @@ pub fn try_reclaims(alloc: Global, choice: u64) -> Result<Tried, OutOfMemory> {
     let mut made = Few::over(alloc, &fresh_long(alloc)?)?;
     run_lines(alloc, &mut made, MAKE)?;
     let start = made.rig.image(alloc, 1)?;
-    let mut whole = Few::over(alloc, &start)?;
-    run_lines(alloc, &mut whole, REMOVE)?;
-    let mut tried = Tried {
-        crashes: 0,
-        wrong: None,
-    };
-    for call in 0..whole.rig.calls() {
-        if !whole.rig.wrote(call) {
-            continue;
-        }
-        let stop = call.saturating_add(1);
-        let mut disk = Few::over(alloc, &start)?;
-        disk.rig.stop_after(stop);
-        run_lines(alloc, &mut disk, REMOVE)?;
-        let image = disk.rig.image(alloc, choice)?;
-        if !tells_one_of(alloc, &image, b"ls /\n", &LISTS)?
-            || !is_given_back_whole(alloc, &image)?
-        {
-            tried.wrong = Some(stop);
-        }
-        tried.crashes = tried.crashes.saturating_add(1);
+    try_stops(alloc, &start, REMOVE, PIECE, choice, &Reclaimed)
+}
+
+/// The file is there or it isn't, and its blocks are in use or given back.
+struct Reclaimed;
+
+impl Judge for Reclaimed {
+    fn is_right(
+        &self,
+        alloc: Global,
+        image: &MemImage,
+        _answered: u64,
+    ) -> Result<bool, OutOfMemory> {
+        Ok(tells_one_of(alloc, image, b"ls /\n", &LISTS)? && is_given_back_whole(alloc, image)?)
     }
-    Ok(tried)
 }
 
 // Whether behind a run without a line all blocks of the file are in use, or none.

@@ -1,8 +1,9 @@
 //! Power fails while a file takes the place of another.
-use crate::crashes::Tried;
 use crate::few::{Few, fresh_few};
-use crate::runs::{run_lines, told_by};
+use crate::runs::{PIECE, run_lines, told_by};
+use crate::stops::{Judge, Tried, try_stops};
 use hx_bytes::OutOfMemory;
+use mem_disk::MemImage;
 use std::alloc::Global;
 
 /// A replacement: what is done before it, its line, and what is told before and behind it.
@@ -43,30 +44,20 @@ pub fn try_replacement(alloc: Global, it: &Replacement, choice: u64) -> Result<T
     let mut made = Few::over(alloc, &fresh_few(alloc)?)?;
     run_lines(alloc, &mut made, it.made)?;
     let start = made.rig.image(alloc, 1)?;
-    let mut whole = Few::over(alloc, &start)?;
-    run_lines(alloc, &mut whole, it.line)?;
-    let mut tried = Tried {
-        crashes: 0,
-        wrong: None,
-    };
-    for call in 0..whole.rig.calls() {
-        if !whole.rig.wrote(call) {
-            continue;
-        }
-        let stop = call.saturating_add(1);
-        let mut disk = Few::over(alloc, &start)?;
-        disk.rig.stop_after(stop);
-        run_lines(alloc, &mut disk, it.line)?;
-        let image = disk.rig.image(alloc, choice)?;
-        let told = told_by(alloc, &image, b"ls /\nread /b 0 9\nread /c 0 9\n")?;
-        let is_one = match told {
-            Some(told) => told.as_slice() == it.before || told.as_slice() == it.behind,
+    try_stops(alloc, &start, it.line, PIECE, choice, it)
+}
+
+impl Judge for Replacement {
+    fn is_right(
+        &self,
+        alloc: Global,
+        image: &MemImage,
+        _answered: u64,
+    ) -> Result<bool, OutOfMemory> {
+        let told = told_by(alloc, image, b"ls /\nread /b 0 9\nread /c 0 9\n")?;
+        Ok(match told {
+            Some(told) => told.as_slice() == self.before || told.as_slice() == self.behind,
             None => false,
-        };
-        if !is_one {
-            tried.wrong = Some(stop);
-        }
-        tried.crashes = tried.crashes.saturating_add(1);
+        })
     }
-    Ok(tried)
 }

@@ -1,8 +1,8 @@
-//! Power fails while sessions hold files open whose names go.
-use crate::crashes::Tried;
+//! Power fails while sessions hold files open whose names go, make symbolic links and write resource forks.
 use crate::few::{Few, fresh_few};
 use crate::plain::count_lines;
 use crate::runs::{PIECE, is_clean, told_by};
+use crate::stops::Tried;
 use hfsx_server::Status;
 use hx_bytes::OutOfMemory;
 use mem_disk::MemImage;
@@ -10,23 +10,82 @@ use std::alloc::Global;
 use std::test::Fail;
 use test_kit::run_program;
 
+/// Lines of sessions and what comes of them.
+#[derive(Clone, Copy)]
+pub struct Story {
+    lines: &'static [u8],
+    /// What they are told.
+    replies: &'static [u8],
+    /// What a session asks behind them.
+    reads: &'static [u8],
+    /// What it is told, behind none of the lines first, and behind all of them last.
+    seen: &'static [Seen],
+}
+
+/// What a session is told behind some of the lines, up to this one.
+#[derive(Clone, Copy)]
+pub struct Seen {
+    told: &'static [u8],
+    last: u64,
+}
+
 /// A file loses its only name while a session has it open, and its bytes are read by the handle.
-const LINES: &[u8] =
-    b"1 create /f\n1 write /f 0 =hi\n2 open /f\n1 rm /f\n2 hread 1 0 9\n1 ls /\n2 close 1\n2 hread 1 0 9\n";
+pub const NAMELESS: Story = Story {
+    lines: b"1 create /f\n1 write /f 0 =hi\n2 open /f\n1 rm /f\n2 hread 1 0 9\n1 ls /\n2 close 1\n2 hread 1 0 9\n",
+    replies: b"ok\nok\nok 1\nok\nok =hi\nok 0\nok\nno NoHandle 1\n",
+    reads: b"1 ls /\n1 read /f 0 9\n",
+    seen: &[
+        Seen {
+            told: b"ok 0\nno NotFound\n",
+            last: 0,
+        },
+        Seen {
+            told: b"ok 1 f\nok =\n",
+            last: 1,
+        },
+        Seen {
+            told: b"ok 1 f\nok =hi\n",
+            last: 3,
+        },
+        Seen {
+            told: b"ok 0\nno NotFound\n",
+            last: 8,
+        },
+    ],
+};
 
-/// What is told of them.
-const REPLIES: &[u8] = b"ok\nok\nok 1\nok\nok =hi\nok 0\nok\nno NoHandle 1\n";
-
-/// What a session sees behind it.
-const READS: &[u8] = b"1 ls /\n1 read /f 0 9\n";
-
-/// What it sees after no line, after the first, after the second, and after all of them.
-const SEEN: [(&[u8], u64); 4] = [
-    (b"ok 0\nno NotFound\n", 0),
-    (b"ok 1 f\nok =\n", 1),
-    (b"ok 1 f\nok =hi\n", 3),
-    (b"ok 0\nno NotFound\n", 8),
-];
+/// A link is made, and the file to which it leads gets a resource fork, which is written again and stays while the file is moved.
+pub const LINKED: Story = Story {
+    lines: b"1 symlink /l =f\n1 create /f\n1 rwrite /f 0 =one\n1 rwrite /f 1 =two\n1 follow /l\n1 mv /f /g\n1 follow /l\n",
+    replies: b"ok\nok\nok\nok\nok /f\nok\nno NotFound\n",
+    reads: b"1 ls /\n1 readlink /l\n1 rread /f 0 9\n1 rread /g 0 9\n",
+    seen: &[
+        Seen {
+            told: b"ok 0\nno NotFound\nno NotFound\nno NotFound\n",
+            last: 0,
+        },
+        Seen {
+            told: b"ok 1 l\nok =f\nno NotFound\nno NotFound\n",
+            last: 1,
+        },
+        Seen {
+            told: b"ok 2 f l\nok =f\nok =\nno NotFound\n",
+            last: 2,
+        },
+        Seen {
+            told: b"ok 2 f l\nok =f\nok =one\nno NotFound\n",
+            last: 3,
+        },
+        Seen {
+            told: b"ok 2 f l\nok =f\nok =otwo\nno NotFound\n",
+            last: 5,
+        },
+        Seen {
+            told: b"ok 2 g l\nok =f\nno NotFound\nok =otwo\n",
+            last: 7,
+        },
+    ],
+};
 
 /// What the keeping folder holds between two runs.
 const KEPT: &[u8] = b"ls /%u0000HFSX%u0020Open%u0020Files\n";
@@ -37,7 +96,12 @@ fn serve(alloc: Global, disk: &mut Few, lines: &[u8]) -> Result<Status, OutOfMem
 }
 
 // Whether users see the volume of an image as after so many lines or more, and nothing is kept behind a run without a line.
-fn is_seen(alloc: Global, image: &MemImage, answered: u64) -> Result<bool, OutOfMemory> {
+fn is_seen(
+    alloc: Global,
+    story: &Story,
+    image: &MemImage,
+    answered: u64,
+) -> Result<bool, OutOfMemory> {
     let mut disk = Few::over(alloc, image)?;
     if serve(alloc, &mut disk, b"")? != Status::Done {
         return Ok(false);
@@ -54,11 +118,11 @@ fn is_seen(alloc: Global, image: &MemImage, answered: u64) -> Result<bool, OutOf
         None => return Ok(false),
     }
     let mut again = Few::over(alloc, image)?;
-    if serve(alloc, &mut again, READS)? != Status::Done {
+    if serve(alloc, &mut again, story.reads)? != Status::Done {
         return Ok(false);
     }
-    for (told, last) in SEEN {
-        if answered <= last && told == again.rig.told() {
+    for seen in story.seen {
+        if answered <= seen.last && seen.told == again.rig.told() {
             return Ok(true);
         }
     }
@@ -66,14 +130,14 @@ fn is_seen(alloc: Global, image: &MemImage, answered: u64) -> Result<bool, OutOf
 }
 
 // Stops the run after each call that wrote, and looks at the image of this choice.
-fn try_sessions(alloc: Global, choice: u64) -> Result<Tried, OutOfMemory> {
+fn try_sessions(alloc: Global, story: &Story, choice: u64) -> Result<Tried, OutOfMemory> {
     let start = fresh_few(alloc)?;
     let mut whole = Few::over(alloc, &start)?;
     let mut tried = Tried {
         crashes: 0,
         wrong: None,
     };
-    if serve(alloc, &mut whole, LINES)? != Status::Done || whole.rig.told() != REPLIES {
+    if serve(alloc, &mut whole, story.lines)? != Status::Done || whole.rig.told() != story.replies {
         tried.wrong = Some(0);
         return Ok(tried);
     }
@@ -84,10 +148,10 @@ fn try_sessions(alloc: Global, choice: u64) -> Result<Tried, OutOfMemory> {
         let stop = call.saturating_add(1);
         let mut disk = Few::over(alloc, &start)?;
         disk.rig.stop_after(stop);
-        serve(alloc, &mut disk, LINES)?;
+        serve(alloc, &mut disk, story.lines)?;
         let answered = count_lines(disk.rig.told());
         let image = disk.rig.image(alloc, choice)?;
-        if !is_clean(alloc, &image)? || !is_seen(alloc, &image, answered)? {
+        if !is_clean(alloc, &image)? || !is_seen(alloc, story, &image, answered)? {
             tried.wrong = Some(stop);
         }
         tried.crashes = tried.crashes.saturating_add(1);
@@ -97,7 +161,7 @@ fn try_sessions(alloc: Global, choice: u64) -> Result<Tried, OutOfMemory> {
 
 #[test]
 fn the_oldest_values_of_sessions_leave_a_prefix(rt: HostRuntime) -> Result<(), Fail> {
-    let tried = try_sessions(rt.alloc(), 0)?;
+    let tried = try_sessions(rt.alloc(), &NAMELESS, 0)?;
     assert!(rt; tried.wrong == None);
     assert!(rt; tried.crashes > 20);
     Ok(())
@@ -105,7 +169,23 @@ fn the_oldest_values_of_sessions_leave_a_prefix(rt: HostRuntime) -> Result<(), F
 
 #[test]
 fn the_newest_values_of_sessions_leave_a_prefix(rt: HostRuntime) -> Result<(), Fail> {
-    let tried = try_sessions(rt.alloc(), 1)?;
+    let tried = try_sessions(rt.alloc(), &NAMELESS, 1)?;
+    assert!(rt; tried.wrong == None);
+    assert!(rt; tried.crashes > 20);
+    Ok(())
+}
+
+#[test]
+fn the_oldest_values_of_links_leave_a_prefix(rt: HostRuntime) -> Result<(), Fail> {
+    let tried = try_sessions(rt.alloc(), &LINKED, 0)?;
+    assert!(rt; tried.wrong == None);
+    assert!(rt; tried.crashes > 20);
+    Ok(())
+}
+
+#[test]
+fn the_newest_values_of_links_leave_a_prefix(rt: HostRuntime) -> Result<(), Fail> {
+    let tried = try_sessions(rt.alloc(), &LINKED, 1)?;
     assert!(rt; tried.wrong == None);
     assert!(rt; tried.crashes > 20);
     Ok(())

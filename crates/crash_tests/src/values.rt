@@ -1,7 +1,7 @@
 //! Power fails while the value of an attribute goes from its record to blocks of its own, back, or away.
-use crate::crashes::Tried;
 use crate::few::{Few, fresh_few};
 use crate::runs::{is_clean, run_in_pieces, told_by};
+use crate::stops::Tried;
 use hx_bytes::OutOfMemory;
 use mem_disk::MemImage;
 use std::alloc::Global;

@@ -15,15 +15,24 @@ use Rattle.hfs_volume.specs.Forks.{extents_of, data_kind}
 use Rattle.hfs_volume.specs.Attributes.{IsOneExtent, journal_extent, info_extent}
 use Rattle.hfs_volume.specs.Content.{VolumeState, records_of, overflow_in_volume}
 use Rattle.hfs_volume.specs.Broken as broken
-use Rattle.hfs_volume.specs.Broken.{IsFailed, named_place}
+use Rattle.hfs_volume.specs.Broken.{IsFailed, named_place, FailsAttribute}
 use Rattle.fsck_list.specs.declared.finding.Finding.{Finding}
-use Rattle.fsck_core.specs.Attributes.{IsOneFile, HasOneFile, FailsFile, HasAttributes, AreAttributesOf, AreGood, IsBrokenValue, IsBrokenOfNames, Judges, KeepsAttributes}
+use Rattle.fsck_core.specs.Attributes.{IsOneFile, HasOneFile, FailsFile, HasAttributes, AreAttributesOf, AreGood, IsBrokenValue, IsBrokenOfNames, Judges, KeepsAttributes, FailsRecord, IsBrokenRecord, AreNamed, IsToldOr}
 use Rattle.fsck_core.specs.Catalogs.{HasRows}
 use Rattle.fsck_core.specs.Decided.{Adds, Decided}
 use Rattle.fsck_core.specs.Names.{value_found, id_found}
 use Rattle.fsck_core.specs.declared.rows.Row.{Row}
 use Rattle.fsck_core.proofs.DecidedLaws.{adds_two, adds_so, decided_both, decided_as, adds_unless, Unless}
 use Rattle.fsck_core.proofs.RecordJudged.{all_good, good_again}
+use Rattle.fsck_list.specs.Kept.{IsListed}
+use Rattle.fsck_core.specs.Decided.{StaysListed, IsTold, TellsOf}
+use Rattle.fsck_core.proofs.ToldLaws.{told_so, told_still, told_unless, stays_both}
+use Rattle.std.proofs.lemmas.List.{get_or_default}
+use Rattle.hfs_volume.specs.Attributes.{IsAttribute}
+use Rattle.hfs_volume.specs.Content.{attributes_of}
+use Rattle.hfs_volume.specs.Records.{attribute_of}
+use Rattle.hfs_volume.specs.Values.{IsValue}
+use Rattle.fsck_core.specs.Names.{pair_at}
 
 -- ---- the files of the journal
 
@@ -64,24 +73,27 @@ module _ (records : List Placed) (overflow : List Overflow) (name : List ℕ) (s
       at None is = rw is refl
       at (Some placed) is = rw is refl
 
+  file_fails : (found : Option CatRecord) (holds : Bool) (place : ℕ) → found ≡ value_found (record_at records 2 name) → IsTrue holds ↔ HasOneFile overflow found span → place ≡ id_found found → holds ≡ false → FailsFile records overflow name span place
+  file_fails found holds place found_is tells place_is fails = (
+    place_is ∙ ap id_found found_is ∙ place_named,
+    λ one.
+        true≢false (sym (tells.1 (subst (λ o. HasOneFile overflow o span) (sym found_is) (there_one (record_at records 2 name) one))) ∙ fails),
+  )
+
   pub file_adds : (found : Option CatRecord) (holds : Bool) (place : ℕ) (old new : List Finding) → found ≡ value_found (record_at records 2 name) → IsTrue holds ↔ HasOneFile overflow found span → place ≡ id_found found → Unless 20 holds place old new
       → Adds (λ f. IsFailed 20 f (FailsFile records overflow name span)) old new
   file_adds found holds place old new found_is tells place_is each =
-      adds_unless 20 (FailsFile records overflow name span) holds place old new (λ fails. (
-        place_is ∙ ap id_found found_is ∙ place_named,
-        λ one.
-            true≢false (sym (tells.1 (subst (λ o. HasOneFile overflow o span) (sym found_is) (there_one (record_at records 2 name) one))) ∙ fails),
-      )) each
+      adds_unless 20 (FailsFile records overflow name span) holds place old new (file_fails found holds place found_is tells place_is) each
 
   pub file_decided : (found : Option CatRecord) (holds met : Bool) (place : ℕ) (old new : List Finding) → found ≡ value_found (record_at records 2 name) → IsTrue holds ↔ HasOneFile overflow found span → place ≡ id_found found → met ≡ holds
-      → (met ≡ false → 0 < length new) → (0 < length old → 0 < length new) → Unless 20 holds place old new
+      → (met ≡ false → IsListed new (record { rule = 20; place = place; found = 0; wanted = 1 })) → StaysListed old new → Unless 20 holds place old new
       → Decided (λ f. IsFailed 20 f (FailsFile records overflow name span)) (IsOneExtent records overflow name span) old new met
   file_decided found holds met place old new found_is tells place_is met_is some still each = record {
     tells = (
       λ yes_met. one_there (record_at records 2 name) (subst (λ o. HasOneFile overflow o span) found_is (tells.0 (sym met_is ∙ yes_met))),
       λ one. met_is ∙ tells.1 (subst (λ o. HasOneFile overflow o span) (sym found_is) (there_one (record_at records 2 name) one)),
     );
-    found = some;
+    found = λ no. told_unless 20 (FailsFile records overflow name span) place new (file_fails found holds place found_is tells place_is (sym met_is ∙ no)) (some no);
     still = still;
     each = file_adds found holds place old new found_is tells place_is each;
   }
@@ -156,7 +168,58 @@ module _ (volume : VolumeState) (pairs : List Pair) (rows : List Row) (ready : H
       (file_adds_as (placed_in pairs) records overflow (overflow_in_volume volume) name journal_info_name (info_extent head) (info_extent volume.head) two last records_are has.overflow_is name_is block_is each))
 
   each_decided : (first one : List Finding) (met : Bool) → Judges volume (AreGood volume (length volume.attribute_pairs)) first one met → Decided (IsBrokenOfNames volume) Each first one met
-  each_decided first one met judged = record { tells = (judged.holds, judged.told); found = judged.found; still = judged.still; each = each_adds first one judged.each }
+  each_decided first one met judged = record { tells = (judged.holds, judged.told); found = λ no. told_so (IsBrokenValue volume) (IsBrokenOfNames volume) one value_says (judged.found no); still = judged.still; each = each_adds first one judged.each }
+
+  journal_fails : (f : broken.Finding) → SaysFile records (overflow_in_volume volume) journal_name (journal_extent volume.head volume.journal) f → IsFailed 20 f (FailsAttribute volume)
+  journal_fails f fails = (fails.0, fails.1, fails.2, inr (inl fails.3))
+
+  block_fails : (f : broken.Finding) → SaysFile records (overflow_in_volume volume) journal_info_name (info_extent volume.head) f → IsFailed 20 f (FailsAttribute volume)
+  block_fails f fails = (fails.0, fails.1, fails.2, inr (inr fails.3))
+
+  record_fails : (f : broken.Finding) → IsBrokenRecord volume f → IsFailed 20 f (FailsAttribute volume)
+  record_fails f fails = (fails.0, fails.1, fails.2, inl fails.3)
+
+  -- where each record keeps rule 20, none fails
+  none_fails : AreNamed volume (length volume.attribute_pairs) → (place : ℕ) → FailsRecord volume place → ⊥
+  none_fails all place (pair, stands, is, why) =
+      let at : pair_at volume.attribute_pairs stands.0 ≡ pair = get_or_default volume.attribute_pairs stands.0 ([], []) pair stands.1 ∙ stands.2 in
+      let it = all stands.0 stands.1 in
+      let own = subst (λ (p : Pair). IsAttribute records p × IsValue (attributes_of volume) (attribute_of p)) at it in elim why [
+        | inl bad ↦ bad own.0
+        | inr bad ↦ bad own.1
+      ]
+
+  -- rule 20, wherever it is broken
+  pub attributes_tell : (word name : List ℕ) (one two last : List Finding) (journal block : Bool) → word ≡ journal_name → name ≡ journal_info_name → IsToldOr volume (AreNamed volume (length volume.attribute_pairs)) one
+      → Decided (SaysFile (placed_in pairs) overflow word (journal_extent head (record { offset = info.offset; size = info.size }))) (IsOneExtent (placed_in pairs) overflow word (journal_extent head (record { offset = info.offset; size = info.size }))) one two journal
+      → Decided (SaysFile (placed_in pairs) overflow name (info_extent head)) (IsOneExtent (placed_in pairs) overflow name (info_extent head)) two last block
+      → TellsOf (λ f. IsFailed 20 f (FailsAttribute volume)) last
+  attributes_tell word name one two last journal block word_is name_is named of_journal of_block f fails = by fails.3
+    where
+      first : Decided (SaysFile records (overflow_in_volume volume) journal_name (journal_extent volume.head volume.journal)) Journal one two journal
+      first = file_as (placed_in pairs) records overflow (overflow_in_volume volume) word journal_name (journal_extent head (record { offset = info.offset; size = info.size })) (journal_extent volume.head volume.journal) one two journal records_are has.overflow_is word_is journal_is of_journal
+
+      second : Decided (SaysFile records (overflow_in_volume volume) journal_info_name (info_extent volume.head)) Block two last block
+      second = file_as (placed_in pairs) records overflow (overflow_in_volume volume) name journal_info_name (info_extent head) (info_extent volume.head) two last block records_are has.overflow_is name_is block_is of_block
+
+      of_records : IsToldOr volume (AreNamed volume (length volume.attribute_pairs)) one → (place : ℕ) → FailsRecord volume place → IsTold (λ g. IsFailed 20 g (FailsAttribute volume)) last
+      of_records (inl told) place wrong = told_so (IsBrokenRecord volume) (λ g. IsFailed 20 g (FailsAttribute volume)) last record_fails (told_still (IsBrokenRecord volume) one last (stays_both one two last first.still second.still) told)
+      of_records (inr all) place wrong = absurd (none_fails all place wrong)
+
+      of_file : (met : Bool) → (met ≡ true → Journal) → (met ≡ false → IsTold (SaysFile records (overflow_in_volume volume) journal_name (journal_extent volume.head volume.journal)) two) → (¬ Journal) → IsTold (λ g. IsFailed 20 g (FailsAttribute volume)) last
+      of_file true holds found wrong = absurd (wrong (holds refl))
+      of_file false holds found wrong =
+          told_so (SaysFile records (overflow_in_volume volume) journal_name (journal_extent volume.head volume.journal)) (λ g. IsFailed 20 g (FailsAttribute volume)) last journal_fails
+          (told_still (SaysFile records (overflow_in_volume volume) journal_name (journal_extent volume.head volume.journal)) two last second.still (found refl))
+
+      of_info : (met : Bool) → (met ≡ true → Block) → (met ≡ false → IsTold (SaysFile records (overflow_in_volume volume) journal_info_name (info_extent volume.head)) last) → (¬ Block) → IsTold (λ g. IsFailed 20 g (FailsAttribute volume)) last
+      of_info true holds found wrong = absurd (wrong (holds refl))
+      of_info false holds found wrong = told_so (SaysFile records (overflow_in_volume volume) journal_info_name (info_extent volume.head)) (λ g. IsFailed 20 g (FailsAttribute volume)) last block_fails (found refl)
+
+      by : FailsAttribute volume f.place → IsTold (λ g. IsFailed 20 g (FailsAttribute volume)) last
+      by (inl wrong) = of_records named f.place wrong
+      by (inr (inl wrong)) = of_file journal first.tells.0 first.found wrong.1
+      by (inr (inr wrong)) = of_info block second.tells.0 second.found wrong.1
 
   keeps : Each → Journal → Block → KeepsAttributes volume
   keeps good journal block =
@@ -181,7 +244,7 @@ module _ (volume : VolumeState) (pairs : List Pair) (rows : List Row) (ready : H
 
 -- one file of the journal, where a result is Ok
 pub file_ok : {E : Type 0} (result : Result Bool E) (records : List Placed) (overflow : List Overflow) (name : List ℕ) (span : Extent) (found : Option CatRecord) (holds : Bool) (place : ℕ) (old new : List Finding) → found ≡ value_found (record_at records 2 name)
-    → IsTrue holds ↔ HasOneFile overflow found span → place ≡ id_found found → IfOk result (λ met. met ≡ holds) → IfOk result (λ met. met ≡ false → 0 < length new) → (0 < length old → 0 < length new) → Unless 20 holds place old new
+    → IsTrue holds ↔ HasOneFile overflow found span → place ≡ id_found found → IfOk result (λ met. met ≡ holds) → IfOk result (λ met. met ≡ false → IsListed new (record { rule = 20; place = place; found = 0; wanted = 1 })) → StaysListed old new → Unless 20 holds place old new
     → IfOk result (λ met. Decided (λ f. IsFailed 20 f (FailsFile records overflow name span)) (IsOneExtent records overflow name span) old new met)
 file_ok (Ok met) listed overflow name span found holds place old new found_is tells place_is met_is some still each = file_decided listed overflow name span found holds met place old new found_is tells place_is met_is some still each
 file_ok (Err e) listed overflow name span found holds place old new found_is tells place_is met_is some still each = met_is

@@ -7,7 +7,7 @@ use Rattle.volume_header.specs.declared.header.VolumeHeader.{VolumeHeader}
 use Rattle.fsck_list.specs.declared.finding.Finding.{Finding as Listed}
 use Rattle.fsck_list.specs.Kept.{IsListed}
 use Rattle.hfs_volume.specs.Blocks.{IsGoodHeader, AgreesWith, HasFiles}
-use Rattle.hfs_volume.specs.Broken.{Finding, IsBroken, IsBrokenNode, IsBrokenEntry, IsBrokenLink, IsBrokenBlock}
+use Rattle.hfs_volume.specs.Broken.{Finding, IsBroken, IsBrokenNode, IsBrokenEntry, IsBrokenLink, IsBrokenBlock, IsUnmet, header_wants, alternate_wants}
 use Rattle.btree_node.specs.Keys.{IsCatalogKey, IsExtentKey, IsAttrKey, catalog_cmp, extent_cmp, attr_cmp, is_eight_extents, anything}
 use Rattle.btree_node.specs.TreeFile.{extents_form, catalog_form, attributes_form}
 use Rattle.hfs_volume.specs.Forks.{extents_id, catalog_id, attributes_id}
@@ -19,6 +19,8 @@ use Rattle.hfs_volume.proofs.Whole.{sound_has_none}
 use Rattle.fsck_core.specs.Lists.{IsJudged}
 use Rattle.fsck_core.specs.Passed.{IsLate, ListsLate, HasEarly}
 use Rattle.fsck_core.specs.Shown.{FindsEarly}
+use Rattle.fsck_core.specs.Rules.{EachRule, TellsHeaders}
+use Rattle.fsck_core.proofs.RuleLaws.{early_rules, later_rules}
 use Rattle.fsck_core.specs.Verdicts.{IsChecked, is_clean, findings_in, IsCounted, HasNumbers, KeepsEarly, summary_in, verdict_of}
 use Rattle.fsck_core.specs.Wants.{as_found}
 use Rattle.fsck_core.specs.declared.checking.Verdict.{Verdict}
@@ -26,15 +28,23 @@ use Rattle.fsck_core.specs.declared.checking.Verdict.TheVariants as verdict
 use Rattle.fsck_core.proofs.Joining.{lists_are_sound}
 use Rattle.fsck_core.proofs.JudgingLaws.{early_of}
 use Rattle.fsck_core.proofs.ShownLaws.{tree_low}
+use Rattle.fsck_core.proofs.TellingLaws.{tells_more}
 
 -- ---- what was checked
 
--- a rule of the first ten is broken
-pub checked_early : (content : Content) (list : List Listed) → 0 < length list → FindsEarly content list → IsChecked content None list
-checked_early content list some each = record {
+pub headers_more : (content : Content) (old new : List Listed) → old ≡ [] → TellsHeaders content old → TellsHeaders content new
+headers_more content old new none tells = (
+  tells_more (λ f. IsUnmet 1 f (header_wants (volume_of content).sectors (volume_of content).head)) old new none tells.0,
+  tells_more (λ f. IsUnmet 2 f (alternate_wants (volume_of content).head (volume_of content).alternate)) old new none tells.1,
+)
+
+-- a rule of the first seven is broken
+pub checked_early : (content : Content) (list : List Listed) → 0 < length list → FindsEarly content list → TellsHeaders content list → IsChecked content None list
+checked_early content list some each headers = record {
   told = some;
   each = λ f stands. (each f stands).0;
-  late = inl (early_of list some (λ f stands. (each f stands).1));
+  late = inl (early_of list some (λ f stands. let few = (each f stands).1 in omega (arith, few)));
+  rules = early_rules content list some each headers;
 }
 
 -- none is, and the lists were judged
@@ -45,12 +55,13 @@ checked_all content head list is good alternate files trees judged = record {
   told = (is, λ none. record { trees = trees; volume = lists_are_sound (volume_of content) good (subst (λ (h : VolumeHeader). AgreesWith h (volume_of content).alternate) is alternate) files (judged.holds none) });
   each = λ f stands. inr (judged.each f stands);
   late = judged.late;
+  rules = later_rules content list good (subst (λ (h : VolumeHeader). AgreesWith h (volume_of content).alternate) is alternate) files trees judged;
 }
 
 -- ---- the verdict
 
 -- a finding of the trees is of one of the first ten rules
-node_low : (content : Content) (f : Finding) → IsBrokenNode content f → f.rule ≤ 10
+node_low : (content : Content) (f : Finding) → IsBrokenNode content f → f.rule ≤ 7
 node_low content f (inl tree) = tree_low extents_form IsExtentKey is_eight_extents extent_cmp extents_id (extents_file content) f tree
 node_low content f (inr (inl tree)) = tree_low catalog_form IsCatalogKey anything catalog_cmp catalog_id (catalog_file content) f tree
 node_low content f (inr (inr (inl unmet))) = let is : f.rule ≡ 4 = unmet.0 in omega (arith, is)
@@ -103,9 +114,10 @@ pub record Tells (content : Content) (v : Verdict) : Type 0 where
   pub counted : IsCounted (volume_of content) v
   pub some : IsTrue (is_clean v) ⊎ (0 < length (findings_in v))
   pub broken : (f : Listed) → Contains (findings_in v) f → IsBroken content (as_found f)
+  pub each_rule : EachRule content (findings_in v)
   pub listed : KeepsEarly content → (f : Listed) → 11 ≤ f.rule → f.rule ≤ 14 → IsBroken content (as_found f) → IsListed (findings_in v) f
 
-module _ (content : Content) (list : List Listed) (each : (f : Listed) → Contains list f → IsBroken content (as_found f)) (late : HasEarly list ⊎ ListsLate (volume_of content) list) where
+module _ (content : Content) (list : List Listed) (each : (f : Listed) → Contains list f → IsBroken content (as_found f)) (late : HasEarly list ⊎ ListsLate (volume_of content) list) (rules : EachRule content list) where
   lists_all : KeepsEarly content → (f : Listed) → 11 ≤ f.rule → f.rule ≤ 14 → IsBroken content (as_found f) → IsListed list f
   lists_all keeps f low high broken = elim late [
     | inl early ↦ absurd (keeps (as_found early.0) (each early.0 early.1) early.2)
@@ -118,6 +130,7 @@ module _ (content : Content) (list : List Listed) (each : (f : Listed) → Conta
     counted = tt;
     some = inr some;
     broken = each;
+    each_rule = rules;
     listed = lists_all;
   }
 
@@ -133,15 +146,16 @@ tells_clean content head is sound = record {
   });
   some = inl refl;
   broken = λ f stands. absurd (omega (arith, stands.1));
+  each_rule = λ f broken judged. absurd (sound_has_none content sound f broken);
   listed = λ keeps f low high broken. absurd (sound_has_none content sound (as_found f) broken);
 }
 
 pub verdict_tells : (content : Content) (head : Option VolumeHeader) (list : List Listed) → IsChecked content head list → Tells content (verdict_of head list)
-verdict_tells content None list checked = tells_findings content list checked.each checked.late checked.told
+verdict_tells content None list checked = tells_findings content list checked.each checked.late checked.rules checked.told
 verdict_tells content (Some head) list checked = by (nat_lt 0 (length list)) refl
   where
     by : (b : Bool) → nat_lt 0 (length list) ≡ b → Tells content (if b then verdict.Findings list else verdict.Clean (summary_in head))
-    by true is = tells_findings content list checked.each checked.late (ltb-true 0 (length list) is)
+    by true is = tells_findings content list checked.each checked.late checked.rules (ltb-true 0 (length list) is)
     by false is = tells_clean content head checked.told.0 (checked.told.1 (none (length list) is))
       where
         none : (n : ℕ) → nat_lt 0 n ≡ false → n ≡ 0

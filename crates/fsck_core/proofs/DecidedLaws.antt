@@ -7,9 +7,10 @@ use Rattle.hfs_volume.specs.Broken.{Want, AllMet, IsUnmet, IsFailed}
 use Rattle.fsck_list.specs.declared.finding.Finding.{Finding}
 use Rattle.fsck_core.specs.Wants.{as_found}
 use Rattle.fsck_core.specs.Judged.{Judged}
-use Rattle.fsck_core.specs.Decided.{Adds, Decided, AllPass, IsMissed}
-use Rattle.fsck_core.proofs.WantLaws.{both_true, one_false}
-use Rattle.fsck_core.proofs.EntryLaws.{judged_found, stays}
+use Rattle.fsck_list.specs.Kept.{IsListed}
+use Rattle.fsck_core.specs.Decided.{Adds, Decided, AllPass, IsMissed, StaysListed}
+use Rattle.fsck_core.proofs.WantLaws.{both_true}
+use Rattle.fsck_core.proofs.ToldLaws.{told_two, told_so, told_unmet, told_unless}
 use Rattle.fsck_core.proofs.ParentLaws.{all_more}
 
 pub adds_none : (Says : broken.Finding → Type 0) (list : List Finding) → Adds Says list list
@@ -27,8 +28,8 @@ decided_both Says P Q old mid new one other both is first second = record {
     λ holds. let parts = both_true other one (sym is ∙ holds) in (first.tells.0 parts.1, second.tells.0 parts.0),
     λ holds. is ∙ (λ i. (second.tells.1 holds.1 i) && (first.tells.1 holds.0 i)),
   );
-  found = λ fails. ⊎_elim (λ (this : other ≡ false). second.found this) (λ (earlier : one ≡ false). second.still (first.found earlier)) (one_false other one (sym is ∙ fails));
-  still = λ some. second.still (first.still some);
+  found = told_two Says one other both mid new is second.found first.found second.still;
+  still = λ f listed. second.still f (first.still f listed);
   each = adds_two Says old mid new first.each second.each;
 }
 
@@ -36,7 +37,7 @@ decided_both Says P Q old mid new one other both is first second = record {
 pub decided_as : (Says So : broken.Finding → Type 0) (P Q : Type 0) (old new : List Finding) (met : Bool) → ((f : broken.Finding) → Says f → So f) → (P → Q) → (Q → P) → Decided Says P old new met → Decided So Q old new met
 decided_as Says So P Q old new met from to back decided = record {
   tells = (λ is. to (decided.tells.0 is), λ q. decided.tells.1 (back q));
-  found = decided.found;
+  found = λ fails. told_so Says So new from (decided.found fails);
   still = decided.still;
   each = adds_so Says So old new from decided.each;
 }
@@ -45,8 +46,8 @@ decided_as Says So P Q old new met from to back decided = record {
 pub decided_numbers : (rule : ℕ) (ws : List Want) (old new : List Finding) (met : Bool) → Judged rule ws old new met → Decided (λ f. IsUnmet rule f ws) (AllMet ws) old new met
 decided_numbers rule ws old new met judged = record {
   tells = judged.tells;
-  found = judged_found rule ws old new met judged;
-  still = stays old new judged.still;
+  found = told_unmet rule ws old new met judged;
+  still = judged.still;
   each = judged.each;
 }
 
@@ -63,11 +64,11 @@ adds_unless rule Fails holds place old new fails each f stands = ⊎_elim
     inr (ap (λ (g : Finding). g.rule) is.1, ap (λ (g : Finding). g.found) is.1, ap (λ (g : Finding). g.wanted) is.1, subst Fails (sym (ap (λ (g : Finding). g.place) is.1)) (fails is.0)))
     (each f stands)
 
-pub decided_one : (rule : ℕ) (Fails : ℕ → Type 0) (holds met : Bool) (place : ℕ) (old new : List Finding) → (holds ≡ false → Fails place) → met ≡ holds → (met ≡ false → 0 < length new) → (0 < length old → 0 < length new)
+pub decided_one : (rule : ℕ) (Fails : ℕ → Type 0) (holds met : Bool) (place : ℕ) (old new : List Finding) → (holds ≡ false → Fails place) → met ≡ holds → (met ≡ false → IsListed new (record { rule = rule; place = place; found = 0; wanted = 1 })) → StaysListed old new
     → Unless rule holds place old new → Decided (λ f. IsFailed rule f Fails) (holds ≡ true) old new met
 decided_one rule Fails holds met place old new fails is found still each = record {
   tells = (λ yes. sym is ∙ yes, λ holds_so. is ∙ holds_so);
-  found = found;
+  found = λ no. told_unless rule Fails place new (fails (sym is ∙ no)) (found no);
   still = still;
   each = adds_unless rule Fails holds place old new fails each;
 }
@@ -82,7 +83,7 @@ module _ (rule : ℕ) (test : ℕ → Bool) (place_of : ℕ → ℕ) (n : ℕ) w
   missed_none list = record {
     tells = (λ is k less. absurd (omega (arith, less)), λ all. refl);
     found = λ is. absurd (true≢false is);
-    still = λ some. some;
+    still = λ f listed. listed;
     each = λ f stands. inl stands;
   }
 
@@ -92,15 +93,16 @@ module _ (rule : ℕ) (test : ℕ → Bool) (place_of : ℕ → ℕ) (n : ℕ) w
       adds_two (IsMissed rule test place_of n) first old new before (adds_unless rule (λ p. (i : ℕ) × (i < n) × (place_of i ≡ p) × (test i ≡ false)) holds place old new (λ fails. (k, inside, sym place_is, sym is ∙ fails)) each)
 
   pub missed_more : (k : ℕ) (holds one met both : Bool) (place : ℕ) (first old new : List Finding) → k < n → holds ≡ test k → place ≡ place_of k → both ≡ (one && met)
-      → Decided (IsMissed rule test place_of n) (AllPass test k) first old met → one ≡ holds → (one ≡ false → 0 < length new) → (0 < length old → 0 < length new) → Unless rule holds place old new
+      → Decided (IsMissed rule test place_of n) (AllPass test k) first old met → one ≡ holds → (one ≡ false → IsListed new (record { rule = rule; place = place; found = 0; wanted = 1 })) → StaysListed old new → Unless rule holds place old new
       → Decided (IsMissed rule test place_of n) (AllPass test (k + 1)) first new both
   missed_more k holds one met both place first old new inside is place_is both_is before one_is found still each = record {
     tells = (
       all_more test k one met both both_is (one_is ∙ is) before.tells.0,
       λ all. both_is ∙ (λ i. ((one_is ∙ is ∙ all k (omega arith)) i) && (before.tells.1 (λ j less. all j (omega (arith, less))) i)),
     );
-    found = λ fails. ⊎_elim (λ (this : one ≡ false). found this) (λ (earlier : met ≡ false). still (before.found earlier)) (one_false one met (sym both_is ∙ fails));
-    still = λ some. still (before.still some);
+    found = told_two (IsMissed rule test place_of n) met one both old new both_is
+        (λ this. told_unless rule (λ p. (i : ℕ) × (i < n) × (place_of i ≡ p) × (test i ≡ false)) place new (k, inside, sym place_is, sym is ∙ (sym one_is ∙ this)) (found this)) before.found still;
+    still = λ f listed. still f (before.still f listed);
     each = missed_adds k holds place first old new inside is place_is before.each each;
   }
 

@@ -16,6 +16,7 @@ use Rattle.fsck_core.specs.Decided.{Decided}
 use Rattle.fsck_core.specs.Judged.{Judged}
 use Rattle.fsck_core.specs.Passed.{Passed, IsBrokenList, ListsLate, HaveCounts, KeepLists}
 use Rattle.fsck_core.proofs.EntryLaws.{judged_found, stays}
+use Rattle.fsck_core.proofs.ToldLaws.{told_some}
 
 -- ---- one part, and the next
 
@@ -33,7 +34,7 @@ passed_judged Broken rule ws old new met broken judged = passed_met Broken (AllM
     (λ f stands. ⊎_elim (λ (before : Contains old f). inl before) (λ (unmet : IsUnmet rule (as_found f) ws). inr (broken (as_found f) unmet)) (judged.each f stands))
 
 pub passed_decided : (Broken Says : Finding → Type 0) (P : Type 0) (old new : List Listed) (met : Bool) → ((f : Finding) → Says f → Broken f) → Decided Says P old new met → Passed Broken P old new
-passed_decided Broken Says P old new met broken decided = passed_met Broken P old new met decided.tells decided.found decided.still
+passed_decided Broken Says P old new met broken decided = passed_met Broken P old new met decided.tells (λ fails. told_some Says new (decided.found fails)) (stays old new decided.still)
     (λ f stands. ⊎_elim (λ (before : Contains old f). inl before) (λ (says : Says (as_found f)). inr (broken (as_found f) says)) (decided.each f stands))
 
 pub passed_both : (Broken : Finding → Type 0) (P Q : Type 0) (old mid new : List Listed) → Passed Broken P old mid → Passed Broken Q mid new → Passed Broken (P × Q) old new

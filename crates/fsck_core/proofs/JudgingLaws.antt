@@ -19,7 +19,7 @@ use Rattle.hfs_volume.specs.Forks.{Owned, all_forks}
 use Rattle.hfs_volume.proofs.Members.{at_front}
 use Rattle.fsck_core.specs.Attributes.{HasAttributes, KeepsAttributes, IsBrokenOfNames}
 use Rattle.fsck_core.specs.Catalogs.{IsCatalog, HasRows}
-use Rattle.fsck_core.specs.Decided.{Decided}
+use Rattle.fsck_core.specs.Decided.{Decided, StaysListed, IsTold}
 use Rattle.fsck_core.specs.Links.{IsBrokenName}
 use Rattle.fsck_core.specs.Lists.{AreLists, IsBrokenCatalog, HasEntries, IsJudged}
 use Rattle.fsck_core.specs.Owned.{FailsIn, Tested}
@@ -34,6 +34,8 @@ use Rattle.volume_header.specs.declared.header.VolumeHeader.{VolumeHeader}
 use Rattle.fsck_core.proofs.EntryLaws.{entries_rise, ids_apart, judged_found, stays}
 use Rattle.fsck_core.proofs.Joining.{passed_met, passed_first, passed_both, passed_as, passed_judged, passed_decided}
 use Rattle.fsck_core.proofs.ListJoins.{all_new}
+use Rattle.fsck_core.proofs.ToldLaws.{told_some, told_first}
+use Rattle.fsck_core.specs.Telling.{TellsCatalog, TellsForks}
 
 -- ---- the catalog (rules 8 to 10)
 
@@ -53,9 +55,10 @@ module _ (pairs : List Pair) (keys : All (λ (pair : Pair). IsCatalogKey pair.0)
   pub threads_passed : (old new : List Listed) (met : Bool) → Decided (λ f. IsFailed 9 f (FailsThread (placed_in pairs))) (AreThreaded pairs) old new met → Passed (IsBrokenCatalog pairs) (AreThreaded pairs) old new
   threads_passed old new met decided = passed_decided (IsBrokenCatalog pairs) (λ f. IsFailed 9 f (FailsThread (placed_in pairs))) (AreThreaded pairs) old new met (λ f fails. inr (inl fails)) decided
 
-  pub parents_passed : (old new : List Listed) (met : Bool) → IsTrue met ↔ AreRooted (entries_of (placed_in pairs)) → (met ≡ false → 0 < length new) → (0 < length old → 0 < length new)
+  pub parents_passed : (old new : List Listed) (met : Bool) → IsTrue met ↔ AreRooted (entries_of (placed_in pairs)) → (met ≡ false → IsTold (λ f. IsFailed 10 f (FailsParent (entries_of (placed_in pairs)))) new) → StaysListed old new
       → ((f : Listed) → Contains new f → Contains old f ⊎ IsFailed 10 (as_found f) (FailsParent (entries_of (placed_in pairs)))) → Passed (IsBrokenCatalog pairs) (AreRooted (entries_of (placed_in pairs))) old new
-  parents_passed old new met tells found still each = passed_met (IsBrokenCatalog pairs) (AreRooted (entries_of (placed_in pairs))) old new met tells found still
+  parents_passed old new met tells found still each = passed_met (IsBrokenCatalog pairs) (AreRooted (entries_of (placed_in pairs))) old new met tells
+      (λ fails. told_some (λ f. IsFailed 10 f (FailsParent (entries_of (placed_in pairs)))) new (found fails)) (stays old new still)
       (λ f stands. ⊎_elim (λ (before : Contains old f). inl before) (λ (fails : IsFailed 10 (as_found f) (FailsParent (entries_of (placed_in pairs)))). inr (inr (inr fails))) (each f stands))
 
   pub rows_rise : (rows : List Row) → rows ≡ rows_of (entries_of (placed_in pairs)) → IsNonDecreasingBy (λ (r : Row). r.parent) rows
@@ -126,7 +129,7 @@ GoOnAll forks overflow = All (GoesOn overflow) forks × (GoOnBad overflow × All
 
 pub overflow_passed : (volume : VolumeState) (forks : List Owned) (overflow : List Overflow) (old new : List Listed) (met : Bool) → overflow ≡ overflow_in_volume volume → forks ≡ forks_of volume
     → Tested (FailsIn forks overflow) (GoOnAll forks overflow) old new met → Passed (IsBrokenList volume) (GoOnAll (forks_of volume) (overflow_in_volume volume)) old new
-overflow_passed volume forks overflow old new met overflow_is forks_are tested = passed_met (IsBrokenList volume) (GoOnAll (forks_of volume) (overflow_in_volume volume)) old new met there.tells there.found there.still
+overflow_passed volume forks overflow old new met overflow_is forks_are tested = passed_met (IsBrokenList volume) (GoOnAll (forks_of volume) (overflow_in_volume volume)) old new met there.tells (λ fails. told_some (λ f. IsFailed 17 f (FailsIn (forks_of volume) (overflow_in_volume volume))) new (there.found fails)) (stays old new there.still)
     (λ f stands. ⊎_elim (λ (before : Contains old f). inl before) (λ (fails : IsFailed 17 (as_found f) (FailsOverflow volume)). inr (inr (inr (inr (inr (inr (inr (inr (inr (inl fails)))))))))) (there.each f stands))
   where
     there : Tested (FailsIn (forks_of volume) (overflow_in_volume volume)) (GoOnAll (forks_of volume) (overflow_in_volume volume)) old new met
@@ -189,28 +192,31 @@ catalog_early pairs f (inl fails) = let is : f.rule ≡ 8 = fails.0 in omega (ar
 catalog_early pairs f (inr (inl fails)) = let is : f.rule ≡ 9 = fails.0 in omega (arith, is)
 catalog_early pairs f (inr (inr fails)) = let is : f.rule ≡ 10 = fails.0 in omega (arith, is)
 
-catalog_broken : (volume : VolumeState) (finding : Finding) → IsBrokenCatalog volume.catalog_pairs finding → IsBrokenList volume finding
+pub catalog_broken : (volume : VolumeState) (finding : Finding) → IsBrokenCatalog volume.catalog_pairs finding → IsBrokenList volume finding
 catalog_broken volume finding (inl fails) = inl (inl fails)
 catalog_broken volume finding (inr (inl fails)) = inl (inr (inl fails))
 catalog_broken volume finding (inr (inr fails)) = inl (inr (inr (inl fails)))
 
 -- where a rule from 8 to 10 is broken
-pub judged_early : (volume : VolumeState) (pairs : List Pair) (list : List Listed) → pairs ≡ volume.catalog_pairs → 0 < length list → ((f : Listed) → Contains list f → IsBrokenCatalog pairs (as_found f)) → IsJudged volume list
-judged_early volume pairs list are some each = record {
+pub judged_early : (volume : VolumeState) (pairs : List Pair) (list : List Listed) → pairs ≡ volume.catalog_pairs → TellsCatalog pairs list → 0 < length list → ((f : Listed) → Contains list f → IsBrokenCatalog pairs (as_found f)) → IsJudged volume list
+judged_early volume pairs list are tells some each = record {
   holds = λ none. absurd (omega (arith, none, some));
   each = λ f stands. catalog_broken volume (as_found f) (subst (λ (l : List Pair). IsBrokenCatalog l (as_found f)) are (each f stands));
   late = inl (early_of list some (λ f stands. catalog_early pairs f (each f stands)));
+  rules = (subst (λ (l : List Pair). TellsCatalog l list) are tells, inl (told_first (IsBrokenCatalog volume.catalog_pairs) list some (λ f stands. subst (λ (l : List Pair). IsBrokenCatalog l (as_found f)) are (each f stands))));
 }
 
 -- where none is
-pub judged_late : (volume : VolumeState) (old new : List Listed) → old ≡ [] → Passed (IsBrokenList volume) (KeepLists volume) old new → ListsLate volume new → IsJudged volume new
-judged_late volume old new none passed listed = record {
+pub judged_late : (volume : VolumeState) (old new : List Listed) → old ≡ [] → TellsCatalog volume.catalog_pairs new → Passed (IsBrokenList volume) (KeepLists volume) old new → ListsLate volume new → TellsForks volume new → IsJudged volume new
+judged_late volume old new none tells passed listed rules = record {
   holds = passed.holds;
   each = all_new (λ f. IsBrokenList volume (as_found f)) old new none passed.each;
   late = inr listed;
+  rules = (tells, inr rules);
 }
 
-pub judged_both : {X E : Type 0} (volume : VolumeState) (result : Result X E) (old new : List Listed) → old ≡ [] → IfOk result (λ _. Passed (IsBrokenList volume) (KeepLists volume) old new) → IfOk result (λ _. ListsLate volume new)
+pub judged_both : {X E : Type 0} (volume : VolumeState) (result : Result X E) (old new : List Listed) → old ≡ [] → TellsCatalog volume.catalog_pairs new → IfOk result (λ _. Passed (IsBrokenList volume) (KeepLists volume) old new) → IfOk result (λ _. ListsLate volume new)
+    → IfOk result (λ _. TellsForks volume new)
     → IfOk result (λ _. IsJudged volume new)
-judged_both volume (Ok x) old new none passed listed = judged_late volume old new none passed listed
-judged_both volume (Err e) old new none passed listed = tt
+judged_both volume (Ok x) old new none tells passed listed rules = judged_late volume old new none tells passed listed rules
+judged_both volume (Err e) old new none tells passed listed rules = tt

@@ -21,6 +21,7 @@ pub mod BehindSums
 pub mod OwnerLaws
 pub mod ForkWants
 pub mod TestedLaws
+pub mod ToldLaws
 pub mod NumberLaws
 pub mod NameLaws
 pub mod DecidedLaws
@@ -35,6 +36,9 @@ pub mod ListJoins
 pub mod JudgingLaws
 pub mod ShownLaws
 pub mod OpeningLaws
+pub mod UnbrokenLaws
+pub mod TellingLaws
+pub mod RuleLaws
 pub mod CheckLaws
 pub mod BitsLaws
 pub mod UsedLists
@@ -42,6 +46,7 @@ pub mod StretchLaws
 pub mod RecordBytes
 pub mod ValueOrder
 pub mod ValueLaws
+pub mod NamedLaws
 pub mod ValueFound
 pub mod ValueJudged
 pub mod RecordJudged

@@ -48,6 +48,8 @@ use Rattle.fsck_core.proofs.ParentLaws.{is_below, lies_in}
 use Rattle.std.specs.List.Sorted.{IsNonDecreasingBy}
 use Rattle.fsck_core.proofs.EntryLaws.{entries_rise}
 use Rattle.fsck_core.proofs.DecidedLaws.{adds_two, adds_so, decided_both, decided_as, decided_numbers, adds_unless, decided_one, Unless}
+use Rattle.fsck_list.specs.Kept.{IsListed}
+use Rattle.fsck_core.specs.Decided.{StaysListed}
 
 -- ---- forks without a block
 
@@ -412,7 +414,7 @@ module _ (volume : VolumeState) (pairs : List Pair) (rows : List Row) (ready : H
         (adds_unless 19 (FailsLink volume) holds place first one (λ fails. subst (FailsLink volume) (sym (place_is ∙ ap id_found found_is)) (name_fails (sym (holds_is ∙ ap is_private found_is) ∙ fails))) each)
 
     pub name_decided : (found : Option CatRecord) (holds named : Bool) (place : ℕ) (first one : List Finding) → found ≡ value_found (record_at records 2 private_name) → holds ≡ is_private found → place ≡ id_found found → named ≡ holds
-        → (named ≡ false → 0 < length one) → (0 < length first → 0 < length one) → Unless 19 holds place first one
+        → (named ≡ false → IsListed one (record { rule = 19; place = place; found = 0; wanted = 1 })) → StaysListed first one → Unless 19 holds place first one
         → Decided (λ f. IsFailed 19 f (FailsLink volume)) (is_private (value_found (record_at records 2 private_name)) ≡ true) first one named
     name_decided found holds named place first one found_is holds_is place_is named_is some still each =
         let same : holds ≡ is_private (value_found (record_at records 2 private_name)) = holds_is ∙ ap is_private found_is in

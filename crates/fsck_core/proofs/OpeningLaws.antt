@@ -11,7 +11,7 @@ use Rattle.hfs_volume.proofs.HeaderWants.{header_holds}
 use Rattle.hfs_volume.proofs.BlockWants.{alternate_holds}
 use Rattle.fsck_core.specs.Judged.{AddsUnmet}
 use Rattle.fsck_core.specs.Passed.{Passed}
-use Rattle.fsck_core.specs.Shown.{IsBrokenHeader, FindsEarly}
+use Rattle.fsck_core.specs.Shown.{IsBrokenHeader, FindsEarly, TellsHeader}
 use Rattle.fsck_core.specs.Wants.{as_found}
 use Rattle.fsck_core.proofs.EntryLaws.{some_unmet, stays}
 use Rattle.fsck_core.proofs.Joining.{passed_met, passed_both}
@@ -20,6 +20,7 @@ use Rattle.fsck_core.proofs.ShownLaws.{header_early}
 use Rattle.jnl_format.specs.Recovery.{Content, sector, header_of_volume}
 use Rattle.volume_header.specs.Header.{header_of}
 use Rattle.hfs_volume.specs.Content.{volume_of}
+use Rattle.fsck_core.specs.Rules.{TellsHeaders}
 
 -- what a header gives that was read
 pub found_early : (content : Content) (sectors : ℕ) (head alternate : VolumeHeader) (old new : List Listed) → sectors ≡ length content → head ≡ header_of_volume content → alternate ≡ (volume_of content).alternate → old ≡ []
@@ -29,6 +30,14 @@ found_early content sectors head alternate old new many head_is alternate_is non
     (subst (λ (h : VolumeHeader). IsBrokenHeader (length content) h alternate (as_found f)) head_is
     (subst (λ n. IsBrokenHeader n head alternate (as_found f)) many
     (all_new (λ f. IsBrokenHeader sectors head alternate (as_found f)) old new none passed.each f stands))))
+
+pub headers_there : (content : Content) (sectors : ℕ) (head alternate : VolumeHeader) (list : List Listed) → sectors ≡ length content → head ≡ header_of_volume content → alternate ≡ (volume_of content).alternate → TellsHeader sectors head alternate list
+    → TellsHeaders content list
+unfolding volume_of
+headers_there content sectors head alternate list many head_is alternate_is tells =
+    subst (λ (h : VolumeHeader). TellsHeader (length content) (header_of_volume content) h list) alternate_is
+    (subst (λ (h : VolumeHeader). TellsHeader (length content) h alternate list) head_is
+    (subst (λ n. TellsHeader n head alternate list) many tells))
 
 pub alternate_there : (content : Content) (alternate : VolumeHeader) → alternate ≡ header_of (sector content (length content - 2)) → alternate ≡ (volume_of content).alternate
 unfolding volume_of

@@ -21,6 +21,7 @@ use Rattle.fsck_core.specs.Parents.{is_root_row, IsBelow, is_top, under, marked,
 use Rattle.fsck_core.specs.declared.rows.Row.{Row}
 use Rattle.fsck_core.proofs.RowLaws.{below_true, below_false}
 use Rattle.fsck_core.proofs.WantLaws.{both_true, one_false}
+use Rattle.fsck_core.specs.Decided.{IsTold}
 
 row_stands : (rows : List Row) (k : ℕ) → k < length rows → Contains rows (row_at rows k)
 row_stands rows k inside = (k, inside, get_or_default rows k (row_at rows k) no_row inside)
@@ -363,6 +364,15 @@ rows_add rows entries marks first mid new are leads before here f stands = ⊎_e
     (λ (fails : IsFailed 10 (as_found f) (FailsReach rows marks)).
     inr (fails.0, fails.1, fails.2, row_fails entries marks (subst (λ (l : List Row). Leads 2 l marks) are leads) f.place (subst (λ (l : List Row). FailsReach l marks f.place) are fails.3)))
     (here f stands)
+
+-- the same of what is told
+pub root_told : (rows : List Row) (entries : List Placed) (list : List Finding) → rows ≡ rows_of entries → IsTold (λ f. IsFailed 10 f (λ place. (place ≡ 2) × (list_any is_root_row rows ≡ false))) list → IsTold (λ f. IsFailed 10 f (FailsParent entries)) list
+root_told rows entries list are told =
+    (told.0, (told.1.0, told.1.1, told.1.2, root_fails entries told.0.place told.1.3.0 (ap (list_any is_root_row) (sym are) ∙ told.1.3.1)), told.2)
+
+pub rows_told : (rows : List Row) (entries : List Placed) (marks : List Bool) (list : List Finding) → rows ≡ rows_of entries → Leads 2 rows marks → IsTold (λ f. IsFailed 10 f (FailsReach rows marks)) list → IsTold (λ f. IsFailed 10 f (FailsParent entries)) list
+rows_told rows entries marks list are leads told =
+    (told.0, (told.1.0, told.1.1, told.1.2, row_fails entries marks (subst (λ (l : List Row). Leads 2 l marks) are leads) told.0.place (subst (λ (l : List Row). FailsReach l marks told.0.place) are told.1.3)), told.2)
 
 pub parents_tell : (rows : List Row) (entries : List Placed) (marks : List Bool) (reached root both : Bool) → rows ≡ rows_of entries → Leads 2 rows marks → both ≡ (reached && root) → root ≡ list_any is_root_row rows
     → IsTrue reached ↔ AreReached rows marks → IsTrue both ↔ AreRooted entries

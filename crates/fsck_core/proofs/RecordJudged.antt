@@ -1,5 +1,5 @@
 -- The records of the attributes file, judged one after the other: to whom each belongs, and its value.
-use Rattle.std.proofs.Common.{◌≡◌, ◌≢◌, ◌↔◌, ◌<◌, ◌≤◌, ℕ, zero, suc, ◌+◌, Bool, true, false, not, ◌&&◌, ◌==◌, if◌then◌else◌, List, [], ◌∷◌, length, inl, refl, sym, ◌∙◌, ap, subst, arith, ⊎_elim}
+use Rattle.std.proofs.Common.{IsTrue, ◌≡◌, ◌≢◌, ◌↔◌, ◌<◌, ◌≤◌, ℕ, zero, suc, ◌+◌, Bool, true, false, not, ◌&&◌, ◌==◌, if◌then◌else◌, List, [], ◌∷◌, length, inl, refl, sym, ◌∙◌, ap, subst, arith, ⊎_elim}
 use Rattle.std.specs.Prelude.{All, Contains}
 use Rattle.std.specs.List.{count_by}
 use Rattle.std.specs.List.Sorted.{IsNonDecreasing}
@@ -9,6 +9,7 @@ use Rattle.alloc_bitmap.specs.Apart.{times}
 use Rattle.volume_header.specs.declared.header.VolumeHeader.{VolumeHeader}
 use Rattle.btree_node.specs.Levels.{Pair}
 use Rattle.btree_node.specs.Keys.{attr_file, attr_units}
+use Rattle.cat_records.specs.Attributes.{is_attr}
 use Rattle.btree_node.proofs.Units.{units_at, units_end}
 use Rattle.hfs_volume.specs.Attributes.{HasOwner, IsAttribute}
 use Rattle.hfs_volume.specs.Blocks.{HasValueSizes}
@@ -18,7 +19,7 @@ use Rattle.hfs_volume.specs.Values.{IsValue}
 use Rattle.hfs_volume.proofs.Members.{all_of, each_of, map_cases, map_stands}
 use Rattle.hfs_volume.proofs.EntryWants.{counted, none_or_one}
 use Rattle.fsck_list.specs.declared.finding.Finding.{Finding}
-use Rattle.fsck_core.specs.Attributes.{owner_here, owner_count, is_owned, attribute_at, AreAttributesOf, AreOwnersOf, FailsRecord, IsBrokenValue, IsGoodRecord, IsGoodValue, AreGood, Judges}
+use Rattle.fsck_core.specs.Attributes.{owner_here, owner_count, is_owned, attribute_at, AreAttributesOf, AreOwnersOf, FailsRecord, IsBrokenValue, IsGoodRecord, IsGoodValue, AreGood, Judges, IsBrokenRecord, IsNamedAt, IsToldOr}
 use Rattle.fsck_core.specs.Decided.{Adds}
 use Rattle.fsck_core.specs.Names.{pair_at}
 use Rattle.fsck_core.specs.Rows.{row_of, rows_of}
@@ -26,6 +27,10 @@ use Rattle.fsck_core.specs.declared.rows.Row.{Row}
 use Rattle.fsck_core.proofs.RowLaws.{count_map, not_below, true_below}
 use Rattle.fsck_core.proofs.DecidedLaws.{Unless, adds_none}
 use Rattle.fsck_core.proofs.ValueFound.{good_at, fails_at, judges_as, judges_both, judges_unless, unless_adds}
+use Rattle.fsck_list.specs.Kept.{IsListed}
+use Rattle.fsck_core.specs.Decided.{StaysListed}
+use Rattle.fsck_core.proofs.NamedLaws.{named_as}
+use Rattle.fsck_core.proofs.ToldLaws.{told_still, told_unless}
 
 -- ---- owners
 
@@ -117,7 +122,15 @@ module _ (volume : VolumeState) (head : VolumeHeader) (pairs : List Pair) (are :
   pub owned_adds : (place : ℕ) (old mid : List Finding) → place ≡ (attribute_at pairs at).id → Unless 20 holds place old mid → Adds (IsBrokenValue volume) old mid
   owned_adds place old mid place_is each = unless_adds volume holds place old mid (λ refused. fails refused place place_is) each
 
-  pub record_judged : (place : ℕ) (old mid new : List Finding) (one stands both : Bool) → place ≡ (attribute_at pairs at).id → both ≡ (stands && one) → one ≡ holds → (one ≡ false → 0 < length mid) → (0 < length old → 0 < length mid) → Unless 20 holds place old mid
+  pub record_named : (place : ℕ) (mid new : List Finding) (one : Bool) → place ≡ (attribute_at pairs at).id → one ≡ holds → (one ≡ false → IsListed mid (record { rule = 20; place = place; found = 0; wanted = 1 })) → StaysListed mid new
+      → IsToldOr volume (IsTrue (is_attr (pair_at pairs at).1) × IsValue (attributes_of volume) (attribute_at pairs at)) new → IsToldOr volume (IsNamedAt volume at) new
+  record_named place mid new false place_is one_is found still named = inl (told_still (IsBrokenRecord volume) mid new still (told_unless 20 (FailsRecord volume) place mid (fails (sym one_is) place place_is) (found refl)))
+  record_named place mid new true place_is one_is found still named =
+      let is : Owns = named_owner (sym one_is) in
+      named_as volume (IsTrue (is_attr (pair_at pairs at).1) × IsValue (attributes_of volume) (attribute_at pairs at)) (IsNamedAt volume at) new
+      (λ value. subst (λ (l : List Pair). IsAttribute (records_of volume) (pair_at l at) × IsValue (attributes_of volume) (attribute_at l at)) are.pairs_are (record { spelled = value.0; named = is.0; owner = is.1 }, value.1)) named
+
+  pub record_judged : (place : ℕ) (old mid new : List Finding) (one stands both : Bool) → place ≡ (attribute_at pairs at).id → both ≡ (stands && one) → one ≡ holds → (one ≡ false → IsListed mid (record { rule = 20; place = place; found = 0; wanted = 1 })) → StaysListed old mid → Unless 20 holds place old mid
       → Judges volume (IsGoodValue volume at) mid new stands → Judges volume (IsGoodRecord volume (pair_at volume.attribute_pairs at)) old new both
   record_judged place old mid new one stands both place_is both_is one_is found still each second =
       judges_as volume (Owns × IsGoodValue volume at) (IsGoodRecord volume (pair_at volume.attribute_pairs at)) old new both (λ p. good_record p.0 p.1)
@@ -131,7 +144,7 @@ module _ (volume : VolumeState) where
     holds = λ is k less. absurd (omega (arith, less));
     told = λ good. refl;
     found = λ no. absurd (true≢false no);
-    still = λ some. some;
+    still = λ f listed. listed;
     each = adds_none (IsBrokenValue volume) list;
   }
 

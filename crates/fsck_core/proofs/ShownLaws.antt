@@ -124,7 +124,7 @@ attributes_keyed content is = by (has_attributes (header_of_volume content)) is
 
 -- ---- findings of the first ten rules
 
-pub tree_low : (form : TreeForm) (is_key is_value : List ℕ → Type 0) (cmp : List ℕ → List ℕ → Ordering) (id : ℕ) (tree : TreeFile) (f : Finding) → IsBrokenTree form is_key is_value cmp id tree f → f.rule ≤ 10
+pub tree_low : (form : TreeForm) (is_key is_value : List ℕ → Type 0) (cmp : List ℕ → List ℕ → Ordering) (id : ℕ) (tree : TreeFile) (f : Finding) → IsBrokenTree form is_key is_value cmp id tree f → f.rule ≤ 7
 tree_low form is_key is_value cmp id tree f (inl unmet) = let is : f.rule ≡ 4 = unmet.0 in omega (arith, is)
 tree_low form is_key is_value cmp id tree f (inr (inl fails)) = let is : f.rule ≡ 5 = fails.0 in omega (arith, is)
 tree_low form is_key is_value cmp id tree f (inr (inr (inl fails))) = let is : f.rule ≡ 6 = fails.0 in omega (arith, is)

@@ -8,22 +8,26 @@ use Rattle.std.proofs.lemmas.List.{take_more, take_all, get_or_default}
 use Rattle.std.proofs.lemmas.List.Elements.{Contains-append_left, Contains-append_right, Contains-append_cases}
 use Rattle.hfs_volume.specs.Forks.{Owned, is_of, extents_id, bad_blocks_id}
 use Rattle.hfs_volume.specs.Blocks.{GoOn, HasFork}
+use Rattle.hfs_volume.specs.Broken.{IsFailed}
 use Rattle.hfs_volume.proofs.Members.{all_of, each_of, map_cases, map_stands, at_front, behind, first_or_later, in_one}
 use Rattle.fsck_list.specs.declared.finding.Finding.{Finding}
 use Rattle.fsck_core.specs.Overflows.{overflow_in}
 use Rattle.fsck_core.specs.Owners.{owned_in, owned_all, follow}
+use Rattle.fsck_list.specs.Kept.{IsListed}
+use Rattle.fsck_core.specs.Decided.{StaysListed}
 use Rattle.fsck_core.specs.Owned.{AddsFailed, Tested, takes, takes_id}
 use Rattle.fsck_core.specs.declared.follow.OwnedFork.{OwnedFork}
 use Rattle.fsck_core.specs.declared.overflow.OverflowRow.{OverflowRow}
 use Rattle.fsck_core.specs.declared.follow.Front.{Front}
 use Rattle.fsck_core.proofs.WantLaws.{both_true, one_false}
+use Rattle.fsck_core.proofs.ToldLaws.{told_two, told_unless}
 use Rattle.fsck_core.proofs.OwnerLaws.{mine, many, goes}
 
 pub tested_none : (Fails : ℕ → Type 0) (P : Type 0) (list : List Finding) → P → Tested Fails P list list true
 tested_none Fails P list holds = record {
   tells = (λ is. holds, λ p. refl);
   found = λ is. absurd (true≢false is);
-  still = λ some. some;
+  still = λ f listed. listed;
   each = λ f stands. inl stands;
 }
 
@@ -36,8 +40,8 @@ tested_both Fails P Q old mid new one other both is first second = record {
     λ holds. let parts = both_true other one (sym is ∙ holds) in (first.tells.0 parts.1, second.tells.0 parts.0),
     λ holds. is ∙ (λ i. (second.tells.1 holds.1 i) && (first.tells.1 holds.0 i)),
   );
-  found = λ fails. ⊎_elim (λ (this : other ≡ false). second.found this) (λ (earlier : one ≡ false). second.still (first.found earlier)) (one_false other one (sym is ∙ fails));
-  still = λ some. second.still (first.still some);
+  found = told_two (λ f. IsFailed 17 f Fails) one other both mid new is second.found first.found second.still;
+  still = λ f listed. second.still f (first.still f listed);
   each = adds_two Fails old mid new first.each second.each;
 }
 
@@ -60,11 +64,11 @@ adds_of_test Fails P id holds old new tells fails each f stands = ⊎_elim
     (each f stands)
 
 pub tested_test : {E : Type 0} (result : Result Bool E) (Fails : ℕ → Type 0) (P : Type 0) (id : ℕ) (holds : Bool) (old new : List Finding) → IsTrue holds ↔ P → ((¬ P) → Fails id)
-    → IfOk result (λ met. met ≡ holds) → IfOk result (λ met. met ≡ false → 0 < length new) → (0 < length old → 0 < length new)
+    → IfOk result (λ met. met ≡ holds) → IfOk result (λ met. met ≡ false → IsListed new (record { rule = 17; place = id; found = 0; wanted = 1 })) → StaysListed old new
     → ((f : Finding) → Contains new f → Contains old f ⊎ ((holds ≡ false) × (f ≡ record { rule = 17; place = id; found = 0; wanted = 1 }))) → IfOk result (λ met. Tested Fails P old new met)
 tested_test (Ok met) Fails P id holds old new tells fails is found still each = record {
   tells = (λ yes. tells.0 (sym is ∙ yes), λ p. is ∙ tells.1 p);
-  found = found;
+  found = λ no. told_unless 17 Fails id new (fails (λ p. true≢false (sym (tells.1 p) ∙ (sym is ∙ no)))) (found no);
   still = still;
   each = adds_of_test Fails P id holds old new tells fails each;
 }

@@ -35,12 +35,14 @@ use Rattle.fsck_core.specs.Judged.{Judged, AddsUnmet}
 use Rattle.fsck_core.specs.Names.{pair_at}
 use Rattle.fsck_core.specs.Wants.{as_found}
 use Rattle.fsck_core.proofs.DecidedLaws.{Unless, adds_two, adds_so, adds_unless}
-use Rattle.fsck_core.proofs.EntryLaws.{judged_found, stays}
+use Rattle.fsck_core.proofs.ToldLaws.{told_two, told_so, told_unless, told_unmet}
 use Rattle.fsck_core.proofs.JudgedLaws.{adds_of}
 use Rattle.fsck_core.proofs.OwnerLaws.{used_length}
 use Rattle.fsck_core.proofs.ValueLaws.{all_more, wholly_goes, goes_wholly, stray_or_none, ends_there}
 use Rattle.fsck_core.proofs.ValueOrder.{Same, rises, starts_rise, first_at_zero, tested_same, same_tested, no_test, rest_more, all_are_rest}
 use Rattle.fsck_core.proofs.WantLaws.{both_true, one_false}
+use Rattle.fsck_list.specs.Kept.{IsListed}
+use Rattle.fsck_core.specs.Decided.{StaysListed}
 
 -- ---- parts that were judged one after the other
 
@@ -52,8 +54,8 @@ module _ (volume : VolumeState) where
   judges_both P Q old mid new one other both is first second = record {
     holds = λ yes. let parts = both_true other one (sym is ∙ yes) in (first.holds parts.1, second.holds parts.0);
     told = λ good. is ∙ (λ i. (second.told good i) && (first.told good i));
-    found = λ no. ⊎_elim (λ (this : other ≡ false). second.found this) (λ (earlier : one ≡ false). second.still (first.found earlier)) (one_false other one (sym is ∙ no));
-    still = λ some. second.still (first.still some);
+    found = told_two (IsBrokenValue volume) one other both mid new is second.found first.found second.still;
+    still = λ f listed. second.still f (first.still f listed);
     each = adds_two (IsBrokenValue volume) old mid new first.each second.each;
   }
 
@@ -61,11 +63,11 @@ module _ (volume : VolumeState) where
   unless_adds holds place old new fails each = adds_so (λ f. IsFailed 20 f (FailsRecord volume)) (IsBrokenValue volume) old new (λ f failed. inl failed) (adds_unless 20 (FailsRecord volume) holds place old new fails each)
 
   pub judges_unless : (P : Type 0) (holds met : Bool) (place : ℕ) (old new : List Finding) → (holds ≡ true → P) → (AreGood volume (length volume.attribute_pairs) → holds ≡ true) → (holds ≡ false → FailsRecord volume place)
-      → met ≡ holds → (met ≡ false → 0 < length new) → (0 < length old → 0 < length new) → Unless 20 holds place old new → Judges volume P old new met
+      → met ≡ holds → (met ≡ false → IsListed new (record { rule = 20; place = place; found = 0; wanted = 1 })) → StaysListed old new → Unless 20 holds place old new → Judges volume P old new met
   judges_unless P holds met place old new so told fails is found still each = record {
     holds = λ yes. so (sym is ∙ yes);
     told = λ good. is ∙ told good;
-    found = found;
+    found = λ no. told_so (λ f. IsFailed 20 f (FailsRecord volume)) (IsBrokenValue volume) new (λ f failed. inl failed) (told_unless 20 (FailsRecord volume) place new (fails (sym is ∙ no)) (found no));
     still = still;
     each = unless_adds holds place old new fails each;
   }
@@ -79,8 +81,8 @@ module _ (volume : VolumeState) where
   judges_numbers P ws old new met so told more judged = record {
     holds = λ yes. so (judged.tells.0 yes);
     told = λ good. judged.tells.1 (told good);
-    found = judged_found 16 ws old new met judged;
-    still = stays old new judged.still;
+    found = λ no. told_so (λ f. IsUnmet 16 f ws) (IsBrokenValue volume) new (λ f unmet. inr (unmet.0, unmet.1, more (want f.place f.found f.wanted) unmet.2)) (told_unmet 16 ws old new met judged no);
+    still = judged.still;
     each = unmet_adds ws old new more judged.each;
   }
 

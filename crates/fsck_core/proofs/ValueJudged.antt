@@ -1,5 +1,5 @@
 -- A record of the attributes file that was judged: what each way through its judgement tells of rules 16 and 20.
-use Rattle.std.proofs.Common.{◌≡◌, ◌≢◌, ◌⊎◌, ◌↔◌, ◌<◌, ℕ, ◌+◌, ◌*◌, ◌==◌, arith, Bool, true, false, ◌&&◌, min, List, [], ◌∷◌, length, refl, sym, ◌∙◌, ap, subst}
+use Rattle.std.proofs.Common.{◌≡◌, ◌≢◌, ◌⊎◌, ◌↔◌, ◌<◌, ℕ, ◌+◌, ◌*◌, ◌==◌, arith, Bool, true, false, ◌&&◌, min, List, [], ◌∷◌, length, inl, refl, sym, ◌∙◌, ap, subst}
 use Rattle.std.specs.Prelude.{Contains, IsTrue, Result, Ok, Err, IfOk, Option, Some, None, MatchOption}
 use Rattle.std.proofs.lemmas.Bool.{true≢false, eqb-true, eq-eqb}
 use Rattle.hx_bytes.specs.declared.extents.Extent.{Extent}
@@ -12,34 +12,37 @@ use Rattle.cat_records.specs.Attributes.{is_attr}
 use Rattle.cat_records.specs.declared.attribute.AttrRecord.{AttrRecord}
 use Rattle.cat_records.specs.declared.attribute.AttrRecord.TheVariants as attribute
 use Rattle.hfs_volume.specs.Blocks.{HasValueSizes, FitsIn, LieInside}
-use Rattle.hfs_volume.specs.Broken.{Want, want, extent_wants}
+use Rattle.hfs_volume.specs.Broken.{Want, want, extent_wants, IsFailed}
 use Rattle.hfs_volume.specs.Content.{VolumeState, attributes_of}
 use Rattle.hfs_volume.specs.Forks.{is_full}
 use Rattle.hfs_volume.specs.Records.{Attribute}
 use Rattle.hfs_volume.specs.Values.{is_more, extents_in, IsValue, IsValueIn}
 use Rattle.fsck_list.specs.declared.finding.Finding.{Finding}
-use Rattle.fsck_core.specs.Attributes.{attribute_at, rest_at, GoWholly, end_of, HasFirstFork, FailsRecord, IsBrokenValue, IsGoodValue, AreGood, AreAttributesOf, Judges}
-use Rattle.fsck_core.specs.Decided.{Adds}
+use Rattle.fsck_core.specs.Attributes.{attribute_at, rest_at, GoWholly, end_of, HasFirstFork, FailsRecord, IsBrokenValue, IsGoodValue, AreGood, AreAttributesOf, Judges, IsToldOr}
+use Rattle.fsck_core.specs.Decided.{Adds, StaysListed}
 use Rattle.fsck_core.specs.Judged.{Judged, AddsUnmet}
 use Rattle.fsck_core.specs.Names.{pair_at}
 use Rattle.fsck_core.proofs.DecidedLaws.{Unless, adds_two}
 use Rattle.fsck_core.proofs.ValueFound.{judges_as, judges_both, judges_unless, judges_numbers, unless_adds, unmet_adds, followed_value, good_follows, unfollowed_fails, size_wants, sizes_fit, good_sizes, sizes_among, extents_among, good_extents, extents_lie, good_starts, started_fails, unspelled_fails, good_spelled, further_stands, good_forked, unforked_fails}
+use Rattle.fsck_list.specs.Kept.{IsListed}
+use Rattle.fsck_core.proofs.ToldLaws.{told_so, told_unless}
+use Rattle.fsck_core.proofs.NamedLaws.{named_by}
 
 -- a finding behind a part that was judged, where not all attributes are good
 pub fails_ok : {E : Type 0} (volume : VolumeState) (P Q : Type 0) (result : Result Bool E) (place : ℕ) (old mid new : List Finding) (one : Bool) → (AreGood volume (length volume.attribute_pairs) → ⊥) → FailsRecord volume place → Judges volume P old mid one
-    → IfOk result (λ met. met ≡ false) → IfOk result (λ met. met ≡ false → 0 < length new) → (0 < length mid → 0 < length new) → Unless 20 false place mid new → IfOk result (λ met. Judges volume Q old new met)
+    → IfOk result (λ met. met ≡ false) → IfOk result (λ met. met ≡ false → IsListed new (record { rule = 20; place = place; found = 0; wanted = 1 })) → StaysListed mid new → Unless 20 false place mid new → IfOk result (λ met. Judges volume Q old new met)
 fails_ok volume P Q (Err e) place old mid new one bad fails first is found still each = tt
 fails_ok volume P Q (Ok met) place old mid new one bad fails first is found still each = record {
   holds = λ yes. absurd (true≢false (sym yes ∙ is));
   told = λ good. absurd (bad good);
-  found = found;
-  still = λ some. still (first.still some);
+  found = λ no. told_so (λ f. IsFailed 20 f (FailsRecord volume)) (IsBrokenValue volume) new (λ f failed. inl failed) (told_unless 20 (FailsRecord volume) place new fails (found no));
+  still = λ f listed. still f (first.still f listed);
   each = adds_two (IsBrokenValue volume) old mid new first.each (unless_adds volume false place mid new (λ refused. fails) each);
 }
 
 -- the same of a judgement of nothing else
 pub unless_ok : {E : Type 0} (volume : VolumeState) (Q : Type 0) (result : Result Bool E) (holds : Bool) (place : ℕ) (old new : List Finding) → (holds ≡ true → Q) → (AreGood volume (length volume.attribute_pairs) → holds ≡ true) → (holds ≡ false → FailsRecord volume place)
-    → IfOk result (λ met. met ≡ holds) → IfOk result (λ met. met ≡ false → 0 < length new) → (0 < length old → 0 < length new) → Unless 20 holds place old new → IfOk result (λ met. Judges volume Q old new met)
+    → IfOk result (λ met. met ≡ holds) → IfOk result (λ met. met ≡ false → IsListed new (record { rule = 20; place = place; found = 0; wanted = 1 })) → StaysListed old new → Unless 20 holds place old new → IfOk result (λ met. Judges volume Q old new met)
 unless_ok volume Q (Err e) holds place old new so told fails is found still each = tt
 unless_ok volume Q (Ok met) holds place old new so told fails is found still each = judges_unless volume Q holds met place old new so told fails is found still each
 
@@ -109,6 +112,9 @@ module _ (volume : VolumeState) (head : VolumeHeader) (pairs : List Pair) (are :
         (sizes_fit volume head pairs are at inside fork value_is starts blocks there.1) (good_sizes volume head pairs are at inside fork value_is starts blocks there.1) (sizes_among volume head pairs are at inside fork value_is starts blocks there.1)
         (subst (λ l. Judged 16 l mid new sizes) (number_wants_are id blocks id_is) second)))
 
+    pub fork_named : (starts : (attribute_at pairs at).start ≡ 0) (found : Option ℕ) (blocks : ℕ) → found ≡ Some blocks → Told found → IsValue (attributes_of volume) (attribute_at pairs at)
+    fork_named starts found blocks some told = let there = subst Told some told in followed_value volume head pairs are at inside fork value_is starts there.0
+
     pub sizes_add : (starts : (attribute_at pairs at).start ≡ 0) (found : Option ℕ) (blocks id : ℕ) (old mid new : List Finding) → found ≡ Some blocks → Told found → id ≡ (attribute_at pairs at).id → Adds (IsBrokenValue volume) old mid
         → AddsUnmet 16 (want id fork.total_blocks blocks ∷ want id fork.logical_size (min fork.logical_size (fork.total_blocks * head.block_size)) ∷ []) mid new → Adds (IsBrokenValue volume) old new
     sizes_add starts found blocks id old mid new some told id_is first second =
@@ -130,12 +136,17 @@ module _ (volume : VolumeState) (head : VolumeHeader) (pairs : List Pair) (are :
     further_fails is place place_is = unforked_fails volume head pairs are at inside more value_is (no_fork is) place place_is
 
     pub further_judged : (id : ℕ) (old mid new : List Finding) (one stands all : Bool) → id ≡ (attribute_at pairs at).id → all ≡ (stands && one) → IsTrue (is_attr (pair_at pairs at).1) → Judges volume (LieInside volume.head.total_blocks (extents_in (attribute_at pairs at).value)) old mid one
-        → stands ≡ forked → (stands ≡ false → 0 < length new) → (0 < length mid → 0 < length new) → Unless 20 forked id mid new → Judges volume (IsGoodValue volume at) old new all
+        → stands ≡ forked → (stands ≡ false → IsListed new (record { rule = 20; place = id; found = 0; wanted = 1 })) → StaysListed mid new → Unless 20 forked id mid new → Judges volume (IsGoodValue volume at) old new all
     further_judged id old mid new one stands all id_is all_is spelled first is found still each =
         judges_as volume (Lies × IsValue (attributes_of volume) own) (IsGoodValue volume at) old new all (λ both. good_value spelled both.1 both.0 fits)
         (judges_both volume Lies (IsValue (attributes_of volume) own) old mid new one stands all all_is first
         (judges_unless volume (IsValue (attributes_of volume) own) forked stands id mid new (λ yes. further_stands volume head pairs are at inside more value_is (tells.0 yes)) (λ good. tells.1 (good_forked volume head pairs are at inside more value_is good))
         (λ no_one. further_fails no_one id id_is) is found still each))
+
+    pub further_named : (id : ℕ) (new : List Finding) (stands : Bool) → id ≡ (attribute_at pairs at).id → stands ≡ forked → (stands ≡ false → IsListed new (record { rule = 20; place = id; found = 0; wanted = 1 }))
+        → IsToldOr volume (IsValue (attributes_of volume) (attribute_at pairs at)) new
+    further_named id new stands id_is is found =
+        named_by volume (IsValue (attributes_of volume) own) forked stands id new (λ yes. further_stands volume head pairs are at inside more value_is (tells.0 yes)) (λ no. further_fails no id id_is) is found
 
     pub further_add : (id : ℕ) (old mid new : List Finding) → id ≡ (attribute_at pairs at).id → Adds (IsBrokenValue volume) old mid → Unless 20 forked id mid new → Adds (IsBrokenValue volume) old new
     further_add id old mid new id_is first each = adds_two (IsBrokenValue volume) old mid new first (unless_adds volume forked id mid new (λ is. further_fails is id id_is) each)
@@ -148,6 +159,9 @@ module _ (volume : VolumeState) (head : VolumeHeader) (pairs : List Pair) (are :
         good_value spelled (subst (λ v. IsValueIn (attributes_of volume) own v) (sym value_is) (sym start_is ∙ eqb-true start 0 zero_is))
         (subst (λ v. LieInside volume.head.total_blocks (extents_in v)) (sym value_is) (λ k d less. absurd (omega (arith, less))))
         (subst (λ v. FitsIn volume.head.block_size (attributes_of volume) own v) (sym value_is) tt)
+
+    pub inline_named : IsTrue (is_attr (pair_at pairs at).1) → (start == 0) ≡ true → IsTrue (is_attr (pair_at pairs at).1) × IsValue (attributes_of volume) (attribute_at pairs at)
+    inline_named spelled zero_is = (spelled, subst (λ v. IsValueIn (attributes_of volume) own v) (sym value_is) (sym start_is ∙ eqb-true start 0 zero_is))
 
     pub inline_told : AreGood volume (length volume.attribute_pairs) → (start == 0) ≡ true
     inline_told good = eq-eqb start 0 (start_is ∙ good_starts volume head pairs are at inside good (ap is_more value_is))

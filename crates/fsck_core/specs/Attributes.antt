@@ -25,7 +25,7 @@ use Rattle.hfs_volume.specs.Broken.{Finding, IsFailed, IsUnmet, FailsAttribute, 
 use Rattle.hfs_volume.specs.Changes.{AreSortedAttributes}
 use Rattle.hfs_volume.specs.Content.{VolumeState, overflow_in_volume, attributes_of, records_of}
 use Rattle.hfs_volume.specs.Values.{IsValue, is_record_of, is_more, has_fork, extents_in}
-use Rattle.fsck_core.specs.Decided.{Adds}
+use Rattle.fsck_core.specs.Decided.{Adds, StaysListed, IsTold}
 use Rattle.fsck_core.specs.Names.{pair_at}
 use Rattle.fsck_core.specs.Owners.{next_front}
 use Rattle.fsck_core.specs.declared.rows.Row.{Row}
@@ -115,14 +115,30 @@ pub record AreAttributesOf (volume : VolumeState) (head : VolumeHeader) (pairs :
   pub pairs_are : pairs ≡ volume.attribute_pairs
   pub keyed : AreKeyed pairs
 
--- A part of rules 16 and 20 was judged of attributes: it holds where that is told, it is told where all attributes keep the rules, else there is a finding;
--- and each that was added is of a record that breaks one of the rules.
+-- A part of rules 16 and 20 was judged of attributes: it holds where that is told, it is told where all attributes keep the rules, else a finding is
+-- listed; and that one and each that was added is of a record that breaks one of the rules.
 pub record Judges (volume : VolumeState) (P : Type 0) (old new : List listed.Finding) (met : Bool) : Type 0 where
   pub holds : met ≡ true → P
   pub told : AreGood volume (length volume.attribute_pairs) → met ≡ true
-  pub found : met ≡ false → 0 < length new
-  pub still : 0 < length old → 0 < length new
+  pub found : met ≡ false → IsTold (IsBrokenValue volume) new
+  pub still : StaysListed old new
   pub each : Adds (IsBrokenValue volume) old new
+
+-- rule 20 is broken by a record of the attributes file
+abbrev pub IsBrokenRecord : VolumeState → Finding → Type 0
+IsBrokenRecord volume finding = IsFailed 20 finding (FailsRecord volume)
+
+-- the record at a place keeps rule 20
+abbrev pub IsNamedAt : VolumeState → ℕ → Type 0
+IsNamedAt volume k = IsAttribute (records_of volume) (pair_at volume.attribute_pairs k) × IsValue (attributes_of volume) (attribute_at volume.attribute_pairs k)
+
+-- the first so many do
+abbrev pub AreNamed : VolumeState → ℕ → Type 0
+AreNamed volume n = (k : ℕ) → k < n → IsNamedAt volume k
+
+-- a finding of rule 20 is listed, or this holds
+abbrev pub IsToldOr : VolumeState → Type 0 → List listed.Finding → Type 0
+IsToldOr volume P list = IsTold (IsBrokenRecord volume) list ⊎ P
 
 -- Blocks are those of an extent.
 pub record IsSpan (blocks : Blocks) (span : Extent) : Type 0 where

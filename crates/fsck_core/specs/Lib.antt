@@ -18,7 +18,9 @@ pub mod Threads
 pub mod Attributes
 pub mod AllForks
 pub mod Passed
+pub mod Telling
 pub mod Lists
 pub mod Shown
+pub mod Rules
 pub mod Verdicts
 pub mod UsedExtents

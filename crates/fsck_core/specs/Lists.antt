@@ -14,6 +14,8 @@ use Rattle.fsck_core.specs.Flags.{AreBits}
 use Rattle.fsck_core.specs.Overflows.{overflows_in}
 use Rattle.fsck_core.specs.Passed.{IsBrokenList, ListsLate, HasEarly, KeepLists}
 use Rattle.fsck_core.specs.Rows.{rows_of}
+use Rattle.fsck_core.specs.Decided.{IsTold}
+use Rattle.fsck_core.specs.Telling.{TellsCatalog, TellsForks}
 use Rattle.fsck_core.specs.Wants.{as_found}
 use Rattle.fsck_core.specs.declared.rows.Row.{Row}
 use Rattle.fsck_core.specs.declared.lists.Lists.{Lists}
@@ -43,8 +45,10 @@ pub record HasEntries (pairs : List Pair) (rows : List Row) : Type 0 where
   pub rows_are : rows ≡ rows_of (entries_of (placed_in pairs))
 
 -- The lists of a volume were judged: where nothing is found they keep rules 8 to 20, each finding is of a broken rule, and where none of them is
--- of an early rule each place that breaks one of rules 11 to 14 is listed.
+-- of an early rule each place that breaks one of rules 11 to 14 is listed; and of each
+-- other rule that is broken one is listed, if none of a rule that it rests on is.
 pub record IsJudged (volume : VolumeState) (list : List Listed) : Type 0 where
   pub holds : length list ≡ 0 → KeepLists volume
   pub each : (f : Listed) → Contains list f → IsBrokenList volume (as_found f)
   pub late : HasEarly list ⊎ ListsLate volume list
+  pub rules : TellsCatalog volume.catalog_pairs list × (IsTold (IsBrokenCatalog volume.catalog_pairs) list ⊎ TellsForks volume list)

@@ -1,5 +1,5 @@
 -- Rule 17, judged one place after the other.
-use Rattle.std.specs.Prelude.{◌≡◌, ◌⊎◌, ◌↔◌, ◌<◌, ◌==◌, ◌&&◌, not, ℕ, Bool, false, List, length, Contains, IsTrue, count_by}
+use Rattle.std.specs.Prelude.{◌≡◌, ◌⊎◌, ◌↔◌, ◌==◌, ◌&&◌, not, ℕ, Bool, false, List, Contains, IsTrue, count_by}
 use Rattle.fsck_list.specs.declared.finding.Finding.{Finding}
 use Rattle.hfs_volume.specs.Records.{Overflow}
 use Rattle.std.specs.List.Sorted.{IsNonDecreasing}
@@ -7,6 +7,7 @@ use Rattle.alloc_bitmap.specs.Apart.{times}
 use Rattle.hfs_volume.specs.Forks.{Owned, is_of, extents_id, bad_blocks_id, data_kind, resource_kind}
 use Rattle.hfs_volume.specs.Blocks.{GoesOn, GoOnBad, HasFork}
 use Rattle.hfs_volume.specs.Broken.{IsFailed}
+use Rattle.fsck_core.specs.Decided.{StaysListed, IsTold}
 use Rattle.fsck_core.specs.Overflows.{overflow_in}
 use Rattle.fsck_core.specs.Wants.{as_found}
 use Rattle.fsck_core.specs.declared.follow.OwnedFork.{OwnedFork}
@@ -23,11 +24,11 @@ FailsIn forks overflow place =
 abbrev pub AddsFailed : (ℕ → Type 0) → List Finding → List Finding → Type 0
 AddsFailed Fails old new = (finding : Finding) → Contains new finding → Contains old finding ⊎ IsFailed 17 (as_found finding) Fails
 
--- A part of rule 17 was judged: it is told whether it holds, there is a finding where it doesn't, and each that was added is of the rule.
+-- A part of rule 17 was judged: it is told whether it holds, where it doesn't a finding of the rule is listed, and each that was added is one.
 pub record Tested (Fails : ℕ → Type 0) (P : Type 0) (old new : List Finding) (met : Bool) : Type 0 where
   pub tells : IsTrue met ↔ P
-  pub found : met ≡ false → 0 < length new
-  pub still : 0 < length old → 0 < length new
+  pub found : met ≡ false → IsTold (λ f. IsFailed 17 f Fails) new
+  pub still : StaysListed old new
   pub each : AddsFailed Fails old new
 
 -- an overflow record belongs to a fork, which isn't that of the extents overflow file

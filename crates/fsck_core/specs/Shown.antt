@@ -11,6 +11,7 @@ use Rattle.fsck_list.specs.declared.finding.Finding.{Finding as Listed}
 use Rattle.hfs_volume.specs.Broken.{Finding, IsBroken, IsUnmet, header_wants, alternate_wants}
 use Rattle.hfs_volume.specs.Content.{extents_file, catalog_file, attributes_file, overflow_of_content, has_attributes}
 use Rattle.hfs_volume.specs.Findings.{HasBytes}
+use Rattle.fsck_core.specs.Decided.{TellsOf}
 use Rattle.fsck_core.specs.Overflows.{overflows_in}
 use Rattle.fsck_core.specs.Wants.{as_found}
 use Rattle.fsck_core.specs.declared.overflow.OverflowRow.{OverflowRow}
@@ -22,9 +23,9 @@ pub record Shows (space : Space) (content : Content) : Type 0 where
   pub bytes : HasBytes content
   pub size : space.sectors ≡ length content
 
--- a finding is of a broken rule, one of the first ten
+-- a finding is of a broken rule, one of the first seven
 abbrev pub IsEarly : Content → Finding → Type 0
-IsEarly content finding = IsBroken content finding × (finding.rule ≤ 10)
+IsEarly content finding = IsBroken content finding × (finding.rule ≤ 7)
 
 -- each finding is
 abbrev pub FindsEarly : Content → List Listed → Type 0
@@ -33,6 +34,10 @@ FindsEarly content list = (f : Listed) → Contains list f → IsEarly content (
 -- one of rules 1 and 2 is broken
 abbrev pub IsBrokenHeader : ℕ → VolumeHeader → VolumeHeader → Finding → Type 0
 IsBrokenHeader sectors head alternate finding = IsUnmet 1 finding (header_wants sectors head) ⊎ IsUnmet 2 finding (alternate_wants head alternate)
+
+-- of rules 1 and 2, where one is broken a finding of it is listed
+abbrev pub TellsHeader : ℕ → VolumeHeader → VolumeHeader → List Listed → Type 0
+TellsHeader sectors head alternate list = TellsOf (λ f. IsUnmet 1 f (header_wants sectors head)) list × TellsOf (λ f. IsUnmet 2 f (alternate_wants head alternate)) list
 
 -- The extents overflow file keeps rules 4 to 7, and these are its records.
 pub record HoldsExtents (content : Content) (rows : List OverflowRow) : Type 0 where

@@ -10,6 +10,7 @@ use Rattle.hfs_volume.specs.Records.{entries_of, is_file, is_folder}
 use Rattle.hfs_volume.specs.Sound.{IsSound}
 use Rattle.hfs_volume.specs.declared.summary.Summary.{Summary}
 use Rattle.fsck_core.specs.Passed.{ListsLate, HasEarly}
+use Rattle.fsck_core.specs.Rules.{EachRule}
 use Rattle.fsck_core.specs.Wants.{as_found}
 use Rattle.fsck_core.specs.declared.checking.Verdict.{Verdict}
 use Rattle.fsck_core.specs.declared.checking.Verdict.TheVariants as verdict
@@ -21,6 +22,7 @@ pub record IsChecked (content : Content) (head : Option VolumeHeader) (list : Li
   pub told : MatchOption head (0 < length list) (λ head. (head ≡ header_of_volume content) × (length list ≡ 0 → IsSound content))
   pub each : (f : Listed) → Contains list f → IsBroken content (as_found f)
   pub late : HasEarly list ⊎ ListsLate (volume_of content) list
+  pub rules : EachRule content list
 
 -- ---- the verdict
 

@@ -5,15 +5,16 @@ ghost use Rattle.alloc_bitmap.specs.Apart.{times};
 ghost use Rattle.btree_node.specs.Keys.{attr_file};
 ghost use Rattle.hx_bytes.specs.declared.extents.Extent.{Extent as Span};
 ghost use Rattle.hfs_volume.specs.Attributes.{IsOneExtent, journal_extent, info_extent};
-ghost use Rattle.hfs_volume.specs.Broken.{IsFailed};
-ghost use Rattle.hfs_volume.specs.Content.{VolumeState};
+ghost use Rattle.hfs_volume.specs.Broken.{IsFailed, FailsAttribute};
+ghost use Rattle.hfs_volume.specs.Content.{VolumeState, records_of};
 ghost use Rattle.hfs_volume.specs.Entries.{AreSpelled};
-ghost use Rattle.hfs_volume.specs.Records.{placed_in};
-ghost use Rattle.fsck_core.specs.Attributes.{owner_here, owner_count, is_owned, attribute_at, HasFirstFork, AreAttributesOf, AreOwnersOf, IsGoodRecord, AreGood, IsBrokenValue, Judges, IsBrokenOfNames, KeepsAttributes, IsSpan, IsOneFile, HasOneFile, FailsFile, HasAttributes};
+ghost use Rattle.hfs_volume.specs.Records.{entries_of, placed_in};
+ghost use Rattle.fsck_core.specs.Attributes.{owner_here, owner_count, is_owned, attribute_at, HasFirstFork, AreAttributesOf, AreOwnersOf, IsGoodRecord, AreGood, IsBrokenValue, Judges, IsToldOr, IsNamedAt, AreNamed, IsBrokenOfNames, KeepsAttributes, IsSpan, IsOneFile, HasOneFile, FailsFile, HasAttributes};
 ghost use Rattle.fsck_core.specs.Catalogs.{HasRows};
-ghost use Rattle.fsck_core.specs.Decided.{Adds, Decided};
+ghost use Rattle.fsck_core.specs.Decided.{Adds, Decided, TellsOf};
 ghost use Rattle.fsck_core.specs.Names.{pair_at};
 ghost use Rattle.fsck_core.specs.Overflows.{overflows_in};
+ghost use Rattle.fsck_core.specs.Rows.{rows_of};
 
 use crate::decided::add_unless;
 use crate::names::{id_found, record_in_root};
@@ -89,6 +90,8 @@ fn judge_record(
     requires { at < length attributes.now }
     ensures judged { (volume : VolumeState) → AreAttributesOf volume head.now attributes.now → AreOwnersOf volume owners.now → IsTrue forked ↔ HasFirstFork attributes.now (attribute_at attributes.now at)
         → IfOk result (λ met. Judges volume (IsGoodRecord volume (pair_at volume.attribute_pairs at)) out.old out.new met) }
+    ensures named { (volume : VolumeState) → AreAttributesOf volume head.now attributes.now → AreOwnersOf volume owners.now → IsTrue forked ↔ HasFirstFork attributes.now (attribute_at attributes.now at)
+        → IfOk result (λ _. IsToldOr volume (IsNamedAt volume at) out.new) }
     ensures each { (volume : VolumeState) → AreAttributesOf volume head.now attributes.now → AreOwnersOf volume owners.now → IsTrue forked ↔ HasFirstFork attributes.now (attribute_at attributes.now at)
         → Adds (IsBrokenValue volume) out.old out.new }
 {
@@ -108,6 +111,8 @@ fn judge_records(
 ) -> Result<bool, OutOfMemory>
     ensures judged { (volume : VolumeState) → AreAttributesOf volume head.now attributes.now → AreOwnersOf volume owners.now
         → IfOk result (λ met. Judges volume (AreGood volume (length volume.attribute_pairs)) out.old out.new met) }
+    ensures named { (volume : VolumeState) → AreAttributesOf volume head.now attributes.now → AreOwnersOf volume owners.now
+        → IfOk result (λ _. IsToldOr volume (AreNamed volume (length volume.attribute_pairs)) out.new) }
     ensures each { (volume : VolumeState) → AreAttributesOf volume head.now attributes.now → AreOwnersOf volume owners.now → Adds (IsBrokenValue volume) out.old out.new }
 {
     let mut met = true;
@@ -118,6 +123,28 @@ fn judge_records(
         met = both(one, met);
     }
     Ok(met)
+}
+
+/// Judges each record of the attributes file, of which the owners are among these rows. The CNIDs of the rows are put in order where there is
+/// a record alone.
+fn judge_owned(
+    alloc: Global,
+    head: &VolumeHeader,
+    rows: &[Row],
+    attributes: &Pairs,
+    out: &mut Findings,
+) -> Result<bool, OutOfMemory>
+    ensures judged { (volume : VolumeState) → AreAttributesOf volume head.now attributes.now → rows.now ≡ rows_of (entries_of (records_of volume))
+        → IfOk result (λ met. Judges volume (AreGood volume (length volume.attribute_pairs)) out.old out.new met) }
+    ensures named { (volume : VolumeState) → AreAttributesOf volume head.now attributes.now → rows.now ≡ rows_of (entries_of (records_of volume))
+        → IfOk result (λ _. IsToldOr volume (AreNamed volume (length volume.attribute_pairs)) out.new) }
+    ensures each { (volume : VolumeState) → AreAttributesOf volume head.now attributes.now → rows.now ≡ rows_of (entries_of (records_of volume)) → Adds (IsBrokenValue volume) out.old out.new }
+{
+    if attributes.len() == 0 {
+        return Ok(true);
+    }
+    let owners = owner_ids(alloc, rows)?;
+    judge_records(alloc, head, attributes, &owners, out)
 }
 
 /// The blocks that hold the journal's bytes.
@@ -225,11 +252,12 @@ pub fn judge_attributes(
     requires { AreSpelled pairs.now }
     ensures decided { (volume : VolumeState) → HasRows volume pairs.now rows.now → HasAttributes volume head.now info.now (overflows_in overflow.now) attributes.now
         → IfOk result (λ met. Decided (IsBrokenOfNames volume) (KeepsAttributes volume) out.old out.new met) }
+    ensures rules { (volume : VolumeState) → HasRows volume pairs.now rows.now → HasAttributes volume head.now info.now (overflows_in overflow.now) attributes.now
+        → IfOk result (λ _. TellsOf (λ f. IsFailed 20 f (FailsAttribute volume)) out.new) }
     ensures each { (volume : VolumeState) → HasRows volume pairs.now rows.now → HasAttributes volume head.now info.now (overflows_in overflow.now) attributes.now
         → Adds (IsBrokenOfNames volume) out.old out.new }
 {
-    let owners = owner_ids(alloc, rows)?;
-    let each = judge_records(alloc, head, attributes, &owners, out)?;
+    let each = judge_owned(alloc, head, rows, attributes, out)?;
     let journal = journal_blocks(head, info);
     let one = judge_journal_file(alloc, pairs, overflow, JOURNAL.as_slice(), journal, out)?;
     let info_block = info_blocks(head);

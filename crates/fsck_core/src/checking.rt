@@ -12,6 +12,7 @@ ghost use Rattle.hfs_volume.specs.Findings.{HasBytes};
 ghost use Rattle.hfs_volume.specs.Sound.{IsSound};
 ghost use Rattle.fsck_core.specs.Verdicts.{is_clean, findings_in, IsCounted, KeepsEarly, IsChecked, summary_in, verdict_of};
 ghost use Rattle.fsck_core.specs.Wants.{as_found};
+ghost use Rattle.fsck_core.specs.Rules.{EachRule};
 
 use crate::judging::judge_lists;
 use crate::opening::read_head;
@@ -80,14 +81,16 @@ fn verdict_of(head: Option<VolumeHeader>, out: Findings) -> Verdict
     Verdict::Clean(summary_of(&head))
 }
 
-/// Checks a volume by all rules: it is clean exactly where it is sound. Where it isn't, each finding names a rule that is broken there, and of
-/// rules 11 to 14 each place is listed where none of the first ten is broken. Nothing is written.
+/// Checks a volume by all rules: it is clean exactly where it is sound. Where it isn't, each finding names a rule that is broken there, a finding
+/// is listed of each broken rule that can be judged, and of rules 11 to 14 each place is listed where none of the first ten is broken. Nothing is
+/// written.
 pub fn check<V: SectorView>(alloc: Global, view: &mut V) -> Result<Verdict, Trouble>
     requires { is_volume_size (V.space view.old).sectors ≡ true }
     ensures sound { IsTrue (V.space view.old).tells → HasBytes (V.space view.old).content → IfOk result (λ verdict. IsTrue (is_clean verdict) ↔ IsSound (V.space view.old).content) }
     ensures counted { IsTrue (V.space view.old).tells → HasBytes (V.space view.old).content → IfOk result (λ verdict. IsCounted (volume_of (V.space view.old).content) verdict) }
     ensures some { IsTrue (V.space view.old).tells → HasBytes (V.space view.old).content → IfOk result (λ verdict. IsTrue (is_clean verdict) ⊎ (0 < length (findings_in verdict))) }
     ensures broken { IsTrue (V.space view.old).tells → HasBytes (V.space view.old).content → IfOk result (λ verdict. (f : Listed) → Contains (findings_in verdict) f → IsBroken (V.space view.old).content (as_found f)) }
+    ensures each_rule { IsTrue (V.space view.old).tells → HasBytes (V.space view.old).content → IfOk result (λ verdict. EachRule (V.space view.old).content (findings_in verdict)) }
     ensures listed { IsTrue (V.space view.old).tells → HasBytes (V.space view.old).content → KeepsEarly (V.space view.old).content
         → IfOk result (λ verdict. (f : Listed) → 11 ≤ f.rule → f.rule ≤ 14 → IsBroken (V.space view.old).content (as_found f) → IsListed (findings_in verdict) f) }
     ensures reads { ReadsSpace (V.space view.old) (V.space view.new) }

@@ -1,6 +1,8 @@
 //! A finding where something that a rule asks for doesn't hold.
-ghost use Rattle.std.specs.Prelude.{◌≡◌, ◌⊎◌, ◌<◌, false, length, Contains, IfOk};
+ghost use Rattle.std.specs.Prelude.{◌≡◌, ◌⊎◌, false, Contains, IfOk};
 ghost use Rattle.fsck_list.specs.declared.finding.Finding.{Finding as Listed};
+ghost use Rattle.fsck_list.specs.Kept.{IsListed};
+ghost use Rattle.fsck_core.specs.Decided.{StaysListed};
 
 use fsck_list::{Finding, Findings};
 use hx_bytes::OutOfMemory;
@@ -13,8 +15,8 @@ pub(crate) fn add_unless(
     out: &mut Findings,
 ) -> Result<bool, OutOfMemory>
     ensures met { IfOk result (λ met. met ≡ holds) }
-    ensures found { IfOk result (λ met. met ≡ false → 0 < length out.new) }
-    ensures still { 0 < length out.old → 0 < length out.new }
+    ensures found { IfOk result (λ met. met ≡ false → IsListed out.new (record { rule = rule; place = place; found = 0; wanted = 1 })) }
+    ensures still { StaysListed out.old out.new }
     ensures each { (finding : Listed) → Contains out.new finding → Contains out.old finding ⊎ ((holds ≡ false) × (finding ≡ record { rule = rule; place = place; found = 0; wanted = 1 })) }
 {
     if holds {

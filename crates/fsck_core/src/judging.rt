@@ -10,6 +10,7 @@ ghost use Rattle.fsck_core.specs.Lists.{AreLists, HasEntries, IsBrokenCatalog, I
 ghost use Rattle.fsck_core.specs.Owners.{owned_all};
 ghost use Rattle.fsck_core.specs.Passed.{Passed, IsBrokenList, ListsLate, HaveForks, HaveNames, KeepLists, HaveSizes};
 ghost use Rattle.fsck_core.specs.Wants.{as_found};
+ghost use Rattle.fsck_core.specs.Telling.{TellsCatalog, TellsSizes, TellsNames, TellsForks};
 
 use crate::attributes::judge_attributes;
 use crate::entries::judge_ids;
@@ -41,6 +42,7 @@ fn judge_catalog(
     ensures spelled { IfOk result (λ o. IfSome o (λ _. AreSpelled catalog.now)) }
     ensures empty { IfOk result (λ o. IfSome o (λ _. out.new ≡ [])) }
     ensures found { All (λ pair. IsCatalogKey pair.0) catalog.now → AreSorted catalog.now → IfOk result (λ o. MatchOption o (0 < length out.new) (λ rows. HasEntries catalog.now rows.items)) }
+    ensures rules { All (λ pair. IsCatalogKey pair.0) catalog.now → AreSorted catalog.now → IfOk result (λ _. TellsCatalog catalog.now out.new) }
     ensures each { All (λ pair. IsCatalogKey pair.0) catalog.now → AreSorted catalog.now → IfOk result (λ _. (f : Listed) → Contains out.new f → IsBrokenCatalog catalog.now (as_found f)) }
 {
     let kinds = judge_kinds(catalog, out)?;
@@ -66,8 +68,10 @@ fn judge_sizes_and_names(
 ) -> Result<(), OutOfMemory>
     requires good { IsGoodHeader lists.now.sectors lists.now.head }
     requires spelled { AreSpelled lists.now.catalog }
-    ensures { (volume : VolumeState) → AreLists volume lists.now → HasEntries lists.now.catalog rows.now → owned_all forks.now ≡ forks_of volume → All (GoesOn (overflow_in_volume volume)) (forks_of volume)
+    ensures passed { (volume : VolumeState) → AreLists volume lists.now → HasEntries lists.now.catalog rows.now → owned_all forks.now ≡ forks_of volume → All (GoesOn (overflow_in_volume volume)) (forks_of volume)
         → IfOk result (λ _. Passed (IsBrokenList volume) (HaveSizes volume × HaveNames volume) out.old out.new) }
+    ensures rules { (volume : VolumeState) → AreLists volume lists.now → HasEntries lists.now.catalog rows.now → owned_all forks.now ≡ forks_of volume → All (GoesOn (overflow_in_volume volume)) (forks_of volume)
+        → IfOk result (λ _. TellsSizes volume out.old out.new) }
 {
     judge_forks(&lists.head, &lists.overflow, forks, out)?;
     judge_links(alloc, &lists.catalog, rows, out)?;
@@ -94,8 +98,10 @@ fn judge_forks_and_names(
 ) -> Result<(), OutOfMemory>
     requires good { IsGoodHeader lists.now.sectors lists.now.head }
     requires spelled { AreSpelled lists.now.catalog }
-    ensures { (volume : VolumeState) → AreLists volume lists.now → HasEntries lists.now.catalog rows.now → owned_all forks.now ≡ forks_of volume
+    ensures passed { (volume : VolumeState) → AreLists volume lists.now → HasEntries lists.now.catalog rows.now → owned_all forks.now ≡ forks_of volume
         → IfOk result (λ _. Passed (IsBrokenList volume) (HaveForks volume × HaveNames volume) out.old out.new) }
+    ensures rules { (volume : VolumeState) → AreLists volume lists.now → HasEntries lists.now.catalog rows.now → owned_all forks.now ≡ forks_of volume
+        → IfOk result (λ _. TellsNames volume out.old out.new) }
 {
     let goes_on = judge_overflow(alloc, &lists.overflow, forks, out)?;
     if !goes_on {
@@ -116,6 +122,7 @@ fn judge_entries_and_forks(
     requires none { out.old ≡ [] }
     ensures passed { (volume : VolumeState) → AreLists volume lists.now → HasEntries lists.now.catalog rows.now → IfOk result (λ _. Passed (IsBrokenList volume) (KeepLists volume) out.old out.new) }
     ensures listed { (volume : VolumeState) → AreLists volume lists.now → HasEntries lists.now.catalog rows.now → IfOk result (λ _. ListsLate volume out.new) }
+    ensures rules { (volume : VolumeState) → AreLists volume lists.now → HasEntries lists.now.catalog rows.now → IfOk result (λ _. TellsForks volume out.new) }
 {
     let forks = read_forks(alloc, &lists.head, &lists.catalog)?;
     let used = judge_blocks_used(alloc, lists, &forks, out)?;

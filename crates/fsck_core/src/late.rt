@@ -6,6 +6,7 @@ ghost use Rattle.hfs_volume.specs.Records.{entries_of};
 ghost use Rattle.fsck_core.specs.Flags.{AreBits, AreUsed};
 ghost use Rattle.fsck_core.specs.Passed.{Passed, IsBrokenList, ListsLate, HaveCounts};
 ghost use Rattle.fsck_core.specs.Rows.{rows_of};
+ghost use Rattle.fsck_core.specs.Decided.{StaysListed};
 
 use crate::entries::{judge_counts, judge_valences};
 use crate::flags::{judge_bits, judge_free};
@@ -28,6 +29,8 @@ pub(crate) fn judge_late(
         → AreBits volume flags.now → AreUsed volume used.now → IfOk result (λ _. Passed (IsBrokenList volume) (HaveCounts volume) out.old out.new) }
     ensures listed { (volume : VolumeState) → head.now ≡ volume.head → rows.now ≡ rows_of (entries_of (records_of volume)) → IsNonDecreasingBy (λ row. row.parent) rows.now
         → AreBits volume flags.now → AreUsed volume used.now → IfOk result (λ _. ListsLate volume out.new) }
+    ensures still { (volume : VolumeState) → head.now ≡ volume.head → rows.now ≡ rows_of (entries_of (records_of volume)) → IsNonDecreasingBy (λ row. row.parent) rows.now
+        → AreBits volume flags.now → AreUsed volume used.now → IfOk result (λ _. StaysListed out.old out.new) }
 {
     judge_valences(rows, out)?;
     judge_counts(head, rows, out)?;

@@ -26,6 +26,7 @@ mod overflow;
 mod owned;
 mod owners;
 mod parents;
+mod places;
 mod reading;
 mod rows;
 mod shared;

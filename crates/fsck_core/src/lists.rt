@@ -7,6 +7,8 @@ ghost use Rattle.fsck_core.specs.Flags.{AreUsed};
 ghost use Rattle.fsck_core.specs.Lists.{AreLists};
 ghost use Rattle.fsck_core.specs.Owners.{owned_all};
 ghost use Rattle.fsck_core.specs.Passed.{Passed, IsBrokenList};
+ghost use Rattle.hfs_volume.specs.Broken.{IsUnmet, use_wants};
+ghost use Rattle.fsck_core.specs.Decided.{TellsOf};
 
 use crate::blocks::no_marks;
 use crate::follow::OwnedFork;
@@ -45,6 +47,7 @@ pub(crate) fn judge_blocks_used(
     requires good { IsGoodHeader lists.now.sectors lists.now.head }
     requires none { out.old ≡ [] }
     ensures passed { (volume : VolumeState) → AreLists volume lists.now → owned_all forks.now ≡ forks_of volume → IfOk result (λ _. Passed (IsBrokenList volume) (AreApart (used_in volume)) out.old out.new) }
+    ensures rules { (volume : VolumeState) → AreLists volume lists.now → owned_all forks.now ≡ forks_of volume → IfOk result (λ _. TellsOf (λ f. IsUnmet 18 f (use_wants volume)) out.new) }
     ensures used { (volume : VolumeState) → AreLists volume lists.now → owned_all forks.now ≡ forks_of volume → IfOk result (λ used. AreUsed volume used) }
 {
     let extents = read_used(

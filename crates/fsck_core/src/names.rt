@@ -1,14 +1,15 @@
 //! Records of a catalog by their names, and the numbers in names.
-ghost use Rattle.std.specs.Prelude.{◌≡◌, ◌≤◌, ◌<◌, ◌^◌, ◌++◌, ◌==◌, ◌&&◌, ℕ, length, decimal, All, Some, None, MatchOption, IfSome, IfOk, OnOk};
+ghost use Rattle.std.specs.Prelude.{◌≡◌, ◌≤◌, ◌<◌, ◌^◌, ◌++◌, ◌==◌, ◌&&◌, ℕ, length, decimal, All, Some, None, MatchOption, IfSome, IfOk, IsTrue, OnOk};
 ghost use Rattle.std.specs.Str.{bytes_eq};
 ghost use Rattle.btree_node.specs.Keys.{catalog_parent, catalog_units};
+ghost use Rattle.cat_records.specs.Records.{catalog_of, is_catalog};
 ghost use Rattle.hfs_volume.specs.Records.{placed_in, placed_of, record_at, numbered};
 ghost use Rattle.hfs_volume.specs.Entries.{AreSpelled};
 ghost use Rattle.hfs_volume.specs.Links.{node_name};
 ghost use Rattle.fsck_core.specs.Names.{pair_at, value_found, id_found};
 
 use crate::kinds::parent_of;
-use cat_records::{CatRecord, read_catalog};
+use cat_records::{CatRecord, RecordFault, read_catalog};
 use fsck_scan::Pairs;
 use hx_bytes::{OutOfMemory, Units, read_be16};
 use itoa::Buffer;
@@ -61,6 +62,18 @@ fn find_in_root(pairs: &Pairs, name: &[u16]) -> Option<usize>
     None
 }
 
+/// The record in a value of the catalog.
+pub(crate) fn read_record(alloc: Global, value: &[u8]) -> Result<CatRecord, OutOfMemory>
+    requires { IsTrue (is_catalog value.now) }
+    ensures { IfOk result (λ rec. rec ≡ catalog_of value.now) }
+{
+    match read_catalog(alloc, value) {
+        Ok(rec) => Ok(rec),
+        Err(RecordFault::Memory) => Err(OutOfMemory),
+        Err(RecordFault::BadRecord { .. }) => unreachable!(),
+    }
+}
+
 /// The record with this name in the root, if there is one.
 pub(crate) fn record_in_root(
     alloc: Global,
@@ -73,9 +86,7 @@ pub(crate) fn record_in_root(
     let Some(at) = find_in_root(pairs, name) else {
         return Ok(None);
     };
-    let Ok(rec) = read_catalog(alloc, pairs.value(at)) else {
-        return Err(OutOfMemory);
-    };
+    let rec = read_record(alloc, pairs.value(at))?;
     Ok(Some(rec))
 }
 

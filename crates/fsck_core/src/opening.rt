@@ -8,7 +8,8 @@ ghost use Rattle.btree_file.specs.Frame.{ReadsSpace};
 ghost use Rattle.hfs_volume.specs.Blocks.{IsGoodHeader, AgreesWith};
 ghost use Rattle.hfs_volume.specs.Content.{volume_of};
 ghost use Rattle.fsck_core.specs.Passed.{Passed};
-ghost use Rattle.fsck_core.specs.Shown.{Shows, IsBrokenHeader, FindsEarly};
+ghost use Rattle.fsck_core.specs.Shown.{Shows, IsBrokenHeader, FindsEarly, TellsHeader};
+ghost use Rattle.fsck_core.specs.Rules.{TellsHeaders};
 
 use crate::header::{judge_alternate, judge_header};
 use crate::reading::{Headers, read_headers};
@@ -20,7 +21,8 @@ use volume_header::VolumeHeader;
 /// Judges the volume header of a volume of so many sectors, and its alternate.
 fn judge_headers(sectors: u64, headers: &Headers, out: &mut Findings) -> Result<(), OutOfMemory>
     requires { is_volume_size sectors ≡ true }
-    ensures { IfOk result (λ _. Passed (IsBrokenHeader sectors headers.now.head headers.now.alternate) (IsGoodHeader sectors headers.now.head × AgreesWith headers.now.head headers.now.alternate) out.old out.new) }
+    ensures passed { IfOk result (λ _. Passed (IsBrokenHeader sectors headers.now.head headers.now.alternate) (IsGoodHeader sectors headers.now.head × AgreesWith headers.now.head headers.now.alternate) out.old out.new) }
+    ensures rules { IfOk result (λ _. TellsHeader sectors headers.now.head headers.now.alternate out.new) }
 {
     judge_header(sectors, &headers.head, out)?;
     judge_alternate(&headers.head, &headers.alternate, out)?;
@@ -37,6 +39,7 @@ pub(crate) fn read_head<V: SectorView>(
     ensures good { IfOk result (λ o. IfSome o (λ head. IsGoodHeader (V.space view.old).sectors head × (out.new ≡ []))) }
     ensures told { (content : Content) → Shows (V.space view.old) content → IfOk result (λ o. MatchOption o (0 < length out.new) (λ head. (head ≡ header_of_volume content) × AgreesWith head (volume_of content).alternate)) }
     ensures each { (content : Content) → Shows (V.space view.old) content → IfOk result (λ _. FindsEarly content out.new) }
+    ensures rules { (content : Content) → Shows (V.space view.old) content → IfOk result (λ _. TellsHeaders content out.new) }
     ensures reads { ReadsSpace (V.space view.old) (V.space view.new) }
     ensures below { V.follows view.old view.new }
     ensures disk { IsErrOf result Disk → Rose (V.space view.old).faults (V.space view.new).faults }

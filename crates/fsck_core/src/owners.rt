@@ -4,6 +4,8 @@ ghost use Rattle.std.specs.List.{list_any};
 ghost use Rattle.std.specs.List.Sorted.{IsNonDecreasing, IsNonDecreasingBy};
 ghost use Rattle.alloc_bitmap.specs.Apart.{times};
 ghost use Rattle.fsck_list.specs.declared.finding.Finding.{Finding as Listed};
+ghost use Rattle.fsck_list.specs.Kept.{IsListed};
+ghost use Rattle.fsck_core.specs.Decided.{StaysListed};
 ghost use Rattle.hfs_volume.specs.Records.{Overflow};
 ghost use Rattle.hfs_volume.specs.Forks.{Owned, is_of};
 ghost use Rattle.hfs_model.specs.Sorted.{kept};
@@ -33,8 +35,8 @@ const RESOURCE: u8 = 255;
 /// Adds a finding of rule 17 at a CNID where it doesn't hold there.
 fn add_unless(holds: bool, id: u32, out: &mut Findings) -> Result<bool, OutOfMemory>
     ensures met { IfOk result (λ met. met ≡ holds) }
-    ensures found { IfOk result (λ met. met ≡ false → 0 < length out.new) }
-    ensures still { 0 < length out.old → 0 < length out.new }
+    ensures found { IfOk result (λ met. met ≡ false → IsListed out.new (record { rule = 17; place = id; found = 0; wanted = 1 })) }
+    ensures still { StaysListed out.old out.new }
     ensures each { (finding : Listed) → Contains out.new finding → Contains out.old finding ⊎ ((holds ≡ false) × (finding ≡ record { rule = 17; place = id; found = 0; wanted = 1 })) }
 {
     if holds {
@@ -201,6 +203,24 @@ fn judge_owners(
     Ok(met)
 }
 
+/// Judges whether each row has a fork. The CNIDs of forks are put in order where there is a row alone.
+fn judge_rows_owners(
+    alloc: Global,
+    rows: &[OverflowRow],
+    forks: &[OwnedFork],
+    out: &mut Findings,
+) -> Result<bool, OutOfMemory>
+    ensures tested { IfOk result (λ met. Tested (FailsIn (owned_all forks.now) (overflows_in rows.now)) (All (HasFork (owned_all forks.now)) (overflows_in rows.now)) out.old out.new met) }
+    ensures each { AddsFailed (FailsIn (owned_all forks.now) (overflows_in rows.now)) out.old out.new }
+{
+    if rows.is_empty() {
+        return Ok(true);
+    }
+    let data_ids = fork_ids(alloc, forks, DATA)?;
+    let resource_ids = fork_ids(alloc, forks, RESOURCE)?;
+    judge_owners(rows, forks, &data_ids, &resource_ids, out)
+}
+
 /// Judges the records that belong to no file's fork, and those of forks that aren't there.
 fn judge_others(
     alloc: Global,
@@ -211,10 +231,8 @@ fn judge_others(
     ensures tested { IfOk result (λ met. Tested (FailsIn (owned_all forks.now) (overflows_in rows.now)) (GoOnBad (overflows_in rows.now) × All (HasFork (owned_all forks.now)) (overflows_in rows.now)) out.old out.new met) }
     ensures each { AddsFailed (FailsIn (owned_all forks.now) (overflows_in rows.now)) out.old out.new }
 {
-    let data_ids = fork_ids(alloc, forks, DATA)?;
-    let resource_ids = fork_ids(alloc, forks, RESOURCE)?;
     let one = judge_bad(rows, out)?;
-    let other = judge_owners(rows, forks, &data_ids, &resource_ids, out)?;
+    let other = judge_rows_owners(alloc, rows, forks, out)?;
     Ok(both(other, one))
 }
 

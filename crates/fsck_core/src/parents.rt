@@ -6,6 +6,8 @@ ghost use Rattle.hfs_volume.specs.Records.{Placed};
 ghost use Rattle.hfs_volume.specs.Entries.{AreRooted};
 ghost use Rattle.hfs_volume.specs.Broken.{IsFailed, FailsParent};
 ghost use Rattle.fsck_list.specs.declared.finding.Finding.{Finding as Listed};
+ghost use Rattle.fsck_list.specs.Kept.{IsListed};
+ghost use Rattle.fsck_core.specs.Decided.{StaysListed, IsTold};
 ghost use Rattle.fsck_core.specs.Wants.{as_found};
 ghost use Rattle.fsck_core.specs.Rows.{rows_of, row_at};
 ghost use Rattle.fsck_core.specs.Parents.{is_root_row, marked, Leads, folder_of, IsBelow, IsReaching, EntersAll, HasRoom, is_reached, AreReached, FailsReach};
@@ -96,8 +98,8 @@ fn is_reached(row: Row, mark: bool) -> bool
 /// Adds a finding where a row is neither the root's nor marked, and says whether it is one of them.
 fn judge_row(row: Row, mark: bool, out: &mut Findings) -> Result<bool, OutOfMemory>
     ensures met { IfOk result (λ met. met ≡ is_reached row mark) }
-    ensures found { IfOk result (λ met. met ≡ false → 0 < length out.new) }
-    ensures still { 0 < length out.old → 0 < length out.new }
+    ensures found { IfOk result (λ met. met ≡ false → IsListed out.new (record { rule = 10; place = row.id; found = 0; wanted = 1 })) }
+    ensures still { StaysListed out.old out.new }
     ensures each { (finding : Listed) → Contains out.new finding → Contains out.old finding ⊎ IsFailed 10 (as_found finding) (λ place. (row.id ≡ place) × (is_reached row mark ≡ false)) }
 {
     if is_reached(row, mark) {
@@ -116,8 +118,8 @@ fn judge_row(row: Row, mark: bool, out: &mut Findings) -> Result<bool, OutOfMemo
 fn judge_rows(rows: &[Row], marks: &[bool], out: &mut Findings) -> Result<bool, OutOfMemory>
     requires { length marks.now ≡ length rows.now }
     ensures met { IfOk result (λ met. IsTrue met ↔ AreReached rows.now marks.now) }
-    ensures found { IfOk result (λ met. met ≡ false → 0 < length out.new) }
-    ensures still { 0 < length out.old → 0 < length out.new }
+    ensures found { IfOk result (λ met. met ≡ false → IsTold (λ finding. IsFailed 10 finding (FailsReach rows.now marks.now)) out.new) }
+    ensures still { StaysListed out.old out.new }
     ensures each { (finding : Listed) → Contains out.new finding → Contains out.old finding ⊎ IsFailed 10 (as_found finding) (FailsReach rows.now marks.now) }
 {
     let mut met = true;
@@ -143,8 +145,8 @@ fn has_root(rows: &[Row]) -> bool
 /// Judges that there is a root.
 fn judge_root(rows: &[Row], out: &mut Findings) -> Result<bool, OutOfMemory>
     ensures met { IfOk result (λ met. met ≡ list_any is_root_row rows.now) }
-    ensures found { IfOk result (λ met. met ≡ false → 0 < length out.new) }
-    ensures still { 0 < length out.old → 0 < length out.new }
+    ensures found { IfOk result (λ met. met ≡ false → IsTold (λ finding. IsFailed 10 finding (λ place. (place ≡ 2) × (list_any is_root_row rows.now ≡ false))) out.new) }
+    ensures still { StaysListed out.old out.new }
     ensures each { (finding : Listed) → Contains out.new finding → Contains out.old finding ⊎ IsFailed 10 (as_found finding) (λ place. (place ≡ 2) × (list_any is_root_row rows.now ≡ false)) }
 {
     if has_root(rows) {
@@ -163,8 +165,9 @@ fn judge_root(rows: &[Row], out: &mut Findings) -> Result<bool, OutOfMemory>
 /// of their parents (TN1150, "Catalog File").
 pub fn judge_parents(alloc: Global, rows: &[Row], out: &mut Findings) -> Result<bool, OutOfMemory>
     ensures met { (entries : List Placed) → rows.now ≡ rows_of entries → IsNonDecreasingBy (λ row. row.parent) rows.now → IfOk result (λ met. IsTrue met ↔ AreRooted entries) }
-    ensures found { IfOk result (λ met. met ≡ false → 0 < length out.new) }
-    ensures still { 0 < length out.old → 0 < length out.new }
+    ensures found { (entries : List Placed) → rows.now ≡ rows_of entries → IsNonDecreasingBy (λ row. row.parent) rows.now
+        → IfOk result (λ met. met ≡ false → IsTold (λ finding. IsFailed 10 finding (FailsParent entries)) out.new) }
+    ensures still { StaysListed out.old out.new }
     ensures each { (entries : List Placed) → rows.now ≡ rows_of entries → IsNonDecreasingBy (λ row. row.parent) rows.now
         → (finding : Listed) → Contains out.new finding → Contains out.old finding ⊎ IsFailed 10 (as_found finding) (FailsParent entries) }
 {

@@ -9,9 +9,9 @@ ghost use Rattle.hfs_volume.specs.Links.{is_shared};
 ghost use Rattle.fsck_core.specs.Names.{shared_found, shared_some, IsSharedAs, AreShared};
 
 use crate::kinds::parent_of;
-use crate::names::node_number;
+use crate::names::{node_number, read_record};
 use crate::numbers::sort_numbers;
-use cat_records::{CatRecord, read_catalog};
+use cat_records::CatRecord;
 use fsck_scan::Pairs;
 use hx_bytes::OutOfMemory;
 use std::alloc::Global;
@@ -57,9 +57,7 @@ pub fn shared_file(
     let Some(reference) = node_number(alloc, key)? else {
         return Ok(None);
     };
-    let Ok(rec) = read_catalog(alloc, value) else {
-        return Err(OutOfMemory);
-    };
+    let rec = read_record(alloc, value)?;
     Ok(shared_record(&rec, reference))
 }
 

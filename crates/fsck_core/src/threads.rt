@@ -6,10 +6,11 @@ ghost use Rattle.btree_node.specs.Keys.{units, catalog_units};
 ghost use Rattle.cat_records.specs.Records.{is_catalog, catalog_of, thread_of};
 ghost use Rattle.cat_records.specs.declared.record.CatRecord.TheVariants.{Thread};
 ghost use Rattle.fsck_list.specs.declared.finding.Finding.{Finding as Listed};
+ghost use Rattle.fsck_list.specs.Kept.{IsListed};
 ghost use Rattle.hfs_volume.specs.Broken.{IsFailed, FailsThread};
 ghost use Rattle.hfs_volume.specs.Entries.{AreSpelled, AreThreaded};
 ghost use Rattle.hfs_volume.specs.Records.{placed_in, placed_of};
-ghost use Rattle.fsck_core.specs.Decided.{Adds, Decided, AllPass, IsMissed};
+ghost use Rattle.fsck_core.specs.Decided.{Adds, Decided, AllPass, IsMissed, StaysListed};
 ghost use Rattle.fsck_core.specs.Parents.{marked};
 ghost use Rattle.fsck_core.specs.Catalogs.{IsCatalog};
 ghost use Rattle.fsck_core.specs.Threads.{placed_at, IsSplit, same_bit, is_thread_of, IsItsThread, IsThreadAt, AreMatched, place_of};
@@ -17,6 +18,7 @@ ghost use Rattle.fsck_core.specs.Threads.{placed_at, IsSplit, same_bit, is_threa
 use crate::decided::add_unless;
 use crate::kinds::{has_no_name, parent_of};
 use crate::listing::read_row;
+use crate::places::{first_places, place_near};
 use crate::rows::Row;
 use crate::want::both;
 use fsck_list::Findings;
@@ -87,12 +89,35 @@ fn same_kind(one: bool, other: bool) -> bool
     if one { other } else { !other }
 }
 
+/// Whether bytes are others.
+fn are_equal(one: &[u8], other: &[u8]) -> bool
+    ensures { result ≡ bytes_eq one.now other.now }
+{
+    one == other
+}
+
+/// Whether the bytes from one place of some on are those from a place of others on.
+fn same_bytes(one: &[u8], from: usize, other: &[u8], there: usize) -> bool
+    ensures { IsTrue result → drop from one.now ≡ drop there other.now }
+{
+    if from > one.len() {
+        return false;
+    }
+    if there > other.len() {
+        return false;
+    }
+    are_equal(&one[from..], &other[there..])
+}
+
 /// Whether the units from one place of some bytes on are those from a place of others on.
 pub(crate) fn same_units(one: &[u8], from: usize, other: &[u8], there: usize) -> bool
     requires from { from ≤ 16 }
     requires there { there ≤ 16 }
     ensures { result ≡ bytes_eq (units (drop from one.now)) (units (drop there other.now)) }
 {
+    if same_bytes(one, from, other, there) {
+        return true;
+    }
     let mut at = from;
     let mut place = there;
     while at + 2 <= one.len() {
@@ -175,8 +200,8 @@ fn mark(marks: &mut Vec<bool>, at: usize)
     marks[at] = true;
 }
 
-/// Marks an entry and its thread, where it has one. Answers the place behind the thread, at which that of the next entry stands mostly.
-fn match_entry(pairs: &Pairs, at: usize, near: usize, marks: &mut Vec<bool>) -> usize
+/// Marks an entry and its thread, where it has one. It is looked for first where the pairs with its CNID may begin.
+fn match_entry(pairs: &Pairs, places: &[u32], at: usize, marks: &mut Vec<bool>)
     requires spelled { AreSpelled pairs.now }
     requires inside { at < length pairs.now }
     requires long { length marks.old.items ≡ length pairs.now }
@@ -184,14 +209,14 @@ fn match_entry(pairs: &Pairs, at: usize, near: usize, marks: &mut Vec<bool>) -> 
     ensures matched { IsCatalog pairs.now → AreMatched pairs.now marks.old.items at → AreMatched pairs.now marks.new.items (at + 1) }
 {
     let Some(row) = read_row(pairs.key(at), pairs.value(at)) else {
-        return near;
+        return;
     };
+    let near = place_near(places, row.id);
     let Some(thread) = find_thread(pairs, row, pairs.key(at), near) else {
-        return near;
+        return;
     };
     mark(marks, at);
     mark(marks, thread);
-    thread.saturating_add(1)
 }
 
 /// Which entries have a thread, and which threads an entry.
@@ -200,10 +225,10 @@ fn match_pairs(alloc: Global, pairs: &Pairs) -> Result<Vec<bool>, OutOfMemory>
     ensures long { IfOk result (λ marks. length marks.items ≡ length pairs.now) }
     ensures matched { IsCatalog pairs.now → IfOk result (λ marks. AreMatched pairs.now marks.items (length pairs.now)) }
 {
+    let places = first_places(alloc, pairs)?;
     let mut marks = vec![in alloc; false; pairs.len()]?;
-    let mut near = 0;
     for at in 0..pairs.len() {
-        near = match_entry(pairs, at, near, &mut marks);
+        match_entry(pairs, &places, at, &mut marks);
     }
     Ok(marks)
 }
@@ -223,8 +248,8 @@ fn place_of(key: &[u8], value: &[u8]) -> u32
 fn judge_mark(mark: bool, key: &[u8], value: &[u8], out: &mut Findings) -> Result<bool, OutOfMemory>
     requires { IsTrue (is_catalog value.now) }
     ensures met { IfOk result (λ met. met ≡ mark) }
-    ensures found { IfOk result (λ met. met ≡ false → 0 < length out.new) }
-    ensures still { 0 < length out.old → 0 < length out.new }
+    ensures found { 8 ≤ length key.now → IfOk result (λ met. met ≡ false → IsListed out.new (record { rule = 9; place = place_of (placed_of (key.now, value.now)); found = 0; wanted = 1 })) }
+    ensures still { StaysListed out.old out.new }
     ensures each { 8 ≤ length key.now → (finding : Listed) → Contains out.new finding → Contains out.old finding ⊎ ((mark ≡ false) × (finding ≡ record { rule = 9; place = place_of (placed_of (key.now, value.now)); found = 0; wanted = 1 })) }
 {
     if mark {

@@ -6,10 +6,10 @@ ghost use Rattle.btree_node.specs.Keys.{attr_file, attr_start};
 ghost use Rattle.cat_records.specs.Attributes.{is_attr};
 ghost use Rattle.cat_records.specs.declared.attribute.AttrRecord.TheVariants.{Fork, More};
 ghost use Rattle.hfs_volume.specs.Broken.{want};
-ghost use Rattle.hfs_volume.specs.Content.{VolumeState};
+ghost use Rattle.hfs_volume.specs.Content.{VolumeState, attributes_of};
 ghost use Rattle.hfs_volume.specs.Forks.{is_full};
-ghost use Rattle.hfs_volume.specs.Values.{has_fork};
-ghost use Rattle.fsck_core.specs.Attributes.{is_one_attribute, attribute_at, rest_at, next_part, GoWholly, end_of, AreKeyed, HasFirstFork, IsBrokenValue, IsGoodValue, AreAttributesOf, Judges};
+ghost use Rattle.hfs_volume.specs.Values.{has_fork, IsValue};
+ghost use Rattle.fsck_core.specs.Attributes.{is_one_attribute, attribute_at, rest_at, next_part, GoWholly, end_of, AreKeyed, HasFirstFork, IsBrokenValue, IsGoodValue, AreAttributesOf, Judges, IsToldOr};
 ghost use Rattle.fsck_core.specs.Decided.{Adds};
 ghost use Rattle.fsck_core.specs.Judged.{Judged, AddsUnmet};
 ghost use Rattle.fsck_core.specs.Names.{pair_at};
@@ -159,6 +159,8 @@ fn judge_fork_value(
     requires { at < length attributes.now }
     ensures judged { (volume : VolumeState) → AreAttributesOf volume head.now attributes.now → IsTrue (is_attr (pair_at attributes.now at).1) → (attribute_at attributes.now at).value ≡ Fork fork.now
         → IfOk result (λ met. Judges volume (IsGoodValue volume at) out.old out.new met) }
+    ensures named { (volume : VolumeState) → AreAttributesOf volume head.now attributes.now → (attribute_at attributes.now at).value ≡ Fork fork.now
+        → IfOk result (λ _. IsToldOr volume (IsValue (attributes_of volume) (attribute_at attributes.now at)) out.new) }
     ensures each { (volume : VolumeState) → AreAttributesOf volume head.now attributes.now → (attribute_at attributes.now at).value ≡ Fork fork.now → Adds (IsBrokenValue volume) out.old out.new }
 {
     let id = owner_of(attributes.key(at));
@@ -185,6 +187,8 @@ fn judge_further(
     requires { at < length attributes.now }
     ensures judged { (volume : VolumeState) → AreAttributesOf volume head.now attributes.now → IsTrue (is_attr (pair_at attributes.now at).1) → (attribute_at attributes.now at).value ≡ More more.now
         → IsTrue forked ↔ HasFirstFork attributes.now (attribute_at attributes.now at) → IfOk result (λ met. Judges volume (IsGoodValue volume at) out.old out.new met) }
+    ensures named { (volume : VolumeState) → AreAttributesOf volume head.now attributes.now → (attribute_at attributes.now at).value ≡ More more.now → IsTrue forked ↔ HasFirstFork attributes.now (attribute_at attributes.now at)
+        → IfOk result (λ _. IsToldOr volume (IsValue (attributes_of volume) (attribute_at attributes.now at)) out.new) }
     ensures each { (volume : VolumeState) → AreAttributesOf volume head.now attributes.now → (attribute_at attributes.now at).value ≡ More more.now → IsTrue forked ↔ HasFirstFork attributes.now (attribute_at attributes.now at)
         → Adds (IsBrokenValue volume) out.old out.new }
 {
@@ -206,6 +210,8 @@ pub(crate) fn judge_value(
     requires { at < length attributes.now }
     ensures judged { (volume : VolumeState) → AreAttributesOf volume head.now attributes.now → IsTrue forked ↔ HasFirstFork attributes.now (attribute_at attributes.now at)
         → IfOk result (λ met. Judges volume (IsGoodValue volume at) out.old out.new met) }
+    ensures named { (volume : VolumeState) → AreAttributesOf volume head.now attributes.now → IsTrue forked ↔ HasFirstFork attributes.now (attribute_at attributes.now at)
+        → IfOk result (λ _. IsToldOr volume (IsTrue (is_attr (pair_at attributes.now at).1) × IsValue (attributes_of volume) (attribute_at attributes.now at)) out.new) }
     ensures each { (volume : VolumeState) → AreAttributesOf volume head.now attributes.now → IsTrue forked ↔ HasFirstFork attributes.now (attribute_at attributes.now at)
         → Adds (IsBrokenValue volume) out.old out.new }
 {

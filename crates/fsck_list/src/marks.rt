@@ -34,6 +34,13 @@ impl Marks {
         Ok(Marks { flags, count: 0 })
     }
 
+    /// How many places there are.
+    pub fn len(&self) -> usize
+        ensures { result ≡ length self.now }
+    {
+        self.flags.len()
+    }
+
     /// How many are marked.
     pub fn count(&self) -> u32
         ensures { result ≡ count_set self.now }

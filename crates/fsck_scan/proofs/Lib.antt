@@ -10,4 +10,5 @@ pub mod TreeSteps
 pub mod Numbers
 pub mod EndLaws
 pub mod WholeLaws
+pub mod ZeroBits
 pub mod TreeLaws

@@ -47,6 +47,25 @@ fn is_marked(marks: &Marks, node: usize) -> bool
     marks.has(node as u32)
 }
 
+/// How many bytes of a map stand before the zeros at its end that are for no node.
+fn bytes_for_nodes(bits: &[u8], marks: &Marks) -> usize
+    ensures inside { result ≤ length bits.now }
+    ensures rest { (n : ℕ) → 8 * result ≤ n → n < 8 * length bits.now → bit_of bits.now n ≡ slice_index_or marks.now n false }
+{
+    let nodes = marks.len();
+    let mut count = bits.len();
+    while count > 0 {
+        if count - 1 < nodes / 8 + 1 {
+            return count;
+        }
+        if bits[count - 1] != 0 {
+            return count;
+        }
+        count -= 1;
+    }
+    count
+}
+
 /// The first bit of a map that isn't as the nodes are marked.
 pub(crate) fn judge_map(id: u32, bits: &[u8], marks: &Marks) -> Option<Finding>
     requires id { id < 2 ^ 16 }
@@ -54,7 +73,8 @@ pub(crate) fn judge_map(id: u32, bits: &[u8], marks: &Marks) -> Option<Finding>
     ensures fits { length marks.now ≤ 2 ^ 32 → IfNone result ((n : ℕ) → n < 8 * length bits.now → bit_of bits.now n ≡ slice_index_or marks.now n false) }
     ensures wrong { length marks.now ≤ 2 ^ 32 → IfSome result (λ finding. IsWrongBit id bits.now marks.now (as_found finding)) }
 {
-    for n in 0..bits.len() * 8 {
+    let count = bytes_for_nodes(bits, marks);
+    for n in 0..count * 8 {
         let set = flag_rows::bytes::bit(bits, n);
         let want = is_marked(marks, n);
         if set != want {

@@ -123,6 +123,7 @@ refusal_in refusal.TooManyLinks = refl
 refusal_in refusal.TooLarge = refl
 refusal_in refusal.AttributeTooLarge = refl
 refusal_in refusal.NoAttribute = refl
+refusal_in refusal.BadTarget = refl
 refusal_in refusal.NoTree = refl
 refusal_in (refusal.NoIds a) = refl
 refusal_in (refusal.TooDeep a) = refl

@@ -5,7 +5,7 @@ use Rattle.std.specs.Str.Parse.{AllDigits, digits_value}
 use Rattle.std.proofs.lemmas.Fmt.{decimal_is_IsNumeral}
 use Rattle.std.proofs.lemmas.Str.Parse.{digit_from_value}
 use Rattle.hfs_language.specs.declared.refusal.Refusal.{Refusal}
-use Rattle.hfs_language.specs.declared.refusal.Refusal.TheVariants.{TooLong, BadCommand, BadName, NameTooLong, Private, Root, NotFound, NotFolder, IsFolder, Exists, NotEmpty, Inside, TooManyLinks, TooLarge, AttributeTooLarge, NoAttribute, NoTree, NoIds, TooDeep, OverflowFull, NoSpace, NoRun, TooBig, OutOfMemory, Unsteady}
+use Rattle.hfs_language.specs.declared.refusal.Refusal.TheVariants.{TooLong, BadCommand, BadName, NameTooLong, Private, Root, NotFound, NotFolder, IsFolder, Exists, NotEmpty, Inside, TooManyLinks, TooLarge, AttributeTooLarge, NoAttribute, BadTarget, NoTree, NoIds, TooDeep, OverflowFull, NoSpace, NoRun, TooBig, OutOfMemory, Unsteady}
 use Rattle.hfs_language.specs.declared.reply.Reply.TheVariants as reply
 use Rattle.hfs_language.specs.Text.{field, fields, tree_text, kind_text, size_fields, mode_text, value_text, refusal_name, refusal_numbers, reply_text}
 use Rattle.hfs_language.specs.Shown.{AreNumbers, ShowsContent, ShowsFacts, SameFacts, ShowsGauge, facts_numbers, tree_numbers, gauge_numbers}
@@ -99,6 +99,7 @@ refusal_named name numbers =
     else (if bytes_eq name (codes "TooLarge") then TooLarge
     else (if bytes_eq name (codes "AttributeTooLarge") then AttributeTooLarge
     else (if bytes_eq name (codes "NoAttribute") then NoAttribute
+    else (if bytes_eq name (codes "BadTarget") then BadTarget
     else (if bytes_eq name (codes "NoTree") then NoTree
     else (if bytes_eq name (codes "NoIds") then NoIds (get_or numbers 0 0)
     else (if bytes_eq name (codes "TooDeep") then TooDeep (get_or numbers 0 0)
@@ -108,7 +109,7 @@ refusal_named name numbers =
     else (if bytes_eq name (codes "TooBig") then TooBig (get_or numbers 0 0) (get_or numbers 1 0)
     else (if bytes_eq name (codes "OutOfMemory") then OutOfMemory
     else (if bytes_eq name (codes "Unsteady") then Unsteady
-    else (TooLong)))))))))))))))))))))))))
+    else (TooLong))))))))))))))))))))))))))
 
 named_back : (r : Refusal) → refusal_named (refusal_name r) (refusal_numbers r) ≡ r
 named_back TooLong = refl
@@ -127,6 +128,7 @@ named_back TooManyLinks = refl
 named_back TooLarge = refl
 named_back AttributeTooLarge = refl
 named_back NoAttribute = refl
+named_back BadTarget = refl
 named_back NoTree = refl
 named_back (NoIds a) = refl
 named_back (TooDeep a) = refl
@@ -158,6 +160,7 @@ name_shown TooManyLinks = refl
 name_shown TooLarge = refl
 name_shown AttributeTooLarge = refl
 name_shown NoAttribute = refl
+name_shown BadTarget = refl
 name_shown NoTree = refl
 name_shown (NoIds a) = refl
 name_shown (TooDeep a) = refl
@@ -186,6 +189,7 @@ numbers_behind TooManyLinks = refl
 numbers_behind TooLarge = refl
 numbers_behind AttributeTooLarge = refl
 numbers_behind NoAttribute = refl
+numbers_behind BadTarget = refl
 numbers_behind NoTree = refl
 numbers_behind (NoIds a) = refl
 numbers_behind (TooDeep a) = refl

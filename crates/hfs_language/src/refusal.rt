@@ -21,6 +21,7 @@ pub enum Refusal {
     TooLarge,
     AttributeTooLarge,
     NoAttribute,
+    BadTarget,
     // For want of a resource of the volume, in the order in which they come.
     NoTree,
     /// The next free id.

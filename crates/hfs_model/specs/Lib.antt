@@ -5,3 +5,6 @@ pub mod Step
 pub mod Refers
 pub mod Change
 pub mod Answers
+pub mod Extras
+pub mod Targets
+pub mod Kinds

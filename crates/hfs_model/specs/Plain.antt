@@ -87,6 +87,24 @@ with_attribute name value node = record node { attributes = with_item (is_named 
 abbrev pub without_attribute : List ℕ → PlainNode → PlainNode
 without_attribute name node = record node { attributes = kept (λ attribute. not (is_named name attribute)) node.attributes }
 
+-- ---- types
+
+-- the type bits of a new folder, 0040000, or of a new file, 0100000
+abbrev pub type_bits_of : Bool → ℕ
+type_bits_of folder = if folder then 16384 else 32768
+
+-- the type bits of a symbolic link, 0120000
+abbrev pub link_bits : ℕ
+link_bits = 40960
+
+-- the type bits of a folder or file whose mode is set: those that it has, or those of a new one where it has none
+abbrev pub type_bits_kept : Bool → ℕ → ℕ
+type_bits_kept folder bits = if bits == 0 then type_bits_of folder else bits
+
+-- a folder or file that has this mode
+abbrev pub with_mode : ℕ → PlainNode → PlainNode
+with_mode mode node = record node { type_bits = type_bits_kept node.folder node.type_bits; mode = mode }
+
 -- ---- new ones
 
 -- a folder or file as it is made: its mode, its dates, and nothing in it
@@ -94,12 +112,14 @@ abbrev pub new_node : Bool → ℕ → ℕ → PlainNode
 new_node folder id moment = record {
   id = id;
   folder = folder;
+  type_bits = type_bits_of folder;
   mode = if folder then 493 else 420;
   created = moment;
   changed = moment;
   attribute = moment;
   attributes = [];
   bytes = [];
+  resource = [];
   linked = false;
 }
 

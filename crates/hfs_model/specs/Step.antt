@@ -16,7 +16,7 @@ use Rattle.hfs_model.specs.declared.plain.PlainAttribute.{PlainAttribute}
 use Rattle.hfs_model.specs.declared.plain.PlainEntry.{PlainEntry}
 use Rattle.hfs_model.specs.declared.plain.PlainNode.{PlainNode}
 use Rattle.hfs_model.specs.declared.plain.PlainTree.{PlainTree}
-use Rattle.hfs_model.specs.Plain.{entry_at, entries_in, names_of, node_at, attribute_at, with_entry, without_entry, with_node, without_node, with_changed, with_attribute, without_attribute, new_node}
+use Rattle.hfs_model.specs.Plain.{entry_at, entries_in, names_of, node_at, attribute_at, with_entry, without_entry, with_node, without_node, with_changed, with_mode, with_attribute, without_attribute, new_node}
 
 -- ---- limits
 
@@ -373,7 +373,7 @@ step tree (command.Read path from long) = on tree (to_read tree path long) (λ f
 step tree (command.Trunc path size) = on tree (to_trunc tree path size) (λ file. (reply.Ok, resized file size tree))
 step tree (command.Ls path) = on tree (to_folder tree path) (λ folder. (reply.Listing (map listed (entries_in tree folder.id)), tree))
 step tree (command.Stat path) = on tree (to_node tree path) (λ node. (reply.Facts (facts_of tree node), tree))
-step tree (command.Chmod path mode) = on tree (to_node tree path) (λ node. (reply.Ok, marked node.id (with_changed node.id (λ old. record old { mode = mode }) tree)))
+step tree (command.Chmod path mode) = on tree (to_node tree path) (λ node. (reply.Ok, marked node.id (with_changed node.id (with_mode mode) tree)))
 step tree (command.SetAttr path name value) = on tree (to_set tree path value) (λ node. (reply.Ok, marked node.id (with_changed node.id (with_attribute name value) tree)))
 step tree (command.GetAttr path name) = on tree (to_value tree path name) (λ pair. (reply.Content pair.1.value, tree))
 step tree (command.DelAttr path name) = on tree (to_attribute tree path name) (λ pair. (reply.Ok, marked pair.0.id (with_changed pair.0.id (without_attribute name) tree)))

@@ -1,7 +1,7 @@
 //! What a command is answered with on a plain tree, and the tree after it.
 ghost use Rattle.std.specs.Prelude.{◌≡◌, ◌≤◌, ◌<◌, ◌+◌, ◌^◌, map, take, drop, IfOk, Some, None, option_copied};
 ghost use Rattle.hfs_language.specs.declared.reply.Reply.TheVariants as reply;
-ghost use Rattle.hfs_model.specs.Plain.{entries_in, with_changed, with_attribute, without_attribute};
+ghost use Rattle.hfs_model.specs.Plain.{entries_in, with_changed, with_mode, with_attribute, without_attribute};
 ghost use Rattle.hfs_model.specs.Change.{change_of};
 ghost use Rattle.hfs_model.specs.Answers.{step_told};
 ghost use Rattle.hfs_model.specs.Step.{on, to_make, to_rm, to_rmdir, to_mv, to_link, to_node, to_file, to_folder, to_write, to_read, to_trunc, to_set, to_attribute, made, removed, removed_folder, moved_over, is_same_file, vacated, linked, written, resized, with_bytes, marked, facts_of, listed, listed_attribute, to_value, moved};
@@ -263,7 +263,7 @@ impl PlainTree {
         path: &[Units],
         mode: u16,
     ) -> Result<Answer, OutOfMemory>
-        ensures { IfOk result (λ answer. step_told self.now answer ≡ on self.now (to_node self.now path.now) (λ node. (reply.Ok, marked node.id (with_changed node.id (λ old. record old { mode = mode }) self.now)))) }
+        ensures { IfOk result (λ answer. step_told self.now answer ≡ on self.now (to_node self.now path.now) (λ node. (reply.Ok, marked node.id (with_changed node.id (with_mode mode) self.now)))) }
     {
         let root = PlainEntry::root(alloc);
         match self.to_node(&root, path) {

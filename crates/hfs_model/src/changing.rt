@@ -7,7 +7,7 @@ ghost use Rattle.hfs_model.specs.Refers.{place_at};
 
 use crate::copying::copy_list;
 use crate::ordering::{attributes_without, entries_without, nodes_without, put};
-use crate::plain::{PlainAttribute, PlainEntry, PlainNode, PlainTree};
+use crate::plain::{PlainAttribute, PlainEntry, PlainNode, PlainTree, type_bits_kept};
 use crate::walking::Site;
 use hx_bytes::{Bytes, Listed, OutOfMemory, Units};
 use std::alloc::Global;
@@ -42,7 +42,10 @@ fn change_node(
             node.attribute = moment;
         }
         NodeChange::Marked => node.attribute = moment,
-        NodeChange::Mode(mode) => node.mode = mode,
+        NodeChange::Mode(mode) => {
+            node.type_bits = type_bits_kept(node.folder, node.type_bits);
+            node.mode = mode;
+        }
         NodeChange::Linked => node.linked = true,
         NodeChange::Bytes(bytes) => {
             node.bytes = copy_list(alloc, bytes)?;

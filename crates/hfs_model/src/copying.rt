@@ -39,12 +39,14 @@ fn copy_node(alloc: Global, node: &PlainNode) -> Result<PlainNode, OutOfMemory>
     Ok(PlainNode {
         id: node.id,
         folder: node.folder,
+        type_bits: node.type_bits,
         mode: node.mode,
         created: node.created,
         changed: node.changed,
         attribute: node.attribute,
         attributes: copy_attributes(alloc, &node.attributes)?,
         bytes: copy_list(alloc, &node.bytes)?,
+        resource: copy_list(alloc, &node.resource)?,
         linked: node.linked,
     })
 }

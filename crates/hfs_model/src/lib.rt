@@ -7,6 +7,7 @@ mod bytes;
 mod changing;
 mod copying;
 mod deciding;
+mod kinds;
 mod ordering;
 mod own_names;
 mod plain;
@@ -19,6 +20,7 @@ pub use hfs_language::{
     Change, ChangeKind, Changes, Command, Facts, Gauge, ListedName, Listing, Path, Refusal, Reply,
     TreeGauge,
 };
+pub use kinds::{KindEdit, Sight};
 pub use plain::{PlainAttribute, PlainEntry, PlainNode, PlainTree};
 pub use records::{
     ascii, new_entry, new_folder, new_thread, no_fork, one_run, put_item, put_journal_threads,

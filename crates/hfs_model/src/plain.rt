@@ -1,7 +1,7 @@
 //! The plain tree: a volume as its users see it, as sorted lists.
 
 ghost use Rattle.std.specs.Prelude.{◌≡◌, IfOk};
-ghost use Rattle.hfs_model.specs.Plain.{fresh_tree, new_node, is_at, is_named};
+ghost use Rattle.hfs_model.specs.Plain.{fresh_tree, new_node, is_at, is_named, type_bits_of, type_bits_kept};
 ghost use Rattle.hfs_model.specs.Step.{root_entry};
 
 use hx_bytes::{Bytes, Listed, OutOfMemory, Units};
@@ -51,11 +51,14 @@ impl PlainAttribute {
     }
 }
 
-/// A folder or a file. A folder has no bytes, and was never linked.
+/// A folder or a file. A folder has no bytes of its own nor a resource fork, and was never linked.
 #[derive(Drop)]
 pub struct PlainNode {
     pub id: u32,
     pub folder: bool,
+    /// The bits of the mode that say what it is: 0040000 a folder, 0100000 a regular file, 0120000 a symbolic link (TN1150, "HFS Plus Permissions").
+    pub type_bits: u16,
+    /// The low twelve bits of the mode.
     pub mode: u16,
     pub created: u32,
     pub changed: u32,
@@ -63,8 +66,27 @@ pub struct PlainNode {
     /// In the order of their names.
     pub attributes: Listed<PlainAttribute>,
     pub bytes: Bytes,
+    /// The bytes of its resource fork.
+    pub resource: Bytes,
     /// Whether the file ever had a second name.
     pub linked: bool,
+}
+
+/// The type bits of a new folder, or of a new file.
+fn type_bits_of(folder: bool) -> u16
+    ensures { result ≡ type_bits_of folder }
+{
+    if folder { 0o040_000 } else { 0o100_000 }
+}
+
+/// The type bits of a folder or file whose mode is set: those that it has, or those of a new one where it has none.
+pub(crate) fn type_bits_kept(folder: bool, bits: u16) -> u16
+    ensures { result ≡ type_bits_kept folder bits }
+{
+    if bits == 0 {
+        return type_bits_of(folder);
+    }
+    bits
 }
 
 impl PlainNode {
@@ -75,12 +97,14 @@ impl PlainNode {
         PlainNode {
             id,
             folder,
+            type_bits: type_bits_of(folder),
             mode: if folder { 0o755 } else { 0o644 },
             created: moment,
             changed: moment,
             attribute: moment,
             attributes: Listed::new(alloc),
             bytes: Listed::new(alloc),
+            resource: Listed::new(alloc),
             linked: false,
         }
     }

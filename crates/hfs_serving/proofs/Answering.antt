@@ -251,6 +251,7 @@ pub answers_of : (capacity : ℕ) (start : Content) (old : State) (source : Stre
 answers_of capacity start old source texts new source_new taken rig = record {
   run = rig.run;
   run_is = rig.keeps.run_is;
+  plain = rig.keeps.plain;
   told = rig.told;
   lines_are = λ tells. subst (λ (l : List (List ℕ)). BeginsMore [] source l source_new) (sym rig.asked) (taken tells);
 }
@@ -259,6 +260,7 @@ pub to_last_of : (capacity : ℕ) (start : Content) (old : State) (source : Stre
 to_last_of capacity start old source texts new source_new many rig = record {
   run = rig.run;
   run_is = rig.keeps.run_is;
+  plain = rig.keeps.plain;
   told = rig.told;
   count = omega (arith, many, ap (λ (l : List (List ℕ)). length l) rig.asked, length-map rig.run (λ (e : Entry). e.line));
   lines_are = rig.keeps.lines_are;

@@ -3,12 +3,12 @@ use Rattle.std.proofs.Common.{◌≡◌, ◌⊎◌, ◌+◌, [], ◌++◌, ℕ, 
 use Rattle.std.specs.Prelude.{Option, None}
 use Rattle.std.proofs.Math.Seq.{take-append-add}
 use Rattle.std.proofs.lemmas.List.{append-nil, take-append-le}
+use Rattle.hfs_volume.specs.declared.asked.Asked.{Asked}
 use Rattle.sector_disk.specs.Clock.{TimePasses}
 use Rattle.sector_disk.specs.Disk.{ToldPrefix}
 use Rattle.sector_disk.specs.Space.{Space}
 use Rattle.sector_disk.proofs.Passing.{none_passes, both_pass, passes_with}
 use Rattle.jnl_format.specs.Recovery.{Content}
-use Rattle.hfs_language.specs.declared.command.Command.{Command}
 use Rattle.hfs_volume.specs.Reclaim.{Tidies, none}
 use Rattle.volume_runs.specs.Run.{Entry, IsRunFrom, content_after, shrunk_in}
 use Rattle.hfs_serving.specs.Runs.{Answer, AreAnswers, IsPrefix, StandsAs, Leads, StandsIn, SurvivesFrom, Crashes, Serves, texts_of}
@@ -59,7 +59,7 @@ module _ (capacity : ℕ) (shrunk : Option ℕ) (committed from : Content) (old 
 
   -- ---- two stretches within a batch
 
-  module _ (run more : List Entry) (middle between : Content) (space : Space) (mid : Outside) {asked : Option Command} (goes : Goes capacity shrunk asked committed from old run middle between space mid) where
+  module _ (run more : List Entry) (middle between : Content) (space : Space) (mid : Outside) {asked : Option Asked} (goes : Goes capacity shrunk asked committed from old run middle between space mid) where
     -- what stands in the second stretch stands within both
     within_both : (recovered : Content) → StandsWithin capacity (shrunk_in shrunk run) middle between more recovered → StandsWithin capacity shrunk committed from (run ++ more) recovered
     within_both recovered within =
@@ -85,7 +85,7 @@ module _ (capacity : ℕ) (shrunk : Option ℕ) (committed from : Content) (old 
     })
 
     -- where both lead to there
-    pub goes_as : {further ahead : Option Command} (last now : Content) (new_space : Space) (new : Outside) → Goes capacity (shrunk_in shrunk run) further middle between mid more last now new_space new → Leads capacity shrunk ahead from (run ++ more) now
+    pub goes_as : {further ahead : Option Asked} (last now : Content) (new_space : Space) (new : Outside) → Goes capacity (shrunk_in shrunk run) further middle between mid more last now new_space new → Leads capacity shrunk ahead from (run ++ more) now
         → Goes capacity shrunk ahead committed from old (run ++ more) last now new_space new
     goes_as last now new_space new second leads = record {
       leads = leads;
@@ -107,7 +107,7 @@ module _ (capacity : ℕ) (shrunk : Option ℕ) (committed from : Content) (old 
 
   -- of which the first is ahead of no command
   module _ (run more : List Entry) (middle between : Content) (space : Space) (mid : Outside) (goes : Goes capacity shrunk None committed from old run middle between space mid) where
-    pub goes_both : {asked : Option Command} (last now : Content) (new_space : Space) (new : Outside) → Goes capacity (shrunk_in shrunk run) asked middle between mid more last now new_space new → Goes capacity shrunk asked committed from old (run ++ more) last now new_space new
+    pub goes_both : {asked : Option Asked} (last now : Content) (new_space : Space) (new : Outside) → Goes capacity (shrunk_in shrunk run) asked middle between mid more last now new_space new → Goes capacity shrunk asked committed from old (run ++ more) last now new_space new
     goes_both {asked} last now new_space new second =
         goes_as run more middle between space mid goes last now new_space new second (leads_both capacity shrunk from run more between goes.leads asked now second.leads)
 
@@ -115,7 +115,7 @@ module _ (capacity : ℕ) (shrunk : Option ℕ) (committed from : Content) (old 
     goes_stops new second = stops_as run more middle between space mid goes new second (run_is_on capacity shrunk from run more between goes.leads second.run_is)
 
   -- a fault of a call that puts and spills nothing, as of memory or of the source
-  pub stops_there : (run : List Entry) (middle between : Content) (space : Space) (mid : Outside) {asked : Option Command} → Goes capacity shrunk asked committed from old run middle between space mid → Stops capacity shrunk committed from old run mid
+  pub stops_there : (run : List Entry) (middle between : Content) (space : Space) (mid : Outside) {asked : Option Asked} → Goes capacity shrunk asked committed from old run middle between space mid → Stops capacity shrunk committed from old run mid
   stops_there run middle between space mid {asked} goes = record {
     run_is = goes.leads.run_is;
     leaves = λ recovered left. committed_stands run middle recovered goes.commits (stands_durable middle space goes.below recovered (goes.leaves recovered left));
@@ -124,8 +124,8 @@ module _ (capacity : ℕ) (shrunk : Option ℕ) (committed from : Content) (old 
   }
 
   -- Behind a stretch sectors were put and spilled, so that the space reads as a content to which a longer run leads.
-  module _ (run longer : List Entry) (middle between : Content) (space : Space) (mid : Outside) {asked : Option Command} (goes : Goes capacity shrunk asked committed from old run middle between space mid) where
-    pub touched_on : (new : Space) (after : Outside) {now : Content} {ahead : Option Command} → Touches middle space mid new after → Leads capacity shrunk ahead from (run ++ longer) now → IsRead now new → Goes capacity shrunk ahead committed from old (run ++ longer) middle now new after
+  module _ (run longer : List Entry) (middle between : Content) (space : Space) (mid : Outside) {asked : Option Asked} (goes : Goes capacity shrunk asked committed from old run middle between space mid) where
+    pub touched_on : (new : Space) (after : Outside) {now : Content} {ahead : Option Asked} → Touches middle space mid new after → Leads capacity shrunk ahead from (run ++ longer) now → IsRead now new → Goes capacity shrunk ahead committed from old (run ++ longer) middle now new after
     touched_on new after {now} {ahead} touches leads reads =
         let below = touched_below middle space goes.below mid new after touches in
         record {

@@ -4,7 +4,7 @@ use Rattle.std.specs.Prelude.{Bool, true, false, IsTrue, ◌&&◌, if◌then◌e
 use Rattle.std.proofs.Math.Nat.{mul-add, mul-le-mul_left, mul-one}
 use Rattle.std.proofs.lemmas.Bool.{cases_lt}
 use Rattle.std.proofs.lemmas.List.Elements.{Contains-append_left, Contains-append_right, Contains-push}
-use Rattle.hfs_serving.specs.Commits.{CommitsABatch, CommitsOnce, CommitsRun, HaveCauses, IsOfCommit, barriers_of}
+use Rattle.hfs_serving.specs.Commits.{CommitsABatch, CommitsOnce, CommitsRun, HaveCauses, IsCutShort, IsOfCommit, barriers_of}
 use Rattle.hfs_serving.specs.Going.{Hearing, is_answered, wants_commit}
 use Rattle.hfs_serving.specs.Trying.{HearsAs}
 use Rattle.hfs_serving.specs.declared.volume.Performed.{Performed}
@@ -71,7 +71,7 @@ module _ (wanted : ℕ → Type 0) where
   causes_more first often old new was within = record { short = was.short; few = omega (arith, was.few, within); each = was.each }
 
   -- the batch of no line
-  pub first_batch : (often old new count : ℕ) (lines : List (List ℕ)) → lines ≡ [] → count ≤ length lines → CommitsOnce wanted often count old new → CommitsABatch wanted often 0 old new
+  pub first_batch : (often old new count : ℕ) (lines : List (List ℕ)) → lines ≡ [] → count ≤ length lines → CommitsOnce wanted often count old new → CommitsABatch wanted often 1 0 old new
   first_batch often old new count lines none few once = record {
     ends = once.ending ∷ [];
     few_ends = omega arith;
@@ -84,8 +84,8 @@ module _ (wanted : ℕ → Type 0) where
   }
 
   -- another behind some
-  pub batch_on : (often lines count all old mid new : ℕ) → CommitsABatch wanted often lines old mid → CommitsOnce wanted often count mid new → 0 < count → lines + count ≡ all → CommitsABatch wanted often all old new
-  batch_on often lines count all old mid new a once some sum = record {
+  pub batch_on : (often empty more lines count all old mid new : ℕ) → CommitsABatch wanted often empty lines old mid → CommitsOnce wanted often count mid new → lines + empty < all + more → lines + count ≡ all → CommitsABatch wanted often more all old new
+  batch_on often empty more lines count all old mid new a once some sum = record {
     ends = a.ends ++ once.ending ∷ [];
     few_ends = omega (arith, length-append a.ends (once.ending ∷ []), a.few_ends, some, sum);
     short = a.short ++ once.before.short;
@@ -103,6 +103,28 @@ module _ (wanted : ℕ → Type 0) where
         (cases_lt barrier mid);
   }
 
+  -- one of no line more
+  pub batches_more : (often empty lines old new : ℕ) → CommitsABatch wanted often empty lines old new → CommitsABatch wanted often (empty + 1) lines old new
+  batches_more often empty lines old new was = record { ends = was.ends; few_ends = omega (arith, was.few_ends); short = was.short; few_short = was.few_short; each = was.each }
+
+  -- no batch
+  pub no_batch : (often empty old new : ℕ) → new ≤ old → CommitsABatch wanted often empty 0 old new
+  no_batch often empty old new none = record {
+    ends = [];
+    few_ends = omega arith;
+    short = [];
+    few_short = omega arith;
+    each = λ barrier from to. absurd (omega (arith, none, from, to));
+  }
+
+  -- the batch of no line, which a fault cut short
+  pub first_cut : (often old new : ℕ) (lines : List (List ℕ)) → lines ≡ [] → IsCutShort wanted often (length lines) old new → CommitsABatch wanted often 2 0 old new
+  first_cut often old new lines none cut = batches_more often 1 0 old new (first_batch often old new cut.0 lines none cut.1 cut.2)
+
+  -- a run without a batch
+  pub run_none : (often ahead empty old new : ℕ) → new ≤ old + ahead → CommitsRun wanted often ahead empty 0 old new
+  run_none often ahead empty old new few = record { begun = new; first = few; ended = new; batches = no_batch often empty new new (omega arith); last = omega arith }
+
 -- what is wanted may be more
 pub causes_wider : (wanted wider : ℕ → Type 0) (often old new : ℕ) → ((passed : ℕ) → wanted passed → wider passed) → HaveCauses wanted often old new → HaveCauses wider often old new
 causes_wider wanted wider often old new more was = record {
@@ -111,8 +133,8 @@ causes_wider wanted wider often old new more was = record {
   each = λ barrier from to. ⊎_elim (λ is. inl (of_more _ _ barrier more is)) (λ is. inr is) (was.each barrier from to);
 }
 
-pub batches_wider : (wanted wider : ℕ → Type 0) (often lines old new : ℕ) → ((passed : ℕ) → wanted passed → wider passed) → CommitsABatch wanted often lines old new → CommitsABatch wider often lines old new
-batches_wider wanted wider often lines old new more was = record {
+pub batches_wider : (wanted wider : ℕ → Type 0) (often empty lines old new : ℕ) → ((passed : ℕ) → wanted passed → wider passed) → CommitsABatch wanted often empty lines old new → CommitsABatch wider often empty lines old new
+batches_wider wanted wider often empty lines old new more was = record {
   ends = was.ends;
   few_ends = was.few_ends;
   short = was.short;
@@ -121,8 +143,8 @@ batches_wider wanted wider often lines old new more was = record {
 }
 
 -- a run, behind more barriers
-pub run_behind : (wanted : ℕ → Type 0) (often ahead more lines old mid new : ℕ) → CommitsRun wanted often ahead lines mid new → mid ≤ old + more → CommitsRun wanted often (ahead + more) lines old new
-run_behind wanted often ahead more lines old mid new was far = record { begun = was.begun; first = omega (arith, was.first, far); ended = was.ended; batches = was.batches; last = was.last }
+pub run_behind : (wanted : ℕ → Type 0) (often ahead more empty lines old mid new : ℕ) → CommitsRun wanted often ahead empty lines mid new → mid ≤ old + more → CommitsRun wanted often (ahead + more) empty lines old new
+run_behind wanted often ahead more empty lines old mid new was far = record { begun = was.begun; first = omega (arith, was.first, far); ended = was.ended; batches = was.batches; last = was.last }
 
 -- ---- the steps of a command
 

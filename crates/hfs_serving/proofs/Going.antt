@@ -1,17 +1,17 @@
 -- A volume that goes on within a batch.
 use Rattle.std.proofs.Common.{◌≡◌, ◌⊎◌, ◌≤◌, ◌+◌, ◌∷◌, [], ◌++◌, ℕ, List, true, false, inl, inr, ⊎_elim, refl, sym, ◌∙◌, ap, subst}
 use Rattle.std.specs.Prelude.{◌&&◌, Bool, Option, None, Result, Ok, Err, OnOk, OnErr}
+use Rattle.hfs_volume.specs.declared.asked.Asked.{Asked}
 use Rattle.sector_disk.specs.Space.{Space}
 use Rattle.jnl_format.specs.Recovery.{Content}
 use Rattle.hfs_language.specs.Text.{reply_text}
-use Rattle.hfs_language.specs.declared.command.Command.{Command}
 use Rattle.hfs_language.specs.declared.reply.Change.{Change}
 use Rattle.hfs_language.specs.declared.reply.Reply.{Reply}
 use Rattle.hfs_volume.specs.Content.{volume_of}
 use Rattle.volume_runs.specs.Rest.{IsAtRest, IsTidiedFor, TidiesFor, no_step, one_step}
-use Rattle.volume_runs.specs.Run.{Entry, IsRunFrom, content_after, shrunk_in, lines_of, replies_of}
+use Rattle.volume_runs.specs.Run.{Entry, IsRunFrom, content_after, shrunk_in, lines_of, replies_of, wanted_by, wanted_in}
 use Rattle.volume_runs.specs.Told.{changes_in}
-use Rattle.hfs_serving.specs.Going.{Does, DoesOn, Hearing, Knowing, Stands, Stays, Tidied, AnswersTo, ahead_of, asked_in, is_answered, wants_commit, GoesTidy, GoesRested, GoesOn, StopsOn}
+use Rattle.hfs_serving.specs.Going.{Does, DoesOn, Hearing, Knowing, Stands, Stays, Tidied, AnswersTo, ahead_of, is_answered, wants_commit, GoesTidy, GoesRested, GoesOn, StopsOn}
 use Rattle.hfs_serving.specs.declared.volume.Step.{Step}
 use Rattle.hfs_serving.specs.declared.volume.Step.TheVariants as step
 use Rattle.hfs_serving.specs.Outside.{Outside}
@@ -37,21 +37,21 @@ on_ok (Err e) goes p = tt
 -- ---- a step of a line
 
 -- a command that wasn't answered had no reply: a step of housekeeping was made for it, or it was only looked at
-module _ (capacity : ℕ) (knows : Knowing) (committed now : Content) (shrunk : Option ℕ) (space : Space) (number : ℕ) (line : List ℕ) (hears : Hearing) (same : Type 0) where
-  pub left_line : (made : Step) → is_answered made ≡ false → AnswersTo made capacity knows committed now shrunk space number line hears same → same × (Tidied capacity (asked_in line) knows committed now shrunk space ⊎ Stays knows committed now shrunk space)
+module _ (capacity : ℕ) (knows : Knowing) (committed now : Content) (shrunk : Option ℕ) (space : Space) (number : ℕ) (own : Option Asked) (line : List ℕ) (hears : Hearing) (same : Type 0) where
+  pub left_line : (made : Step) → is_answered made ≡ false → AnswersTo made capacity knows committed now shrunk space number own line hears same → same × (Tidied capacity (wanted_in own line) knows committed now shrunk space ⊎ Stays knows committed now shrunk space)
   left_line step.Answered other answers = absurd (cc other)
   left_line step.Again other answers = (answers.0, inl answers.1)
   left_line step.CommitFirst other answers = (answers.0, inr answers.1)
   left_line step.Forgone other answers = absurd answers
 
-  pub answered_line : (made : Step) → is_answered made ≡ true → AnswersTo made capacity knows committed now shrunk space number line hears same → (said : Reply) × (changes : List Change) × hears said changes × Does capacity knows committed now shrunk space number line said changes
+  pub answered_line : (made : Step) → is_answered made ≡ true → AnswersTo made capacity knows committed now shrunk space number own line hears same → (said : Reply) × (changes : List Change) × hears said changes × Does capacity knows committed now shrunk space number own line said changes
   answered_line step.Answered is answers = answers
   answered_line step.Again is answers = absurd (cc is)
   answered_line step.CommitFirst is answers = absurd (cc is)
   answered_line step.Forgone is answers = absurd answers
 
   -- a line that is left was only looked at
-  pub waiting_line : (made : Step) (may_wait : Bool) → (wants_commit made && may_wait) ≡ true → AnswersTo made capacity knows committed now shrunk space number line hears same → same × Stays knows committed now shrunk space
+  pub waiting_line : (made : Step) (may_wait : Bool) → (wants_commit made && may_wait) ≡ true → AnswersTo made capacity knows committed now shrunk space number own line hears same → same × Stays knows committed now shrunk space
   waiting_line step.Answered may_wait waits answers = absurd (cc waits)
   waiting_line step.Again may_wait waits answers = absurd (cc waits)
   waiting_line step.CommitFirst may_wait waits answers = answers
@@ -75,7 +75,7 @@ module _ (capacity : ℕ) (shrunk : Option ℕ) (committed now : Content) (old :
   pub begins : (knows : Knowing) (space : Space) → Stands knows committed now shrunk space old → GoesTidy capacity None knows committed now shrunk old space old
   begins knows space stands = record { last = committed; next = now; goes = goes_none capacity shrunk committed now old space stands.below stands.reads stands.leaves; heads = stands.heads; known = stands.known }
 
-  module _ (knows : Knowing) (space : Space) (mid : Outside) {asked : Option Command} (goes : GoesTidy capacity asked knows committed now shrunk old space mid) where
+  module _ (knows : Knowing) (space : Space) (mid : Outside) {asked : Option Asked} (goes : GoesTidy capacity asked knows committed now shrunk old space mid) where
     -- where it stands now
     pub stands_there : Stands knows goes.last goes.next shrunk space mid
     stands_there = record { known = goes.known; below = goes.goes.below; reads = goes.goes.reads; heads = goes.heads; leaves = goes.goes.leaves }
@@ -133,14 +133,14 @@ module _ (capacity : ℕ) (shrunk : Option ℕ) (committed now : Content) (old :
 
     -- a fault in a call that put and spilled, or in a commit
     pub touch_stops_tidy : (new : Space) (after : Outside) → Touches goes.last space mid new after → StopsOn capacity committed now shrunk old [] after
-    touch_stops_tidy new after touches = record { more = []; asked = refl; stops = touch_stops_here capacity shrunk committed now old [] goes.last goes.next space mid goes.goes new after touches }
+    touch_stops_tidy new after touches = record { more = []; plain = tt; asked = refl; stops = touch_stops_here capacity shrunk committed now old [] goes.last goes.next space mid goes.goes new after touches }
 
     pub commit_stops_tidy : (after : Outside) → MayCommit space mid after → StopsOn capacity committed now shrunk old [] after
-    commit_stops_tidy after may = record { more = []; asked = refl; stops = commit_stops_here capacity shrunk committed now old [] goes.last goes.next space mid goes.goes after may }
+    commit_stops_tidy after may = record { more = []; plain = tt; asked = refl; stops = commit_stops_here capacity shrunk committed now old [] goes.last goes.next space mid goes.goes after may }
 
     -- a fault of memory
     pub memory_stops_tidy : StopsOn capacity committed now shrunk old [] mid
-    memory_stops_tidy = record { more = []; asked = refl; stops = stops_there capacity shrunk committed now old [] goes.last goes.next space mid goes.goes }
+    memory_stops_tidy = record { more = []; plain = tt; asked = refl; stops = stops_there capacity shrunk committed now old [] goes.last goes.next space mid goes.goes }
 
     -- a stretch behind it that is ahead of no command
     pub tidy_both : (knows_new : Knowing) (new : Space) (after : Outside) → GoesTidy capacity None knows_new goes.last goes.next shrunk mid new after → GoesTidy capacity asked knows_new committed now shrunk old new after
@@ -165,7 +165,7 @@ module _ (capacity : ℕ) (shrunk : Option ℕ) (committed now : Content) (old :
     tidy_stops after second =
         let behind : Stops capacity (shrunk_in shrunk []) goes.last goes.next mid second.more after =
         subst (λ (s : Option ℕ). Stops capacity s goes.last goes.next mid second.more after) (sym (shrunk_in-none shrunk)) second.stops in
-        record { more = second.more; asked = second.asked; stops = stops_as capacity shrunk committed now old [] second.more goes.last goes.next space mid goes.goes after behind (no_lines capacity shrunk now second.more second.asked) }
+        record { more = second.more; plain = second.plain; asked = second.asked; stops = stops_as capacity shrunk committed now old [] second.more goes.last goes.next space mid goes.goes after behind (no_lines capacity shrunk now second.more second.asked) }
 
   -- ahead of no command
   module _ (knows : Knowing) (space : Space) (mid : Outside) (goes : GoesTidy capacity None knows committed now shrunk old space mid) where
@@ -193,12 +193,13 @@ module _ (capacity : ℕ) (shrunk : Option ℕ) (committed now : Content) (old :
       goes = goes.goes;
       heads = goes.heads;
       known = subst (λ (s : Option ℕ). knows goes.last goes.next s) (sym (shrunk_in-none shrunk)) goes.known;
+      plain = tt;
       asked = refl;
       told = said_none number;
     }
 
     -- ahead of any command
-    pub tidy_any : (asked : Option Command) → GoesTidy capacity asked knows committed now shrunk old space mid
+    pub tidy_any : (asked : Option Asked) → GoesTidy capacity asked knows committed now shrunk old space mid
     tidy_any asked =
         let it = goes.goes in
         record {
@@ -211,20 +212,20 @@ module _ (capacity : ℕ) (shrunk : Option ℕ) (committed now : Content) (old :
 
   -- ---- behind rest
 
-  pub rested_any : (asked : Option Command) (knows : Knowing) (space : Space) (mid : Outside) → GoesRested capacity None knows committed now shrunk old space mid → GoesRested capacity asked knows committed now shrunk old space mid
+  pub rested_any : (asked : Option Asked) (knows : Knowing) (space : Space) (mid : Outside) → GoesRested capacity None knows committed now shrunk old space mid → GoesRested capacity asked knows committed now shrunk old space mid
   unfolding tidy_any
   rested_any asked knows space mid rested = record { tidy = tidy_any knows space mid rested.tidy asked; rests = rest_any capacity shrunk now [] rested.tidy.next asked rested.rests }
 
-  pub rested_ahead : (may_wait : Bool) (line : List ℕ) (knows : Knowing) (space : Space) (mid : Outside) → GoesRested capacity None knows committed now shrunk old space mid → GoesRested capacity (ahead_of may_wait line) knows committed now shrunk old space mid
-  rested_ahead true line knows space mid rested = rested
-  rested_ahead false line knows space mid rested = rested_any (asked_in line) knows space mid rested
+  pub rested_ahead : (may_wait : Bool) (own : Option Asked) (line : List ℕ) (knows : Knowing) (space : Space) (mid : Outside) → GoesRested capacity None knows committed now shrunk old space mid → GoesRested capacity (ahead_of may_wait own line) knows committed now shrunk old space mid
+  rested_ahead true own line knows space mid rested = rested
+  rested_ahead false own line knows space mid rested = rested_any (wanted_in own line) knows space mid rested
 
   -- as long as the line may be left, it is ahead of none
-  pub rested_own : (may_wait : Bool) (line : List ℕ) (knows : Knowing) (space : Space) (mid : Outside) → GoesRested capacity (ahead_of may_wait line) knows committed now shrunk old space mid → GoesRested capacity (asked_in line) knows committed now shrunk old space mid
-  rested_own true line knows space mid rested = rested_any (asked_in line) knows space mid rested
-  rested_own false line knows space mid rested = rested
+  pub rested_own : (may_wait : Bool) (own : Option Asked) (line : List ℕ) (knows : Knowing) (space : Space) (mid : Outside) → GoesRested capacity (ahead_of may_wait own line) knows committed now shrunk old space mid → GoesRested capacity (wanted_in own line) knows committed now shrunk old space mid
+  rested_own true own line knows space mid rested = rested_any (wanted_in own line) knows space mid rested
+  rested_own false own line knows space mid rested = rested
 
-  module _ (knows : Knowing) (space : Space) (mid : Outside) {asked : Option Command} (rested : GoesRested capacity asked knows committed now shrunk old space mid) where
+  module _ (knows : Knowing) (space : Space) (mid : Outside) {asked : Option Asked} (rested : GoesRested capacity asked knows committed now shrunk old space mid) where
     pub rested_looks : (knows_new : Knowing) (new : Space) (after : Outside) → Touches rested.tidy.last space mid new after → Stays knows_new rested.tidy.last rested.tidy.next shrunk new → GoesRested capacity asked knows_new committed now shrunk old new after
     unfolding looks_tidy
     rested_looks knows_new new after touches stays = record { tidy = looks_tidy knows space mid rested.tidy knows_new new after touches stays; rests = rested.rests }
@@ -256,14 +257,14 @@ module _ (capacity : ℕ) (shrunk : Option ℕ) (committed now : Content) (old :
     rested_both_next knows_new new after second = refl
 
   -- a line was answered
-  module _ (knows : Knowing) (space : Space) (mid : Outside) (line : List ℕ) (rested : GoesRested capacity (asked_in line) knows committed now shrunk old space mid) where
-    pub rested_does : (knows_new : Knowing) (number : ℕ) (said : Reply) (changes : List Change) (new : Space) (after : Outside) → Touches rested.tidy.last space mid new after → Does capacity knows_new rested.tidy.last rested.tidy.next shrunk new number line said changes
-        → DoesOn capacity knows_new committed now shrunk old number line said changes new after
+  module _ (knows : Knowing) (space : Space) (mid : Outside) (own : Option Asked) (line : List ℕ) (rested : GoesRested capacity (wanted_in own line) knows committed now shrunk old space mid) where
+    pub rested_does : (knows_new : Knowing) (number : ℕ) (said : Reply) (changes : List Change) (new : Space) (after : Outside) → Touches rested.tidy.last space mid new after → Does capacity knows_new rested.tidy.last rested.tidy.next shrunk new number own line said changes
+        → DoesOn capacity knows_new committed now shrunk old number own line said changes new after
     rested_does knows_new number said changes new after touches does =
         let first = rested.tidy in
         let entry = does.entry in
-        let own : LeadsToRest capacity shrunk (asked_in entry.line) now [] first.next = subst (λ (l : List ℕ). LeadsToRest capacity shrunk (asked_in l) now [] first.next) (sym does.line_is) rested.rests in
-        let leads : Leads capacity shrunk None now (entry ∷ []) entry.after = leads_entry capacity shrunk now [] first.next entry own does.before does.served does.place in
+        let ahead : LeadsToRest capacity shrunk (wanted_by entry) now [] first.next = subst (λ (asked : Option Asked). LeadsToRest capacity shrunk asked now [] first.next) (sym (λ i. wanted_in (does.own_is i) (does.line_is i))) rested.rests in
+        let leads : Leads capacity shrunk None now (entry ∷ []) entry.after = leads_entry capacity shrunk now [] first.next entry ahead does.before does.served does.place in
         record {
           entry = entry;
           last = first.last;
@@ -271,12 +272,13 @@ module _ (capacity : ℕ) (shrunk : Option ℕ) (committed now : Content) (old :
           heads = does.heads;
           known = subst (λ (s : Option ℕ). knows_new first.last entry.after s) (sym (shrunk_in-one shrunk entry)) does.known;
           line_is = does.line_is;
+          own_is = does.own_is;
           reply = does.reply;
           told = does.told;
         }
 
-  -- one command is a stretch with an entry
-  pub does_goes : (knows : Knowing) (number : ℕ) (line : List ℕ) (said : Reply) (changes : List Change) (space : Space) (mid : Outside) → DoesOn capacity knows committed now shrunk old number line said changes space mid
+  -- one command of a line is a stretch with an entry
+  pub does_goes : (knows : Knowing) (number : ℕ) (line : List ℕ) (said : Reply) (changes : List Change) (space : Space) (mid : Outside) → DoesOn capacity knows committed now shrunk old number None line said changes space mid
       → GoesOn capacity knows committed now shrunk old number (line ∷ []) (record { replies = reply_text said; changes = changes }) space mid
   does_goes knows number line said changes space mid does = record {
     more = does.entry ∷ [];
@@ -285,6 +287,7 @@ module _ (capacity : ℕ) (shrunk : Option ℕ) (committed now : Content) (old :
     goes = does.goes;
     heads = does.heads;
     known = does.known;
+    plain = (does.own_is, tt);
     asked = ap (λ (l : List ℕ). l ∷ []) does.line_is;
     told = tells_both (replies_of (does.entry ∷ [])) (reply_text said) (changes_in number (does.entry ∷ [])) changes (replies_of-one does.entry ∙ ap reply_text does.reply) does.told;
   }

@@ -2,16 +2,16 @@
 use Rattle.std.proofs.Common.{[], ℕ, List, sym, subst}
 use Rattle.std.specs.Prelude.{Option}
 use Rattle.std.proofs.lemmas.List.{append-nil}
+use Rattle.hfs_volume.specs.declared.asked.Asked.{Asked}
 use Rattle.sector_disk.specs.Space.{Space}
 use Rattle.jnl_format.specs.Recovery.{Content}
-use Rattle.hfs_language.specs.declared.command.Command.{Command}
 use Rattle.volume_runs.specs.Run.{Entry, IsRunFrom, shrunk_in}
 use Rattle.hfs_serving.specs.Outside.{Outside}
 use Rattle.hfs_serving.specs.Runs.{Leads}
 use Rattle.hfs_serving.specs.Serving.{Commits, Goes, MayCommit, Stops, Touches}
 use Rattle.hfs_serving.proofs.Batches.{commit_goes, commit_stops, goes_as, stops_as, touch_stops}
 
-module _ (capacity : ℕ) (shrunk : Option ℕ) (committed from : Content) (old : Outside) (run : List Entry) (middle between : Content) (space : Space) (mid : Outside) {asked : Option Command} (goes : Goes capacity shrunk asked committed from old run middle between space mid) where
+module _ (capacity : ℕ) (shrunk : Option ℕ) (committed from : Content) (old : Outside) (run : List Entry) (middle between : Content) (space : Space) (mid : Outside) {asked : Option Asked} (goes : Goes capacity shrunk asked committed from old run middle between space mid) where
   abbrev here : Option ℕ
   here = shrunk_in shrunk run
 

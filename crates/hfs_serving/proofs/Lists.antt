@@ -1,10 +1,10 @@
 -- Runs as lists: what is behind them, and their replies.
-use Rattle.std.proofs.Common.{◌≡◌, ◌≤◌, ◌∷◌, [], ◌++◌, ℕ, List, length, refl, sym, ◌∙◌, ap, arith, append_assoc, length-append}
-use Rattle.std.specs.Prelude.{Option}
+use Rattle.std.proofs.Common.{◌≡◌, ◌≤◌, ◌∷◌, [], ◌++◌, ℕ, List, length, refl, sym, ◌∙◌, ap, arith, append_assoc, length-append, zero, suc}
+use Rattle.std.specs.Prelude.{Option, None, take}
 use Rattle.std.proofs.lemmas.List.{append-nil, append_cancel_left}
 use Rattle.jnl_format.specs.Recovery.{Content}
 use Rattle.hfs_language.specs.Text.{reply_text}
-use Rattle.volume_runs.specs.Run.{Entry, content_after, shrunk_in, shrunk_after, lines_of, replies_of}
+use Rattle.volume_runs.specs.Run.{Entry, content_after, shrunk_in, shrunk_after, lines_of, replies_of, ArePlain}
 use Rattle.hfs_serving.specs.Runs.{IsPrefix}
 
 pub content_after-none : (start : Content) → content_after start [] ≡ start
@@ -63,3 +63,14 @@ front_length front whole is = omega (arith, ap (λ (l : List ℕ). length l) is.
 -- a list that begins with another one, behind the same front
 pub front_behind : (a b told : List ℕ) → IsPrefix (a ++ b) (a ++ told) → IsPrefix b told
 front_behind a b told is = (is.0, append_cancel_left a told (b ++ is.0) (is.1 ∙ append_assoc a b is.0))
+
+-- plain entries, and more of them
+pub plain-append : (run more : List Entry) → ArePlain run → ArePlain more → ArePlain (run ++ more)
+plain-append [] more first second = second
+plain-append (entry ∷ run) more first second = (first.0, plain-append run more first.1 second)
+
+-- the first of them
+pub plain_take : (k : ℕ) (run : List Entry) → ArePlain run → ArePlain (take k run)
+plain_take zero run plain = tt
+plain_take (suc k) [] plain = tt
+plain_take (suc k) (entry ∷ run) plain = (plain.0, plain_take k run plain.1)

@@ -14,7 +14,7 @@ use Rattle.hfs_volume.specs.Sound.{IsSound}
 use Rattle.hfs_volume.specs.TreeOf.{tree_of}
 use Rattle.hfs_volume.specs.Mount.{FoldsCase, MountsTo}
 use Rattle.hfs_volume.specs.Reclaim.{Tidies, none, one_more, IsTidied, KeepsTree}
-use Rattle.volume_runs.specs.Run.{Entry, IsServed, IsRunFrom, asked_by, content_after, shrunk_in, shrunk_after, spelled, tree_after}
+use Rattle.volume_runs.specs.Run.{Entry, IsServed, IsRunFrom, content_after, shrunk_in, shrunk_after, tree_after, ArePlain, wanted_by}
 use Rattle.hfs_serving.specs.Outside.{outside_of}
 use Rattle.hfs_serving.specs.Opening.{MayServe, Opens}
 use Rattle.hfs_serving.specs.Runs.{Answer, Crashes, IsMarked, StandsAs, StandsIn, plain_answers}
@@ -56,7 +56,7 @@ module _ (capacity : ℕ) (P : Content → Type 0) (mark : (a b : Content) → I
   run_has shrunk start [] (suc count) is has = has
   run_has shrunk start (entry ∷ run) zero is has = has
   run_has shrunk start (entry ∷ run) (suc count) is has =
-      run_has (shrunk_after shrunk entry) entry.after run count is.2 (line entry is.1 (tidied_has shrunk start entry.before (tidies_of capacity shrunk (spelled (asked_by entry)) start entry.before is.0) has))
+      run_has (shrunk_after shrunk entry) entry.after run count is.2 (line entry is.1 (tidied_has shrunk start entry.before (tidies_of capacity shrunk (wanted_by entry) start entry.before is.0) has))
 
   -- so what a crash leaves stands for a content that has it
   pub stood_has : (shrunk : Option ℕ) (start : Content) (run : List Entry) (least : ℕ) (recovered : Content) → IsRunFrom capacity shrunk start run → P start → (within : StandsIn capacity shrunk start run least recovered) → P within.stood
@@ -189,10 +189,11 @@ plain_survives start run image told holds = record {
 }
 
 -- what users read of a run of them is what it keeps by its answers
-pub plain_keeps : (capacity : ℕ) (start : Content) (old : State) (source : Stream) (run : List Entry) (known : ℕ) (new : State) (source_new : Stream) → KeepsAnswers capacity start old run (plain_answers run) known new → (IsTrue source.tells → AreTaken source run source_new)
+pub plain_keeps : (capacity : ℕ) (start : Content) (old : State) (source : Stream) (run : List Entry) (known : ℕ) (new : State) (source_new : Stream) → KeepsAnswers capacity start old run (plain_answers run) known new → ArePlain run → (IsTrue source.tells → AreTaken source run source_new)
     → KeepsPromises capacity start old source run known new source_new
-plain_keeps capacity start old source run known new source_new keeps taken = record {
+plain_keeps capacity start old source run known new source_new keeps plain taken = record {
   run_is = keeps.run_is;
+  plain = plain;
   lines_are = taken;
   crash = λ image told left. plain_survives start run image told (keeps.crash image told left);
   told = let w = keeps.told in (w.0, (w.1.0, sym (texts_of_plain 0 run) ∙ w.1.1), w.2);

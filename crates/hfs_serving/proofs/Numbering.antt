@@ -56,6 +56,13 @@ module _ (taken : List ℕ) (source : Stream) (some : List (List ℕ)) (taken_ne
   pub all_lines : ahead taken_new new ≡ [] → length (lines (ahead taken source)) ≡ length some
   all_lines none = ap (λ (l : List (List ℕ)). length l) (ap lines takes.bytes ∙ all_cut takes.used (ahead taken_new new) some takes.cut none)
 
+  -- there are no fewer
+  pub most_lines : length some ≤ length (lines (ahead taken source))
+  most_lines =
+      let front = front_of takes.used (ahead taken_new new) some takes.cut in
+      let long = ap (λ (l : List (List ℕ)). length l) (ap lines takes.bytes ∙ front.1) in
+      omega (arith, long, length-append some front.0)
+
   -- where there is one more, there are more
   pub more_lines : lines (ahead taken_new new) ≢ [] → length some < length (lines (ahead taken source))
   more_lines more =

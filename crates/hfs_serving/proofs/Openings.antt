@@ -1,12 +1,10 @@
 -- What is opened of an image, and why an image isn't.
-use Rattle.std.proofs.Common.{◌≡◌, ◌≤◌, ℕ, Bool, not, Result, refl, sym, ◌∙◌, ap, subst, length}
-use Rattle.std.specs.Prelude.{IfOk, IfErr, Ok, Err, Option, None, Some, false, true, if◌then◌else◌}
-use Rattle.volume_header.specs.Refusal.{header_refusal, is_locked, is_volume_size}
-use Rattle.volume_header.specs.declared.refusal.HeaderRefusal.{HeaderRefusal}
-use Rattle.volume_header.specs.declared.refusal.HeaderRefusal.TheVariants.{LimitSectors}
-use Rattle.volume_header.specs.declared.header.VolumeHeader.{VolumeHeader}
-use Rattle.jnl_format.specs.Recovery.{Content, header_of_volume, journal_in, recovery, replayed}
+use Rattle.std.proofs.Common.{◌≡◌, ◌≤◌, ℕ, Result, refl, sym, subst}
+use Rattle.std.specs.Prelude.{IfOk, IfErr, Ok, Err}
+use Rattle.jnl_format.specs.Recovery.{Content, journal_in, recovery, replayed}
+use Rattle.jnl_replay.specs.Finding.{IsFound}
 use Rattle.jnl_replay.specs.Plan.{FitsPlan, IsPlan, journal_of}
+use Rattle.jnl_replay.specs.declared.plan.Place.{Place}
 use Rattle.jnl_replay.specs.declared.plan.Plan.{Plan}
 use Rattle.jnl_store.specs.Plan.{IsCapacityOf}
 use Rattle.hfs_volume.specs.Mount.{IsOpen}
@@ -16,10 +14,11 @@ use Rattle.hfs_serving.specs.declared.opening.OpenRefusal.{OpenRefusal}
 use Rattle.hfs_serving.specs.declared.opening.OpenRefusal.TheVariants as refusal
 use Rattle.hfs_serving.proofs.Capacities.{holds_at_most}
 
-pub open_of : (c : Content) (head : VolumeHeader) (sectors : ℕ) → head ≡ header_of_volume c → header_refusal head sectors ≡ None → is_locked head.attributes ≡ false → length c ≡ sectors → IsOpen c
-open_of c head sectors is accepted unlocked size = record {
-  accepted = ap (λ n. header_refusal (header_of_volume c) n) size ∙ ap (λ (h : VolumeHeader). header_refusal h sectors) (sym is) ∙ accepted;
-  unlocked = ap (λ (h : VolumeHeader). is_locked h.attributes) (sym is) ∙ unlocked;
+-- an image whose journal is looked for is open
+pub open_found : (c : Content) (place : Place) → IsFound c place → IsOpen c
+open_found c place found = record {
+  accepted = found.says.accepted;
+  unlocked = found.unlocked;
 }
 
 module _ (c : Content) (plan : Plan) (sectors : ℕ) (is_open : IsOpen c) (fits : FitsPlan sectors plan) (is : IsPlan c plan) (recovers : recovery c ≡ Ok (replayed (journal_of plan) c)) where
@@ -49,13 +48,10 @@ module _ (c : Content) (plan : Plan) (sectors : ℕ) (is_open : IsOpen c) (fits 
   plan_refused (Ok large) refused = tt
   plan_refused (Err why) refused = refuses why refused
 
-not_refused : (b : Bool) (why : HeaderRefusal) (rest : Option HeaderRefusal) → (if not b then Some why else rest) ≡ None → b ≡ true
-not_refused true why rest is = refl
-not_refused false why rest is = absurd (cc is)
-
--- a header is accepted on volumes of their sizes alone
-pub size_accepted : (head : VolumeHeader) (sectors : ℕ) → header_refusal head sectors ≡ None → is_volume_size sectors ≡ true
-size_accepted head sectors accepted = not_refused (is_volume_size sectors) (LimitSectors sectors) _ accepted
+-- what holds of the plan holds of what was large enough
+pub kept : (plan : Plan) (P : Plan → Type 0) → P plan → (r : Result Plan OpenRefusal) → IfOk r (λ large. (large ≡ plan) × (most : ℕ) × IsCapacityOf plan most × (256 ≤ most)) → IfOk r P
+kept plan P is (Ok large) opened = subst P (sym opened.0) is
+kept plan P is (Err why) opened = tt
 
 -- what holds anyway holds of a result
 pub always : {A E : Type 0} {P : Type 0} (r : Result A E) → P → IfOk r (λ _. P)

@@ -10,7 +10,7 @@ use Rattle.hfs_model.specs.declared.plain.PlainTree.{PlainTree}
 use Rattle.hfs_volume.specs.Mount.{MountsTo}
 use Rattle.hfs_volume.specs.TreeOf.{tree_of}
 use Rattle.volume_runs.specs.Rest.{Rests}
-use Rattle.volume_runs.specs.Run.{Entry, content_after, replies_of, shrunk_in, tree_after}
+use Rattle.volume_runs.specs.Run.{Entry, content_after, replies_of, shrunk_in, tree_after, ArePlain}
 use Rattle.volume_runs.specs.Told.{changes_in}
 use Rattle.hfs_serving.specs.Ending.{CameToRest, EndsTaking, FinishesRun, IsFinal, IsPutAway, IsntRefused, stop_in}
 use Rattle.hfs_serving.specs.Plain.{IsPlain, spoke_plainly}
@@ -24,12 +24,12 @@ use Rattle.hfs_serving.specs.declared.checking.MountRefusal.{MountRefusal}
 use Rattle.hfs_serving.specs.declared.telling.Stop.{Stop}
 use Rattle.hfs_serving.specs.declared.telling.Stop.TheVariants as stop
 use Rattle.hfs_serving.proofs.Answering.{finish_of, last_heard, stop_heard}
-use Rattle.hfs_serving.proofs.Lists.{content_after-none}
+use Rattle.hfs_serving.proofs.Lists.{content_after-none, plain_take}
 use Rattle.hfs_serving.proofs.Mounting.{plain_keeps}
 use Rattle.hfs_serving.proofs.Pending.{held_take}
 use Rattle.hfs_serving.proofs.Plain.{texts_of_plain}
 use Rattle.hfs_serving.proofs.Promising.{are_taken}
-use Rattle.hfs_serving.proofs.Relabelling.{Holds, holds_take, relabel, relabel_answers, relabel_changes, relabel_content, relabel_length, relabel_lines, relabel_replies, relabel_run, relabel_shrunk, relabel_take}
+use Rattle.hfs_serving.proofs.Relabelling.{Holds, holds_take, relabel, relabel_answers, relabel_changes, relabel_content, relabel_length, relabel_lines, relabel_replies, relabel_run, relabel_shrunk, relabel_take, relabel_plain}
 use Rattle.hfs_serving.proofs.Speeches.{none_spoken}
 use Rattle.hfs_serving.proofs.Spelling.{plain_unspoken}
 
@@ -42,7 +42,7 @@ take_front run more = take-append-le (length run) run more (omega arith) ∙ tak
 
 -- ---- over the whole texts
 
-module _ (capacity : ℕ) (start : Content) (run : List Entry) (texts : List (List ℕ)) (are : Holds run texts) where
+module _ (capacity : ℕ) (start : Content) (run : List Entry) (texts : List (List ℕ)) (plain : ArePlain run) (are : Holds run texts) where
   tree_text : (k : ℕ) → tree_after start (take k (relabel run texts)) ≡ tree_after start (take k run)
   tree_text k =
       ap (λ (r : List Entry). tree_of (content_after start r)) (relabel_take k run texts) ∙ ap (λ (c : Content). tree_of c) (relabel_content start (take k run) (take k texts) (holds_take k run texts are))
@@ -66,7 +66,7 @@ module _ (capacity : ℕ) (start : Content) (run : List Entry) (texts : List (Li
 
   keeps_text : (old : State) (answers : List Answer) (known : ℕ) (new : State) → KeepsAnswers capacity start old run answers known new → KeepsAnswers capacity start old (relabel run texts) answers known new
   keeps_text old answers known new it = record {
-    run_is = relabel_run capacity None start run texts are it.run_is;
+    run_is = relabel_run capacity None start run texts plain are it.run_is;
     crash = λ image told left. holds_text answers image told (it.crash image told left);
     told = it.told;
     knows = λ image is. knows_text known image (it.knows image is);
@@ -76,7 +76,7 @@ module _ (capacity : ℕ) (start : Content) (run : List Entry) (texts : List (Li
   rests_text image it = record {
     last = it.last;
     rests =
-        subst (λ (s : Option ℕ). Rests capacity s None (content_after start (relabel run texts)) it.last) (sym (relabel_shrunk None run texts are))
+        subst (λ (s : Option ℕ). Rests capacity s None (content_after start (relabel run texts)) it.last) (sym (relabel_shrunk None run texts plain are))
         (subst (λ (c : Content). Rests capacity (shrunk_in None run) None c it.last) (sym (relabel_content start run texts are)) it.rests);
     stood = it.stood;
     marked = it.marked;
@@ -111,12 +111,12 @@ module _ (heard : List Change) (capacity : ℕ) (start : Content) (old : State) 
           run = run;
           known = known;
           keeps =
-              plain_keeps capacity start old source run known new source_new (subst (λ (l : List Answer). KeepsAnswers capacity start old run l known new) answers (keeps_text capacity start all.run some are old all.answers known new kept.keeps))
-              (λ tells. are_taken source source_new kept.texts run kept.count (relabel_lines all.run some are) (kept.taken tells));
+              plain_keeps capacity start old source run known new source_new (subst (λ (l : List Answer). KeepsAnswers capacity start old run l known new) answers (keeps_text capacity start all.run some both.plain are old all.answers known new kept.keeps))
+              (relabel_plain all.run some both.plain) (λ tells. are_taken source source_new kept.texts run kept.count (relabel_lines all.run some are) (kept.taken tells));
         },
         record {
           changes =
-              ap (λ (r : List Entry). changes_in 0 r) (relabel_take known all.run some) ∙ relabel_changes 0 (take known all.run) (take known some) held_front ∙ ap (λ (r : List Entry). changes_in 0 r) front ∙ own.changed ∙ kept.changes;
+              ap (λ (r : List Entry). changes_in 0 r) (relabel_take known all.run some) ∙ relabel_changes 0 (take known all.run) (take known some) (plain_take known all.run both.plain) held_front ∙ ap (λ (r : List Entry). changes_in 0 r) front ∙ own.changed ∙ kept.changes;
           behind = (kept.behind.0, subst (λ (l : List ℕ). IsPrefix kept.behind.0 l) (sym replies) kept.behind.1, kept.behind.2);
         },
       )
@@ -133,13 +133,13 @@ module _ (heard : List Change) (capacity : ℕ) (start : Content) (old : State) 
           keeps =
               subst (λ (n : ℕ). KeepsPromises capacity start old source run n new source_new) (sym (relabel_length speech.run texts are))
               (plain_keeps capacity start old source run (length speech.run) new source_new
-              (subst (λ (l : List Answer). KeepsAnswers capacity start old run l (length speech.run) new) answers (keeps_text capacity start speech.run texts are old speech.answers (length speech.run) new rig.keeps))
-              (λ tells. are_taken source source_new texts run (length texts) (relabel_lines speech.run texts are ∙ sym (take_all (length texts) texts (omega arith))) (rig.taken tells)));
+              (subst (λ (l : List Answer). KeepsAnswers capacity start old run l (length speech.run) new) answers (keeps_text capacity start speech.run texts plain.plain are old speech.answers (length speech.run) new rig.keeps))
+              (relabel_plain speech.run texts plain.plain) (λ tells. are_taken source source_new texts run (length texts) (relabel_lines speech.run texts are ∙ sym (take_all (length texts) texts (omega arith))) (rig.taken tells)));
           asked = relabel_lines speech.run texts are;
           told = rig.told ∙ ap (λ (l : List ℕ). old.told ++ l) (ap (λ (l : List Answer). texts_of l) plain.told ∙ texts_of_plain 0 speech.run ∙ sym (relabel_replies speech.run texts are));
-          rested = λ image is. rests_text capacity start speech.run texts are image (rig.rested image is);
+          rested = λ image is. rests_text capacity start speech.run texts plain.plain are image (rig.rested image is);
         },
-        relabel_changes 0 speech.run texts are ∙ plain.changed ∙ rig.changes,
+        relabel_changes 0 speech.run texts plain.plain are ∙ plain.changed ∙ rig.changes,
       )
 
   abbrev Ends : Result (Result (Unit {0}) MountRefusal) Stop → (List (List ℕ) → Type 0) → Type 0

@@ -79,7 +79,7 @@ keeps_from law capacity start plan old new texts only_now starts sound may sourc
   known = step.known;
   keeps =
       plain_keeps capacity start old source step.run step.known new source_new (promises_all law plan capacity start old new step.run (plain_answers step.run) step.known step.crashes starts only_now sound may)
-      (λ tells. are_taken source source_new texts step.run step.count step.asked (taken tells));
+      step.plain (λ tells. are_taken source source_new texts step.run step.count step.asked (taken tells));
 }
 
 -- the same of whatever lines
@@ -125,6 +125,7 @@ mount_joins capacity start now texts before mid after mounts step = record {
       let no_more : 0 + step.known ≡ step.known = omega arith in
       subst (λ (n : ℕ). Crashes capacity None start before step.run (plain_answers step.run) n after) no_more
       (plain_crashes_both capacity None start before mid after [] step.run now mounts step.known (subst (λ (s : Option ℕ). Crashes capacity s now mid step.run (plain_answers step.run) step.known after) (sym (shrunk_in-none None)) step.crashes));
+  plain = step.plain;
   asked = step.asked;
 }
 

@@ -27,7 +27,7 @@ use Rattle.hfs_volume.specs.Content.{VolumeState, volume_of, attributes_of, reco
 use Rattle.hfs_volume.specs.Nodes.{HasTrees}
 use Rattle.hfs_volume.specs.Blocks.{forks_of}
 use Rattle.hfs_volume.specs.Sound.{IsSound, IsSoundVolume}
-use Rattle.hfs_volume.specs.TreeOf.{BytesOf, bytes_in, file_bytes, tree_in, tree_of, valued}
+use Rattle.hfs_volume.specs.TreeOf.{BytesOf, bytes_in, bytes_in_fork, file_bytes, tree_in, tree_of, valued}
 use Rattle.hfs_volume.specs.Values.{blocks_of_values}
 use Rattle.hfs_volume.proofs.Apart.{not_reserved, value_not_reserved}
 use Rattle.hfs_volume.proofs.BlockWants.{in_range}
@@ -35,7 +35,7 @@ use Rattle.hfs_volume.proofs.Bytes.{same_bytes_same_tree}
 use Rattle.hfs_volume.proofs.Rereading.{same_bytes, same_tree, same_block_sector}
 use Rattle.hfs_volume.proofs.Sectors.{block_is, in_block, in_front}
 use Rattle.hfs_volume.proofs.Valued.{values_same}
-use Rattle.hfs_volume.proofs.Untouched.{HasWholeBlocks, whole_blocks, data_fork_of, file_fork_stands, special_stands, reserved_apart}
+use Rattle.hfs_volume.proofs.Untouched.{HasWholeBlocks, whole_blocks, data_fork_of, file_fork_stands, resource_fork_of, resource_fork_stands, special_stands, reserved_apart}
 use Rattle.hfs_serving.specs.Runs.{KeepsPlace, SetsVersion, version_header}
 use Rattle.hfs_serving.proofs.Agreeing.{agrees_self}
 
@@ -185,13 +185,19 @@ module _ (content other : Content) (sound : IsSound content) (size : length othe
     attributes = λ has. subst (IsTreeFile attributes_form IsAttrKey anything attr_cmp) (sym attributes_stay) (sound.trees.attributes (subst (λ h. IsTrue (has_attributes h)) head_is has));
   }
 
-  -- a file's bytes don't lie in the header
+  -- the bytes of a fork don't lie in the header
+  bytes_there : (owned : Owned) → Contains (forks_of was) owned → bytes_in_fork other owned.id owned.kind owned.fork ≡ bytes_in_fork content owned.id owned.kind owned.fork
+  unfolding bytes_in_fork
+  bytes_there owned stands =
+      (λ i. take owned.fork.logical_size (block_bytes other ((head_is i).total_blocks * per_block_of (head_is i)) (sectors_of (per_block_of (head_is i)) (blocks_of (extents_of (overflow_in_volume (volume_stays i)) owned.id owned.kind owned.fork)))))
+      ∙ ap (take owned.fork.logical_size) (same_bytes content other (head_was.total_blocks * per_was) (sectors_of per_was (blocks_owned (overflow_in_volume was) owned)) (λ at has. fork_stays owned stands at has))
+
+  -- nor do those of a file
   bytes_stay : (p : Placed) (file : FileRecord) → Contains (entries_of (records_of was)) p → p.value ≡ File file → file_bytes other file ≡ file_bytes content file
-  unfolding file_bytes
-  bytes_stay p file stands is =
-      (λ i. take file.data_fork.logical_size (block_bytes other ((head_is i).total_blocks * per_block_of (head_is i)) (sectors_by (head_is i) (overflow_in_volume (volume_stays i)) file.fields.id file.data_fork)))
-      ∙ ap (take file.data_fork.logical_size) (same_bytes content other (head_was.total_blocks * per_was) (sectors_by head_was (overflow_in_volume was) file.fields.id file.data_fork)
-      (λ at has. fork_stays (data_fork_of file) (file_fork_stands was p file stands is) at has))
+  bytes_stay p file stands is = λ i. record {
+    data_bytes = bytes_there (data_fork_of file) (file_fork_stands was p file stands is) i;
+    resource_bytes = bytes_there (resource_fork_of file) (resource_fork_stands was p file stands is) i;
+  }
 
   -- nor do the values of attributes
   values_stay : valued (bytes_in other) (attributes_of was) ≡ valued (bytes_in content) (attributes_of was)

@@ -268,6 +268,7 @@ module _ (capacity : ℕ) (start : Content) (old new : State) (settled : old.can
     known = 0;
     keeps = record {
       run_is = tt;
+      plain = tt;
       lines_are = λ tells. record { used = []; rest = []; bytes = refl; cut = inl (λ more. refl) };
       crash = λ image told left.
           let there = left_then image told left in

@@ -27,7 +27,7 @@ all_named [] (name ∷ names) spell = absurd spell
 all_named (text ∷ texts) [] spell = absurd spell
 all_named (text ∷ texts) (name ∷ names) spell = (name_length text name spell.0.reads, all_named texts names spell.1)
 
-path : (word : List ℕ) (p : List (List ℕ)) → path_of word ≡ Ok p → HasNames p
+pub path : (word : List ℕ) (p : List (List ℕ)) → path_of word ≡ Ok p → HasNames p
 path word p is =
     let spells = (path_as_spelled word p).0 is in
     all_named spells.0 p spells.1

@@ -3,10 +3,10 @@ use Rattle.std.proofs.Common.{◌≡◌, ◌≤◌, ◌+◌, [], ◌++◌, ℕ, 
 use Rattle.std.specs.Prelude.{Option, None}
 use Rattle.std.proofs.Math.Seq.{take-append-add}
 use Rattle.std.proofs.lemmas.List.{append-nil, take_all, take-append-le}
+use Rattle.hfs_volume.specs.declared.asked.Asked.{Asked}
 use Rattle.sector_disk.specs.Clock.{TimePasses}
 use Rattle.sector_disk.proofs.Passing.{none_passes, both_pass}
 use Rattle.jnl_format.specs.Recovery.{Content}
-use Rattle.hfs_language.specs.declared.command.Command.{Command}
 use Rattle.hfs_volume.specs.Reclaim.{Tidies}
 use Rattle.volume_runs.specs.Run.{Entry, content_after, shrunk_in}
 use Rattle.hfs_serving.specs.Runs.{Answer, AreAnswered, AreAnswers, IsPrefix, StandsAs, Leads, StandsIn, Survives, SurvivesFrom, Crashes, Serves, plain_answers, shifted, texts_of}
@@ -25,7 +25,7 @@ module _ (capacity : ℕ) (shrunk : Option ℕ) (start : Content) where
       record { count = within.count; many = omega (arith, le, within.many); some = within.some; tidy = within.tidy; tidied = within.tidied; stood = within.stood; marked = within.marked; place = within.place; stands = within.stands }
 
   -- the content that a run leads to stands in it
-  pub stands_now : (run : List Entry) (now recovered : Content) {asked : Option Command} → Leads capacity shrunk asked start run now → StandsAs now recovered → StandsIn capacity shrunk start run (length run) recovered
+  pub stands_now : (run : List Entry) (now recovered : Content) {asked : Option Asked} → Leads capacity shrunk asked start run now → StandsAs now recovered → StandsIn capacity shrunk start run (length run) recovered
   stands_now run now recovered {asked} leads stands = record {
     count = length run;
     many = omega arith;
@@ -53,7 +53,7 @@ module _ (capacity : ℕ) (shrunk : Option ℕ) (start : Content) where
       stands = within.stands;
     }
 
-    pub stands_behind : (mid : Content) {asked : Option Command} → Leads capacity shrunk asked start run mid → (least : ℕ) (recovered : Content) → StandsIn capacity (shrunk_in shrunk run) mid more least recovered
+    pub stands_behind : (mid : Content) {asked : Option Asked} → Leads capacity shrunk asked start run mid → (least : ℕ) (recovered : Content) → StandsIn capacity (shrunk_in shrunk run) mid more least recovered
         → StandsIn capacity shrunk start (run ++ more) (length run + least) recovered
     stands_behind mid {asked} leads least recovered within = record {
       count = length run + within.count;

@@ -4,19 +4,19 @@ use Rattle.sector_disk.specs.Disk.{State}
 use Rattle.sector_disk.specs.Space.{Space}
 use Rattle.jnl_store.specs.Spaces.{over}
 use Rattle.jnl_store.specs.declared.store.Store.{Store}
-use Rattle.hfs_language.specs.declared.command.Command.{Command}
+use Rattle.hfs_volume.specs.declared.asked.Asked.{Asked}
 use Rattle.hfs_serving.specs.declared.volume.Step.{Step}
 use Rattle.hfs_serving.specs.declared.volume.Step.TheVariants as step
 
 -- which volumes want a commit over a space before their next step: before one of this command, or of housekeeping where there is none
 abbrev pub Wanting : Type 0 → Type 1
-Wanting V = V → Space → Option Command → Type 0
+Wanting V = V → Space → Option Asked → Type 0
 
 -- ---- what a commit is made for
 
 -- Once the disk had passed so many barriers, a volume wanted a commit before its next step: before one of this command, or of housekeeping where
 -- there is none.
-pub record WantsAt {V G : Type 0} (wants : Wanting V) (space_of : G → Space) (asked : Option Command) (passed : ℕ) : Type 0 where
+pub record WantsAt {V G : Type 0} (wants : Wanting V) (space_of : G → Space) (asked : Option Asked) (passed : ℕ) : Type 0 where
   pub volume : V
   pub base : G
   pub behind : (space_of base).barriers ≡ passed
@@ -24,11 +24,11 @@ pub record WantsAt {V G : Type 0} (wants : Wanting V) (space_of : G → Space) (
 
 -- the same of housekeeping or of any command
 abbrev pub SomeWantsAt : {V G : Type 0} → Wanting V → (G → Space) → ℕ → Type 0
-SomeWantsAt wants space_of passed = (asked : Option Command) × WantsAt wants space_of asked passed
+SomeWantsAt wants space_of passed = (asked : Option Asked) × WantsAt wants space_of asked passed
 
 -- The same over a journal's store and its rig.
 pub record WantsOver {V R : Type 0} (wants : Wanting V) (state_of : R → State) (passed : ℕ) : Type 0 where
-  pub asked : Option Command
+  pub asked : Option Asked
   pub volume : V
   pub store : Store
   pub rig : R
@@ -69,23 +69,27 @@ pub record CommitsOnce (wanted : ℕ → Type 0) (often count : ℕ) (old new : 
   pub before : HaveCauses wanted (often * (count + 2) + 8) old ending
   pub last : new ≤ ending + 4
 
--- Lines, so many, were served in batches: one of no line, and others of at least one. Each commit is that at a batch's end, or has its cause.
-pub record CommitsABatch (wanted : ℕ → Type 0) (often lines : ℕ) (old new : ℕ) : Type 0 where
+-- A fault cut a batch short behind some of so many lines: it made the commits of one that served these, at most.
+abbrev pub IsCutShort : (ℕ → Type 0) → ℕ → ℕ → ℕ → ℕ → Type 0
+IsCutShort wanted often most old new = (count : ℕ) × (count ≤ most) × CommitsOnce wanted often count old new
+
+-- Lines, so many, were served in batches: so many at most of no line, and others of at least one. Each commit is that at a batch's end, or has its cause.
+pub record CommitsABatch (wanted : ℕ → Type 0) (often empty lines : ℕ) (old new : ℕ) : Type 0 where
   -- the barriers that the disk had passed when the last commit of each batch began
   pub ends : List ℕ
-  pub few_ends : length ends ≤ lines + 1
+  pub few_ends : length ends ≤ lines + empty
   -- and each time that memory was missing
   pub short : List ℕ
   pub few_short : length short ≤ often * (lines + 2 * length ends) + 8 * length ends
   pub each : (barrier : ℕ) → old ≤ barrier → barrier < new → IsOfCommit wanted barrier ⊎ IsOfCommit (Contains short) barrier ⊎ IsOfCommit (Contains ends) barrier
 
--- A run of so many lines: ahead of its batches the disk passed so many barriers at most, and behind them six, where the mark of its end is committed and
+-- A run of so many lines, and so many batches at most of no line: ahead of its batches the disk passed so many barriers at most, and behind them six, where the mark of its end is committed and
 -- the journal emptied.
-pub record CommitsRun (wanted : ℕ → Type 0) (often ahead lines : ℕ) (old new : ℕ) : Type 0 where
+pub record CommitsRun (wanted : ℕ → Type 0) (often ahead empty lines : ℕ) (old new : ℕ) : Type 0 where
   pub begun : ℕ
   pub first : begun ≤ old + ahead
   pub ended : ℕ
-  pub batches : CommitsABatch wanted often lines begun ended
+  pub batches : CommitsABatch wanted often empty lines begun ended
   pub last : new ≤ ended + 6
 
 -- ---- why a batch has no more lines
@@ -98,13 +102,13 @@ pub record EndsInSync (ends : List ℕ → Type 0) (count : ℕ) (lines : List (
   pub last : take count lines ≡ take front lines ++ line ∷ []
   pub asked : ends line
 
--- which commands a line asks for
+-- what a line asks for
 abbrev pub Asking : Type 1
-Asking = List ℕ → Command → Type 0
+Asking = List ℕ → Asked → Type 0
 
 -- A line was left: a volume wanted a commit before its command, for which nothing was done yet.
 pub record IsLeft {V G : Type 0} (asks : Asking) (wants : Wanting V) (space_of : G → Space) (line : List ℕ) : Type 0 where
-  pub asked : Command
+  pub asked : Asked
   pub is_of : asks line asked
   pub passed : ℕ
   pub wanted : WantsAt wants space_of (Some asked) passed

@@ -8,7 +8,7 @@ use Rattle.hfs_language.specs.Lines.{lines, HasNoNewline}
 use Rattle.hfs_model.specs.declared.plain.PlainTree.{PlainTree}
 use Rattle.hfs_volume.specs.Mount.{HasJournal, MountsTo}
 use Rattle.volume_runs.specs.Rest.{Rests}
-use Rattle.volume_runs.specs.Run.{Entry, IsRun, content_after, lines_of, replies_of, shrunk_in, tree_after}
+use Rattle.volume_runs.specs.Run.{Entry, IsRun, content_after, lines_of, replies_of, shrunk_in, tree_after, ArePlain}
 use Rattle.hfs_serving.specs.Opening.{Opens}
 use Rattle.hfs_serving.specs.Outside.{Outside}
 use Rattle.hfs_serving.specs.Runs.{IsMarked, KeepsPlace, LeadsToRest, StandsAs}
@@ -114,6 +114,7 @@ pub record FinishesRun (capacity : ℕ) (start : Content) (old : State) (source 
 pub record AnswersRun (capacity : ℕ) (start : Content) (old : State) (source : Stream) (new : State) (source_new : Stream) : Type 0 where
   pub run : List Entry
   pub run_is : IsRun capacity start run
+  pub plain : ArePlain run
   pub told : new.told ≡ old.told ++ replies_of run
   pub lines_are : IsTrue source.tells → BeginsMore [] source (lines_of run) source_new
 
@@ -121,6 +122,7 @@ pub record AnswersRun (capacity : ℕ) (start : Content) (old : State) (source :
 pub record AnswersToTheLast (capacity : ℕ) (start : Content) (old : State) (source : Stream) (new : State) (source_new : Stream) : Type 0 where
   pub run : List Entry
   pub run_is : IsRun capacity start run
+  pub plain : ArePlain run
   pub told : new.told ≡ old.told ++ replies_of run
   pub count : length run ≡ 4294967295
   pub lines_are : IsTrue source.tells → AreTaken source run source_new

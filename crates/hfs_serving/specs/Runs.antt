@@ -1,11 +1,11 @@
 -- A run over stretches of calls, what its lines are told, and what a crash leaves of it. What an entry may be, what housekeeping is, and when a volume is sound stand
 -- in the definitions of whole volumes.
 use Rattle.std.specs.Prelude.{◌≡◌, ◌⊎◌, ◌<◌, ◌≤◌, ◌+◌, ℕ, bit_or, List, [], ◌∷◌, ◌++◌, length, take, Option, None}
+use Rattle.hfs_volume.specs.declared.asked.Asked.{Asked}
 use Rattle.sector_disk.specs.Clock.{TimePasses}
 use Rattle.sector_disk.specs.Space.{AgreesOutside}
 use Rattle.jnl_format.specs.Recovery.{Content, journaling_version}
 use Rattle.hfs_language.specs.Text.{reply_text}
-use Rattle.hfs_language.specs.declared.command.Command.{Command}
 use Rattle.volume_header.specs.Refusal.{is_locked}
 use Rattle.volume_header.specs.declared.header.VolumeHeader.{VolumeHeader}
 use Rattle.hfs_volume.specs.Aside.{IsAside}
@@ -32,13 +32,13 @@ pub record KeepsPlace (old new : Content) : Type 0 where
 
 -- A run leads to a content: housekeeping has gone on from the content after its last entry, or from its start, ahead of this command, if there
 -- is one.
-pub record Leads (capacity : ℕ) (shrunk : Option ℕ) (asked : Option Command) (start : Content) (run : List Entry) (now : Content) : Type 0 where
+pub record Leads (capacity : ℕ) (shrunk : Option ℕ) (asked : Option Asked) (start : Content) (run : List Entry) (now : Content) : Type 0 where
   pub run_is : IsRunFrom capacity shrunk start run
   pub tidied : TidiesFor capacity (shrunk_in shrunk run) asked (content_after start run) now
   pub place : KeepsPlace start now
 
 -- the same, and that housekeeping has come to rest
-pub record LeadsToRest (capacity : ℕ) (shrunk : Option ℕ) (asked : Option Command) (start : Content) (run : List Entry) (now : Content) : Type 0 where
+pub record LeadsToRest (capacity : ℕ) (shrunk : Option ℕ) (asked : Option Asked) (start : Content) (run : List Entry) (now : Content) : Type 0 where
   pub run_is : IsRunFrom capacity shrunk start run
   pub rests : Rests capacity (shrunk_in shrunk run) asked (content_after start run) now
   pub place : KeepsPlace start now

@@ -6,7 +6,7 @@ use Rattle.sector_disk.specs.Disk.{State}
 use Rattle.sector_disk.specs.Source.{Stream}
 use Rattle.sector_disk.specs.Space.{Space}
 use Rattle.jnl_format.specs.Recovery.{Content}
-use Rattle.volume_runs.specs.Run.{Entry, lines_of}
+use Rattle.volume_runs.specs.Run.{Entry, lines_of, ArePlain}
 use Rattle.hfs_serving.specs.Going.{Knowing, Stands}
 use Rattle.hfs_serving.specs.Outside.{Outside}
 use Rattle.hfs_serving.specs.Runs.{Crashes, plain_answers}
@@ -50,6 +50,7 @@ pub record CrashesStep (capacity : ℕ) (start : Content) (shrunk : Option ℕ) 
   pub known : ℕ
   pub count : ℕ
   pub crashes : Crashes capacity shrunk start old run (plain_answers run) known new
+  pub plain : ArePlain run
   pub asked : lines_of run ≡ take count lines
 
 -- What a run over a rig and a source promises, whatever ended it: some of the source's lines were served, and of them it keeps its promises.

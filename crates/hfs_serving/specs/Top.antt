@@ -6,7 +6,7 @@ use Rattle.jnl_format.specs.Recovery.{Content}
 use Rattle.line_source.specs.Input.{SplitsIntoLines}
 use Rattle.hfs_volume.specs.Aside.{NamesJournal}
 use Rattle.hfs_volume.specs.Mount.{MountsTo}
-use Rattle.volume_runs.specs.Run.{Entry, IsRun, lines_of, replies_of, tree_after}
+use Rattle.volume_runs.specs.Run.{Entry, IsRun, lines_of, replies_of, tree_after, ArePlain}
 use Rattle.hfs_serving.specs.Opening.{Opens}
 use Rattle.hfs_serving.specs.Runs.{Answer, AreAnswered, IsPrefix, Survives, StandsIn, texts_of}
 
@@ -82,6 +82,7 @@ pub record KeepsAnswers (capacity : ℕ) (start : Content) (old : State) (run : 
 -- What users read of a run: each image that a crash may have left mounts to the tree after a prefix of its lines.
 pub record KeepsPromises (capacity : ℕ) (start : Content) (old : State) (source : Stream) (run : List Entry) (known : ℕ) (new : State) (source_new : Stream) : Type 0 where
   pub run_is : IsRun capacity start run
+  pub plain : ArePlain run
   pub lines_are : IsTrue source.tells → AreTaken source run source_new
   pub crash : (image : Content) (told : List ℕ) → new.clock.left old.clock.moment image (old.told ++ told) → SurvivesTo start run image told
   pub told : (w : List ℕ) × IsPrefix w (replies_of run) × (new.told ≡ old.told ++ w)

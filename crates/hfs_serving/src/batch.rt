@@ -1,7 +1,7 @@
 //! A batch: lines are answered in memory, housekeeping rests before each and behind the last, and one commit makes all durable.
 ghost use Rattle.std.specs.Prelude.{◌≡◌, ◌≤◌, ◌<◌, ◌+◌, ℕ, Option, IsTrue, IfOk, IsErrOf, OnOk, OnErr, length, ◌*◌};
 ghost use Rattle.jnl_format.specs.Recovery.{Content};
-ghost use Rattle.hfs_serving.specs.Commits.{CommitsOnce, HasEnded, HaveCauses, SomeWantsAt};
+ghost use Rattle.hfs_serving.specs.Commits.{CommitsOnce, HasEnded, HaveCauses, IsCutShort, SomeWantsAt};
 ghost use Rattle.hfs_serving.specs.Faults.{StopFaults};
 ghost use Rattle.hfs_serving.specs.Going.{SomeStands, Stands};
 ghost use Rattle.hfs_serving.specs.Speaking.{HasNoEnd, SpeaksBatch, SpeaksLines, StopsLines};
@@ -41,6 +41,7 @@ fn serve_lines<V: Volume, G: Ground, K: Speaker>(
     ensures anchor { G.anchor base.new ≡ G.anchor base.old }
     ensures caused { IsTrue (G.space base.old).tells → IfOk result (λ count. HaveCauses (SomeWantsAt V.wants G.space) (K.often * (count + 2)) (G.space base.old).barriers (G.space base.new).barriers) }
     ensures ended { IsTrue (G.space base.old).tells → IfOk result (λ count. HasEnded K.ends K.asks V.wants G.space count lines.now) }
+    ensures cut { IsTrue (G.space base.old).tells → OnErr result ((count : ℕ) × (count ≤ length lines.now) × HaveCauses (SomeWantsAt V.wants G.space) (K.often * (count + 2)) (G.space base.old).barriers (G.space base.new).barriers) }
     ensures faults { StopFaults (G.failed base.old) (G.space base.old) (G.failed base.new) (G.space base.new) ⊥ result }
     ensures no_many { IsErrOf result Stop.TooMany → ⊥ }
 {
@@ -90,6 +91,8 @@ pub fn serve_batch<V: Volume, G: Ground, K: Speaker>(
     ensures once { IsTrue (G.space base.old).tells → IfOk result (λ count. CommitsOnce (SomeWantsAt V.wants G.space) K.often count (G.space base.old).barriers (G.space base.new).barriers) }
     // It ends where there are no more lines, behind its 32nd or a `sync`, and before a line whose command wants a commit first.
     ensures ended { IsTrue (G.space base.old).tells → IfOk result (λ count. HasEnded K.ends K.asks V.wants G.space count lines.now) }
+    // Where a fault cut it short, it made no more.
+    ensures cut { IsTrue (G.space base.old).tells → OnErr result (IsCutShort (SomeWantsAt V.wants G.space) K.often (length lines.now) (G.space base.old).barriers (G.space base.new).barriers) }
     ensures faults { StopFaults (G.failed base.old) (G.space base.old) (G.failed base.new) (G.space base.new) ⊥ result }
     ensures no_many { IsErrOf result Stop.TooMany → ⊥ }
 {

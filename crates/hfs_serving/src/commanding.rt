@@ -1,8 +1,9 @@
 //! A command of a line, which is tried until it is answered.
-ghost use Rattle.std.specs.Prelude.{◌≡◌, ◌≤◌, ◌&&◌, [], ℕ, List, Option, None, IsTrue, IsErrOf, IfOk, Ok, OnOk, OnErr, Some, false, ◌+◌, if◌then◌else◌};
+ghost use Rattle.std.specs.Prelude.{◌≡◌, ◌≤◌, ◌&&◌, [], ℕ, List, Option, None, IsTrue, IsErrOf, IfOk, OnOk, OnErr, Some, false, ◌+◌, if◌then◌else◌};
 ghost use Rattle.jnl_format.specs.Recovery.{Content};
-ghost use Rattle.hfs_language.specs.Language.{command_of};
-ghost use Rattle.hfs_language.specs.Written.{FitsCommand};
+ghost use Rattle.hfs_volume.specs.declared.asked.Asked.{Asked};
+ghost use Rattle.volume_runs.specs.Fits.{FitsAsked};
+ghost use Rattle.volume_runs.specs.Run.{wanted_in};
 ghost use Rattle.hfs_serving.specs.Commits.{HaveCauses, WantsAt};
 ghost use Rattle.hfs_serving.specs.Faults.{Faults, StopFaults};
 ghost use Rattle.hfs_serving.specs.Going.{GoesRested, GoesTidy, ServesCommand, SomeStands, Stands, StopsOn, is_answered, wants_commit};
@@ -12,30 +13,30 @@ use crate::hearer::Hearer;
 use crate::telling::Stop;
 use crate::trying::attempt;
 use crate::volume::{Step, Volume};
-use hfs_language::Command;
+use hfs_volume::Asked;
 use hx_bytes::Trouble;
 use std::alloc::Global;
 
-/// Does a command of the line with this number, where housekeeping is at rest. Where it may wait, and wants a commit before anything is done for it,
+/// Does a command, of the line with this number or one that stands by itself, where housekeeping is at rest. Where it may wait, and wants a commit before anything is done for it,
 /// it is left. Answers whether it was answered. `Steps` comes where its steps are used up.
 pub fn serve_command<V: Volume, G: Ground, H: Hearer>(
     alloc: Global,
     volume: &mut V,
     base: &mut G,
     number: u64,
-    command: &Command,
+    asked: &Asked,
     may_wait: bool,
     heard: &mut H,
 ) -> Result<bool, Stop>
     requires serves { (capacity : ℕ) × G.serves base.old capacity × (G.taken base.old ≤ capacity) }
-    requires rests { IsTrue (G.space base.old).tells → (capacity : ℕ) × (committed : Content) × (now : Content) × (shrunk : Option ℕ) × (begun : G) × (line : List ℕ) × (command_of line ≡ Ok command.now)
+    requires rests { IsTrue (G.space base.old).tells → (capacity : ℕ) × (committed : Content) × (now : Content) × (shrunk : Option ℕ) × (begun : G) × (own : Option Asked) × (line : List ℕ) × (wanted_in own line ≡ Some asked.now)
         × GoesRested capacity None (V.knows volume.old (G.space base.old) capacity) committed now shrunk (G.outside begun) (G.space base.old) (G.outside base.old) }
-    requires fits { FitsCommand command.now }
-    // From where housekeeping is at rest, behind whatever stretch led there, whatever line spells the command.
-    ensures goes { IsTrue (G.space base.old).tells → (capacity : ℕ) (committed now : Content) (shrunk : Option ℕ) (begun : G) (line : List ℕ) → command_of line ≡ Ok command.now
+    requires fits { FitsAsked asked.now }
+    // From where housekeeping is at rest, behind whatever stretch led there, whatever line spells the command, if one does.
+    ensures goes { IsTrue (G.space base.old).tells → (capacity : ℕ) (committed now : Content) (shrunk : Option ℕ) (begun : G) (own : Option Asked) (line : List ℕ) → wanted_in own line ≡ Some asked.now
         → GoesRested capacity None (V.knows volume.old (G.space base.old) capacity) committed now shrunk (G.outside begun) (G.space base.old) (G.outside base.old)
-        → IfOk result (λ answered. ServesCommand answered capacity (V.knows volume.new (G.space base.new) capacity) committed now shrunk (G.outside begun) number line (λ said changes. H.hears heard.old said changes heard.new) (heard.new ≡ heard.old) (G.space base.new) (G.outside base.new)) }
-    ensures stops { IsTrue (G.space base.old).tells → (capacity : ℕ) (committed now : Content) (shrunk : Option ℕ) (begun : G) (line : List ℕ) → command_of line ≡ Ok command.now
+        → IfOk result (λ answered. ServesCommand answered capacity (V.knows volume.new (G.space base.new) capacity) committed now shrunk (G.outside begun) number own line (λ said changes. H.hears heard.old said changes heard.new) (heard.new ≡ heard.old) (G.space base.new) (G.outside base.new)) }
+    ensures stops { IsTrue (G.space base.old).tells → (capacity : ℕ) (committed now : Content) (shrunk : Option ℕ) (begun : G) (own : Option Asked) (line : List ℕ) → wanted_in own line ≡ Some asked.now
         → GoesRested capacity None (V.knows volume.old (G.space base.old) capacity) committed now shrunk (G.outside begun) (G.space base.old) (G.outside base.old)
         → OnErr result (StopsOn capacity committed now shrunk (G.outside begun) [] (G.outside base.new)) }
     ensures still { (capacity : ℕ) → G.serves base.old capacity → G.taken base.old ≤ capacity → OnOk result (G.serves base.new capacity × (G.taken base.new ≤ capacity)) }
@@ -43,14 +44,14 @@ pub fn serve_command<V: Volume, G: Ground, H: Hearer>(
     ensures anchor { G.anchor base.new ≡ G.anchor base.old }
     // A commit is made where a step of the command wanted it, or where memory was missing for it, once. It is left only where it may wait and the volume wants
     // a commit before anything is done for it.
-    ensures caused { IsTrue (G.space base.old).tells → OnOk result (HaveCauses (WantsAt V.wants G.space (Some command.now)) 1 (G.space base.old).barriers (G.space base.new).barriers) }
-    ensures left { IsTrue (G.space base.old).tells → IfOk result (λ answered. answered ≡ false → IsTrue may_wait × WantsAt V.wants G.space (Some command.now) (G.space base.old).barriers) }
+    ensures caused { IsTrue (G.space base.old).tells → HaveCauses (WantsAt V.wants G.space (Some asked.now)) 1 (G.space base.old).barriers (G.space base.new).barriers }
+    ensures left { IsTrue (G.space base.old).tells → IfOk result (λ answered. answered ≡ false → IsTrue may_wait × WantsAt V.wants G.space (Some asked.now) (G.space base.old).barriers) }
     ensures faults { StopFaults (G.failed base.old) (G.space base.old) (G.failed base.new) (G.space base.new) ⊥ result }
     ensures no_many { IsErrOf result Stop.TooMany → ⊥ }
 {
     let mut may_wait = may_wait;
     for _ in 0..4_294_967_295u64 {
-        let step = attempt(alloc, volume, base, number, command, heard)?;
+        let step = attempt(alloc, volume, base, number, asked, heard)?;
         if is_answered(step) {
             return Ok(true);
         }

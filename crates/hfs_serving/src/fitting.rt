@@ -25,7 +25,7 @@ fn look_at_name(name: &[u16])
 }
 
 /// A path whose names have their lengths is a path.
-fn look_at_path(path: &[Units])
+pub fn look_at_path(path: &[Units])
     ensures { HasNames path.now → FitsPath path.now }
 {
     let mut at = path.len();

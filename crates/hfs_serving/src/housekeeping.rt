@@ -42,7 +42,7 @@ fn work<V: Volume, G: Ground>(volume: &mut V, base: &mut G, tries: &mut u8) -> R
     ensures tells { OnOk result ((G.space base.new).tells ≡ (G.space base.old).tells) }
     ensures anchor { G.anchor base.new ≡ G.anchor base.old }
     // A commit is made where the step wanted it, or where memory was missing for it, which takes a try.
-    ensures caused { IsTrue (G.space base.old).tells → OnOk result (HaveCauses (SomeWantsAt V.wants G.space) (tries.old - tries.new) (G.space base.old).barriers (G.space base.new).barriers) }
+    ensures caused { IsTrue (G.space base.old).tells → HaveCauses (SomeWantsAt V.wants G.space) (tries.old - tries.new) (G.space base.old).barriers (G.space base.new).barriers }
     ensures faults { Faults (G.failed base.old) (G.space base.old) (G.failed base.new) (G.space base.new) result }
     ensures fewer { tries.new ≤ tries.old }
 {
@@ -82,7 +82,7 @@ pub fn tidy<V: Volume, G: Ground>(volume: &mut V, base: &mut G) -> Result<bool, 
     ensures tells { OnOk result ((G.space base.new).tells ≡ (G.space base.old).tells) }
     ensures anchor { G.anchor base.new ≡ G.anchor base.old }
     // A commit is made where a step wanted it, or where memory was missing for it, at most eight times.
-    ensures caused { IsTrue (G.space base.old).tells → OnOk result (HaveCauses (SomeWantsAt V.wants G.space) 8 (G.space base.old).barriers (G.space base.new).barriers) }
+    ensures caused { IsTrue (G.space base.old).tells → HaveCauses (SomeWantsAt V.wants G.space) 8 (G.space base.old).barriers (G.space base.new).barriers }
     ensures faults { Faults (G.failed base.old) (G.space base.old) (G.failed base.new) (G.space base.new) result }
 {
     let mut tries = MOST_RETRIES;
@@ -106,7 +106,7 @@ pub fn come_to_rest<V: Volume, G: Ground>(volume: &mut V, base: &mut G) -> Resul
     ensures tells { OnOk result ((G.space base.new).tells ≡ (G.space base.old).tells) }
     ensures anchor { G.anchor base.new ≡ G.anchor base.old }
     // A commit is made where a step wanted it, or where memory was missing for it, at most eight times.
-    ensures caused { IsTrue (G.space base.old).tells → OnOk result (HaveCauses (SomeWantsAt V.wants G.space) 8 (G.space base.old).barriers (G.space base.new).barriers) }
+    ensures caused { IsTrue (G.space base.old).tells → HaveCauses (SomeWantsAt V.wants G.space) 8 (G.space base.old).barriers (G.space base.new).barriers }
     ensures faults { StopFaults (G.failed base.old) (G.space base.old) (G.failed base.new) (G.space base.new) ⊥ result }
     ensures no_many { IsErrOf result Stop.TooMany → ⊥ }
 {

@@ -1,13 +1,13 @@
 //! Laws of a run that crashes may cut short, each as a function without a body.
+ghost use Rattle.hfs_volume.specs.declared.asked.Asked.{Asked};
 ghost use Rattle.std.specs.Prelude.{◌≡◌, ◌⊎◌, ◌≤◌, ◌+◌, ◌∷◌, ◌++◌, [], ℕ, List, Option, None, IsTrue, length, take};
 ghost use Rattle.sector_disk.specs.Disk.{IsImage};
 ghost use Rattle.sector_disk.specs.Source.{Stream};
 ghost use Rattle.jnl_format.specs.Recovery.{Content};
 ghost use Rattle.jnl_replay.specs.declared.plan.Plan.{Plan};
 ghost use Rattle.jnl_store.specs.Spaces.{found};
-ghost use Rattle.hfs_language.specs.declared.command.Command.{Command};
 ghost use Rattle.volume_runs.specs.Rest.{TidiesFor};
-ghost use Rattle.volume_runs.specs.Run.{Entry, IsRun, IsServed, asked_by, shrunk_in, spelled, replies_of};
+ghost use Rattle.volume_runs.specs.Run.{ArePlain, Entry, IsRun, IsServed, shrunk_in, replies_of, wanted_by};
 ghost use Rattle.hfs_volume.specs.Sound.{IsSound};
 ghost use Rattle.hfs_serving.specs.Opening.{MayServe};
 ghost use Rattle.hfs_serving.specs.Outside.{outside_of};
@@ -44,24 +44,24 @@ pub fn stretches_join<G: Ground>()
 pub fn touches_go_on<G: Ground>()
     ensures begins { (capacity : ℕ) (shrunk : Option ℕ) (committed from : Content) (a : G) → IsDurable committed (G.space a) → IsRead from (G.space a) → ((recovered : Content) → (G.outside a).leaves recovered → IsAsDurable (G.space a) recovered)
         → Goes capacity shrunk None committed from (G.outside a) [] committed from (G.space a) (G.outside a) }
-    ensures goes { (capacity : ℕ) (shrunk : Option ℕ) (asked further : Option Command) (committed from middle between now : Content) (run more : List Entry) (a b c : G) → Goes capacity shrunk asked committed from (G.outside a) run middle between (G.space b) (G.outside b)
+    ensures goes { (capacity : ℕ) (shrunk : Option ℕ) (asked further : Option Asked) (committed from middle between now : Content) (run more : List Entry) (a b c : G) → Goes capacity shrunk asked committed from (G.outside a) run middle between (G.space b) (G.outside b)
         → Touches middle (G.space b) (G.outside b) (G.space c) (G.outside c) → Leads capacity shrunk further from (run ++ more) now → IsRead now (G.space c) → Goes capacity shrunk further committed from (G.outside a) (run ++ more) middle now (G.space c) (G.outside c) }
-    ensures stops { (capacity : ℕ) (shrunk : Option ℕ) (asked : Option Command) (committed from middle between : Content) (run : List Entry) (a b c : G) → Goes capacity shrunk asked committed from (G.outside a) run middle between (G.space b) (G.outside b)
+    ensures stops { (capacity : ℕ) (shrunk : Option ℕ) (asked : Option Asked) (committed from middle between : Content) (run : List Entry) (a b c : G) → Goes capacity shrunk asked committed from (G.outside a) run middle between (G.space b) (G.outside b)
         → Touches middle (G.space b) (G.outside b) (G.space c) (G.outside c) → Stops capacity shrunk committed from (G.outside a) run (G.outside c) }
 {}
 
 /// Where an entry and a step of housekeeping lead.
 pub fn entries_lead_on()
-    ensures entry { (capacity : ℕ) (shrunk : Option ℕ) (start now : Content) (run : List Entry) (entry : Entry) → LeadsToRest capacity shrunk (spelled (asked_by entry)) start run now → entry.before ≡ now → IsServed capacity entry → KeepsPlace now entry.after
+    ensures entry { (capacity : ℕ) (shrunk : Option ℕ) (start now : Content) (run : List Entry) (entry : Entry) → LeadsToRest capacity shrunk (wanted_by entry) start run now → entry.before ≡ now → IsServed capacity entry → KeepsPlace now entry.after
         → Leads capacity shrunk None start (run ++ entry ∷ []) entry.after }
-    ensures tidied { (capacity : ℕ) (shrunk : Option ℕ) (asked : Option Command) (start now next : Content) (run : List Entry) → Leads capacity shrunk asked start run now → TidiesFor capacity (shrunk_in shrunk run) asked now next → KeepsPlace now next → Leads capacity shrunk asked start run next }
+    ensures tidied { (capacity : ℕ) (shrunk : Option ℕ) (asked : Option Asked) (start now next : Content) (run : List Entry) → Leads capacity shrunk asked start run now → TidiesFor capacity (shrunk_in shrunk run) asked now next → KeepsPlace now next → Leads capacity shrunk asked start run next }
 {}
 
 /// A commit within a batch, early or at its end.
 pub fn commits_go_on<G: Ground>()
-    ensures goes { (capacity : ℕ) (shrunk : Option ℕ) (asked : Option Command) (committed from middle now : Content) (run : List Entry) (a b c : G) → Goes capacity shrunk asked committed from (G.outside a) run middle now (G.space b) (G.outside b)
+    ensures goes { (capacity : ℕ) (shrunk : Option ℕ) (asked : Option Asked) (committed from middle now : Content) (run : List Entry) (a b c : G) → Goes capacity shrunk asked committed from (G.outside a) run middle now (G.space b) (G.outside b)
         → Commits (G.space b) (G.outside b) (G.space c) (G.outside c) → Goes capacity shrunk asked committed from (G.outside a) run now now (G.space c) (G.outside c) }
-    ensures stops { (capacity : ℕ) (shrunk : Option ℕ) (asked : Option Command) (committed from middle now : Content) (run : List Entry) (a b c : G) → Goes capacity shrunk asked committed from (G.outside a) run middle now (G.space b) (G.outside b)
+    ensures stops { (capacity : ℕ) (shrunk : Option ℕ) (asked : Option Asked) (committed from middle now : Content) (run : List Entry) (a b c : G) → Goes capacity shrunk asked committed from (G.outside a) run middle now (G.space b) (G.outside b)
         → MayCommit (G.space b) (G.outside b) (G.outside c) → Stops capacity shrunk committed from (G.outside a) run (G.outside c) }
 {}
 
@@ -101,7 +101,7 @@ pub fn runs_keep_promises<D: SectorDisk>()
         → KeepsAnswers capacity start (D.state a) run answers known (D.state b) }
     // Of plain lines, users read it by their replies.
     ensures plain { (capacity : ℕ) (start : Content) (run : List Entry) (known : ℕ) (source source_new : Stream) (a b : D) → KeepsAnswers capacity start (D.state a) run (plain_answers run) known (D.state b)
-        → (IsTrue source.tells → AreTaken source run source_new) → KeepsPromises capacity start (D.state a) source run known (D.state b) source_new }
+        → ArePlain run → (IsTrue source.tells → AreTaken source run source_new) → KeepsPromises capacity start (D.state a) source run known (D.state b) source_new }
 {
     aside_is_free();
 }

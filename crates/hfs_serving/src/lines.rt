@@ -6,7 +6,7 @@ ghost use Rattle.hfs_language.specs.Language.{command_of};
 ghost use Rattle.hfs_language.specs.declared.refusal.Refusal.{Refusal};
 ghost use Rattle.hfs_language.specs.declared.refusal.Refusal.TheVariants as refusal;
 ghost use Rattle.hfs_language.specs.declared.reply.Reply.TheVariants as reply;
-ghost use Rattle.hfs_language.specs.Written.{FitsCommand};
+ghost use Rattle.volume_runs.specs.Fits.{FitsAsked};
 ghost use Rattle.hfs_serving.specs.Commits.{HaveCauses, IsLeft, SomeWantsAt};
 ghost use Rattle.hfs_serving.specs.Faults.{StopFaults};
 ghost use Rattle.hfs_serving.specs.Going.{ServesLine, SomeStands, Stands, StopsOn, sync_line};
@@ -21,6 +21,7 @@ use crate::telling::Stop;
 use crate::volume::{ToTell, Volume};
 use cmd_lang::{LineFault, read_line, read_valued};
 use hfs_language::{Changes, Command, Refusal, Reply};
+use hfs_volume::Asked;
 use hx_bytes::OutOfMemory;
 use line_source::Line;
 use std::alloc::Global;
@@ -46,15 +47,15 @@ pub fn serve_line<V: Volume, G: Ground>(
     ensures tells { OnOk result ((G.space base.new).tells ≡ (G.space base.old).tells) }
     ensures anchor { G.anchor base.new ≡ G.anchor base.old }
     // A commit is made where a step of housekeeping or of the line wanted it, or where memory was missing for it, at most nine times.
-    ensures caused { IsTrue (G.space base.old).tells → OnOk result (HaveCauses (SomeWantsAt V.wants G.space) 9 (G.space base.old).barriers (G.space base.new).barriers) }
+    ensures caused { IsTrue (G.space base.old).tells → HaveCauses (SomeWantsAt V.wants G.space) 9 (G.space base.old).barriers (G.space base.new).barriers }
     // It is left only where it isn't the first and the volume wants a commit before its command.
     ensures left { IsTrue (G.space base.old).tells → IfOk result (λ served. served ≡ false → (first ≡ false) × IsLeft Spells V.wants G.space line.now) }
     ensures faults { StopFaults (G.failed base.old) (G.space base.old) (G.failed base.new) (G.space base.new) ⊥ result }
     ensures no_many { IsErrOf result Stop.TooMany → ⊥ }
 {
     come_to_rest(volume, base)?;
-    match read_command(alloc, line) {
-        Ok(command) => serve_command(alloc, volume, base, number, &command, !first, told),
+    match read_asked(alloc, line) {
+        Ok(asked) => serve_command(alloc, volume, base, number, &asked, !first, told),
         Err(why) => {
             let _standing = volume.recall(base);
             refuse(alloc, why, told)?;
@@ -73,17 +74,17 @@ fn refusal_of(fault: LineFault) -> Refusal
     }
 }
 
-/// The command that a line spells, or why it is refused.
-fn read_command(alloc: Global, line: &Line) -> Result<Command, Refusal>
-    ensures command { IfOk result (λ command. command_of line.now ≡ Ok command) }
-    ensures fits { IfOk result FitsCommand }
+/// What a line asks for, or why it is refused.
+fn read_asked(alloc: Global, line: &Line) -> Result<Asked, Refusal>
+    ensures asked { IfOk result (Spells line.now) }
+    ensures fits { IfOk result FitsAsked }
     // It is refused for what is wrong with it, or because memory is missing.
     ensures refused { IfErr result (IsRefusedAs line.now) }
 {
     match command_in(alloc, line) {
         Ok(command) => {
             look_at_command(&command);
-            Ok(command)
+            Ok(Asked::Plain(command))
         }
         Err(fault) => Err(refusal_of(fault)),
     }

@@ -1,5 +1,5 @@
 //! A run over a journal's store and its rig.
-ghost use Rattle.std.specs.Prelude.{◌≡◌, ◌≤◌, ◌<◌, ◌∷◌, [], ℕ, List, None, Some, IsErrOf, IsTrue, OnOk, false, length};
+ghost use Rattle.std.specs.Prelude.{◌≡◌, ◌≤◌, ◌<◌, ◌∷◌, [], ℕ, List, None, Some, IsErrOf, IsTrue, OnErr, OnOk, false, length};
 ghost use Rattle.jnl_format.specs.Recovery.{Content};
 ghost use Rattle.jnl_store.specs.Seen.{seen};
 ghost use Rattle.jnl_store.specs.Store.{faults_of, plan_of, puts_of};
@@ -81,7 +81,10 @@ pub fn run<V: Volume, R: Rig, W: Watcher, S: LineSource, K: Speaker>(
     // At Ok each batch has made one commit, and beside these and those of the run's end one was made only where a step wanted it, or where memory was
     // missing for a step.
     ensures commits { IsTrue (seen R.state base.old).tells → OnOk result ((count : ℕ) × (IsTrue (S.stream source.old).tells → count ≡ length (lines (S.stream source.old).left))
-        × CommitsRun (WantsOver V.wants R.state) K.often 0 count (R.state base.old.disk.now).barriers (R.state base.new.disk.now).barriers) }
+        × CommitsRun (WantsOver V.wants R.state) K.often 0 1 count (R.state base.old.disk.now).barriers (R.state base.new.disk.now).barriers) }
+    // Where a fault ended it, so has each batch before, and the one that was cut short made no more.
+    ensures cut { IsTrue (seen R.state base.old).tells → OnErr result ((count : ℕ) × (IsTrue (S.stream source.old).tells → count ≤ length (lines (S.stream source.old).left))
+        × CommitsRun (WantsOver V.wants R.state) K.often 0 2 count (R.state base.old.disk.now).barriers (R.state base.new.disk.now).barriers) }
     // Each answer other than Ok comes of a fault whose count rose, but for memory and steps.
     ensures faults { StopFaults (faults_of base.old.store.now) (seen R.state base.old) (faults_of base.new.store.now) (seen R.state base.new) (Rose (S.stream source.old).faults (S.stream source.new).faults) result }
     ensures later { (S.stream source.old).faults ≤ (S.stream source.new).faults }

@@ -10,11 +10,10 @@ ghost use Rattle.hfs_serving.specs.Outside.{outside_of};
 ghost use Rattle.hfs_serving.specs.Stages.{MayLeave};
 ghost use Rattle.hfs_serving.specs.Readying.{IsMadeReady, IsMountedFrom, MayReady, Readies, StandsMounted, mounted_plan, version_sector, versioned};
 
-use crate::opening::HEADER;
 use hfs_volume::mount_keeps_the_tree;
 use hx_bytes::{Failed, Sector};
 use jnl_format::{Header, Info};
-use jnl_replay::{Place, Plan, replay};
+use jnl_replay::{HEADER_SECTOR, Place, Plan, replay};
 use sector_disk::{SectorDisk, write_all_then_barrier};
 use volume_header::{header_at, header_round_trip, write_header};
 
@@ -68,8 +67,8 @@ fn set_version<D: SectorDisk>(disk: &mut D, plan: &Plan) -> Result<(), Failed>
         return Ok(());
     }
     let mut sector = [0; 512];
-    disk.read(HEADER, &mut sector)?;
-    write_all_then_barrier(disk, HEADER, &[with_version(&sector)])
+    disk.read(HEADER_SECTOR, &mut sector)?;
+    write_all_then_barrier(disk, HEADER_SECTOR, &[with_version(&sector)])
 }
 
 // Whether systems of this version keep the journal.

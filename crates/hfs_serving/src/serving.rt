@@ -1,5 +1,5 @@
 //! An image served: it is found, made ready, attached to, and its source's lines are served to their end.
-ghost use Rattle.std.specs.Prelude.{◌≡◌, ◌⊎◌, ◌≤◌, ◌<◌, [], ℕ, List, None, Some, IsErrOf, IsTrue, IfOk, IfErr, OnOk, false, length};
+ghost use Rattle.std.specs.Prelude.{◌≡◌, ◌⊎◌, ◌≤◌, ◌<◌, [], ℕ, List, None, Some, IsErrOf, IsTrue, IfOk, IfErr, OnErr, OnOk, false, length};
 ghost use Rattle.sector_disk.specs.Disk.{HasNothingPending, OnlyReads, SameDisk, content};
 ghost use Rattle.jnl_format.specs.Recovery.{Content, replayed};
 ghost use Rattle.jnl_replay.specs.Plan.{FitsPlan, journal_of};
@@ -89,7 +89,10 @@ pub fn serve_image<V: Volume, C: Checker, R: Rig, W: Watcher, S: LineSource>(
     // At the end of the source each batch has made one commit. Beside these the disk passed eight barriers at most ahead of the first batch and six behind the
     // last, and those of commits that a step wanted, or that were made since memory was missing for a step.
     ensures commits { IsTrue (R.state rig.old).tells → IfOk result (λ answer. OnOk answer ((count : ℕ) × (IsTrue (S.stream source.old).tells → count ≡ length (lines (S.stream source.old).left))
-        × CommitsRun (WantsOver V.wants R.state) 9 8 count (R.state rig.old).barriers (R.state rig.new).barriers)) }
+        × CommitsRun (WantsOver V.wants R.state) 9 8 1 count (R.state rig.old).barriers (R.state rig.new).barriers)) }
+    // Where a fault ended it, so has each batch before, and the one that was cut short made no more.
+    ensures cut { IsTrue (R.state rig.old).tells → OnErr result ((count : ℕ) × (IsTrue (S.stream source.old).tells → count ≤ length (lines (S.stream source.old).left))
+        × CommitsRun (WantsOver V.wants R.state) 9 8 2 count (R.state rig.old).barriers (R.state rig.new).barriers) }
     // Each fault that is answered is one of a device whose count rose.
     ensures faults { RigFaults (R.state rig.old) (R.state rig.new) (Rose (S.stream source.old).faults (S.stream source.new).faults) result }
     ensures later { (S.stream source.old).faults ≤ (S.stream source.new).faults }
@@ -144,7 +147,10 @@ pub fn serve_spoken<V: Volume, C: Checker, R: Rig, W: Watcher, S: LineSource, K:
     // At the end of the source each batch has made one commit. Beside these the disk passed eight barriers at most ahead of the first batch and six behind the
     // last, and those of commits that a step wanted, or that were made since memory was missing for a step.
     ensures commits { IsTrue (R.state rig.old).tells → IfOk result (λ answer. OnOk answer ((count : ℕ) × (IsTrue (S.stream source.old).tells → count ≡ length (lines (S.stream source.old).left))
-        × CommitsRun (WantsOver V.wants R.state) K.often 8 count (R.state rig.old).barriers (R.state rig.new).barriers)) }
+        × CommitsRun (WantsOver V.wants R.state) K.often 8 1 count (R.state rig.old).barriers (R.state rig.new).barriers)) }
+    // Where a fault ended it, so has each batch before, and the one that was cut short made no more.
+    ensures cut { IsTrue (R.state rig.old).tells → OnErr result ((count : ℕ) × (IsTrue (S.stream source.old).tells → count ≤ length (lines (S.stream source.old).left))
+        × CommitsRun (WantsOver V.wants R.state) K.often 8 2 count (R.state rig.old).barriers (R.state rig.new).barriers) }
     // Each fault that is answered is one of a device whose count rose.
     ensures faults { RigFaults (R.state rig.old) (R.state rig.new) (Rose (S.stream source.old).faults (S.stream source.new).faults) result }
     ensures later { (S.stream source.old).faults ≤ (S.stream source.new).faults }
@@ -186,7 +192,9 @@ pub fn serve_found<V: Volume, R: Rig, W: Watcher, S: LineSource, K: Speaker>(
     ensures few { IsTrue (S.stream source.old).tells → OnOk result (length (lines (S.stream source.old).left) ≤ 4294967295) }
     ensures many { IsTrue (S.stream source.old).tells → IsErrOf result Stop.TooMany → 4294967295 < length (lines (S.stream source.old).left) }
     ensures commits { IsTrue (R.state rig.old).tells → OnOk result ((count : ℕ) × (IsTrue (S.stream source.old).tells → count ≡ length (lines (S.stream source.old).left))
-        × CommitsRun (WantsOver V.wants R.state) K.often 8 count (R.state rig.old).barriers (R.state rig.new).barriers) }
+        × CommitsRun (WantsOver V.wants R.state) K.often 8 1 count (R.state rig.old).barriers (R.state rig.new).barriers) }
+    ensures cut { IsTrue (R.state rig.old).tells → OnErr result ((count : ℕ) × (IsTrue (S.stream source.old).tells → count ≤ length (lines (S.stream source.old).left))
+        × CommitsRun (WantsOver V.wants R.state) K.often 8 2 count (R.state rig.old).barriers (R.state rig.new).barriers) }
     ensures faults { RigFaults (R.state rig.old) (R.state rig.new) (Rose (S.stream source.old).faults (S.stream source.new).faults) result }
     ensures later { (S.stream source.old).faults ≤ (S.stream source.new).faults }
     ensures same { SameDisk (R.state rig.old) (R.state rig.new) }
@@ -224,7 +232,9 @@ fn serve_ready<V: Volume, R: Rig, W: Watcher, S: LineSource, K: Speaker>(
     ensures few { IsTrue (S.stream source.old).tells → OnOk result (length (lines (S.stream source.old).left) ≤ 4294967295) }
     ensures many { IsTrue (S.stream source.old).tells → IsErrOf result Stop.TooMany → 4294967295 < length (lines (S.stream source.old).left) }
     ensures commits { IsTrue (R.state rig.old).tells → OnOk result ((count : ℕ) × (IsTrue (S.stream source.old).tells → count ≡ length (lines (S.stream source.old).left))
-        × CommitsRun (WantsOver V.wants R.state) K.often 4 count (R.state rig.old).barriers (R.state rig.new).barriers) }
+        × CommitsRun (WantsOver V.wants R.state) K.often 4 1 count (R.state rig.old).barriers (R.state rig.new).barriers) }
+    ensures cut { IsTrue (R.state rig.old).tells → OnErr result ((count : ℕ) × (IsTrue (S.stream source.old).tells → count ≤ length (lines (S.stream source.old).left))
+        × CommitsRun (WantsOver V.wants R.state) K.often 4 2 count (R.state rig.old).barriers (R.state rig.new).barriers) }
     ensures faults { RigFaults (R.state rig.old) (R.state rig.new) (Rose (S.stream source.old).faults (S.stream source.new).faults) result }
     ensures later { (S.stream source.old).faults ≤ (S.stream source.new).faults }
     ensures same { SameDisk (R.state rig.old) (R.state rig.new) }
@@ -241,7 +251,8 @@ fn serve_ready<V: Volume, R: Rig, W: Watcher, S: LineSource, K: Speaker>(
     run(alloc, speaker, &mut volume, &mut base, watchers, source)
 }
 
-/// The store of a disk that is ready with this plan, with the memory for one transaction.
+/// The store of a disk that is ready with this plan, with the memory for one transaction. Where memory lacks for so many slots, there are half as
+/// many, or half of these, and so on.
 pub fn attach_store<D: SectorDisk>(
     alloc: Global,
     plan: &Plan,
@@ -250,7 +261,22 @@ pub fn attach_store<D: SectorDisk>(
     requires fits { (sectors : ℕ) × FitsPlan sectors plan.now }
     ensures { (disk : D) → FitsPlan (D.state disk).sectors plan.now → IfOk result (λ store. IsAttached store plan.now (D.state disk)) }
 {
-    let mut store = Store::attach(alloc, plan, cache)?;
+    let mut slots = cache;
+    for _halving in 0..u32::BITS {
+        if let Ok(store) = attach_with::<D>(alloc, plan, slots) {
+            return Ok(store);
+        }
+        slots /= 2;
+    }
+    attach_with::<D>(alloc, plan, slots)
+}
+
+// The same with so many slots.
+fn attach_with<D: SectorDisk>(alloc: Global, plan: &Plan, slots: u32) -> Result<Store, OutOfMemory>
+    requires fits { (sectors : ℕ) × FitsPlan sectors plan.now }
+    ensures { (disk : D) → FitsPlan (D.state disk).sectors plan.now → IfOk result (λ store. IsAttached store plan.now (D.state disk)) }
+{
+    let mut store = Store::attach(alloc, plan, slots)?;
     let capacity = store.capacity();
     store.begin(alloc, capacity)?;
     Ok(store)

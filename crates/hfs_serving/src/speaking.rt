@@ -1,7 +1,7 @@
 //! Who speaks with a volume in lines: what is done for a line, and what it is told.
 ghost use Rattle.std.specs.Prelude.{◌≡◌, ◌↔◌, ◌≤◌, [], ℕ, Bool, List, Option, IsTrue, IsErrOf, IfOk, OnErr, OnOk, false};
 ghost use Rattle.jnl_format.specs.Recovery.{Content};
-ghost use Rattle.hfs_language.specs.declared.command.Command.{Command};
+ghost use Rattle.hfs_volume.specs.declared.asked.Asked.{Asked};
 ghost use Rattle.hfs_serving.specs.Commits.{HaveCauses, IsLeft, SomeWantsAt};
 ghost use Rattle.hfs_serving.specs.Faults.{StopFaults};
 ghost use Rattle.hfs_serving.specs.Going.{SomeStands, Stands, line_if};
@@ -26,8 +26,8 @@ pub trait Speaker: Drop {
     /// The line asks that all be made durable.
     ghost ends: { List ℕ → Type 0 };
 
-    /// The line asks for the command.
-    ghost asks: { List ℕ → Command → Type 0 };
+    /// The line asks for this.
+    ghost asks: { List ℕ → Asked → Type 0 };
 
     /// How often memory may be missing for a line, or ahead of the lines of a batch, where each time a commit is made.
     ghost often: { ℕ };
@@ -43,7 +43,7 @@ pub trait Speaker: Drop {
         ensures still { (capacity : ℕ) → G.serves base.old capacity → G.taken base.old ≤ capacity → OnOk result (G.serves base.new capacity × (G.taken base.new ≤ capacity)) }
         ensures tells { OnOk result ((G.space base.new).tells ≡ (G.space base.old).tells) }
         ensures anchor { G.anchor base.new ≡ G.anchor base.old }
-        ensures caused { IsTrue (G.space base.old).tells → OnOk result (HaveCauses (SomeWantsAt V.wants G.space) often (G.space base.old).barriers (G.space base.new).barriers) }
+        ensures caused { IsTrue (G.space base.old).tells → HaveCauses (SomeWantsAt V.wants G.space) often (G.space base.old).barriers (G.space base.new).barriers }
         ensures faults { StopFaults (G.failed base.old) (G.space base.old) (G.failed base.new) (G.space base.new) ⊥ result }
         ensures no_many { IsErrOf result Stop.TooMany → ⊥ };
 
@@ -69,7 +69,7 @@ pub trait Speaker: Drop {
         ensures tells { OnOk result ((G.space base.new).tells ≡ (G.space base.old).tells) }
         ensures anchor { G.anchor base.new ≡ G.anchor base.old }
         // A commit is made where a step of housekeeping or of a command wanted it, or where memory was missing for it.
-        ensures caused { IsTrue (G.space base.old).tells → OnOk result (HaveCauses (SomeWantsAt V.wants G.space) often (G.space base.old).barriers (G.space base.new).barriers) }
+        ensures caused { IsTrue (G.space base.old).tells → HaveCauses (SomeWantsAt V.wants G.space) often (G.space base.old).barriers (G.space base.new).barriers }
         // It is left only where it isn't the first and the volume wants a commit before its command.
         ensures left { IsTrue (G.space base.old).tells → IfOk result (λ served. served ≡ false → (first ≡ false) × IsLeft asks V.wants G.space line.now) }
         ensures faults { StopFaults (G.failed base.old) (G.space base.old) (G.failed base.new) (G.space base.new) ⊥ result }

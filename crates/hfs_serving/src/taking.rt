@@ -65,7 +65,10 @@ pub fn serve_source<V: Volume, G: Teller, W: Watcher, S: LineSource, K: Speaker>
         → AnswersSpoken (Speaks 0 start (K.spoke speaker.old) (K.spoke speaker.new)) heard capacity start shrunk (G.outside base.old) (held most_bytes texts) (G.outside base.new))) }
     // At Ok each batch has made one commit, and beside these one was made only where a step wanted it, or where memory was missing for a step.
     ensures commits { IsTrue (G.space base.old).tells → OnOk result ((count : ℕ) × (IsTrue (S.stream source.old).tells → count ≡ length (lines (ahead input.old (S.stream source.old))))
-        × CommitsABatch (SomeWantsAt V.wants G.space) K.often count (G.space base.old).barriers (G.space base.new).barriers) }
+        × CommitsABatch (SomeWantsAt V.wants G.space) K.often 1 count (G.space base.old).barriers (G.space base.new).barriers) }
+    // Where a fault ended it, so has each batch before, and the one that was cut short made no more.
+    ensures cut { IsTrue (G.space base.old).tells → OnErr result ((count : ℕ) × (IsTrue (S.stream source.old).tells → count ≤ length (lines (ahead input.old (S.stream source.old))))
+        × CommitsABatch (SomeWantsAt V.wants G.space) K.often 2 count (G.space base.old).barriers (G.space base.new).barriers) }
     ensures still { (capacity : ℕ) → G.serves base.old capacity → G.taken base.old ≤ capacity → OnOk result (G.serves base.new capacity × (G.taken base.new ≤ capacity)) }
     ensures nothing { (capacity : ℕ) → G.serves base.old capacity → G.taken base.old ≡ 0 → OnOk result (G.taken base.new ≡ 0) }
     ensures tells { OnOk result ((G.space base.new).tells ≡ (G.space base.old).tells) }

@@ -4,7 +4,7 @@ ghost use Rattle.std.specs.List.{AllByRecursion};
 ghost use Rattle.jnl_format.specs.Recovery.{Content};
 ghost use Rattle.hfs_language.specs.declared.reply.Change.{Change};
 ghost use Rattle.sector_disk.specs.Cause.{HasCause};
-ghost use Rattle.hfs_serving.specs.Commits.{CommitsOnce, HasEnded, SomeWantsAt};
+ghost use Rattle.hfs_serving.specs.Commits.{CommitsOnce, HasEnded, IsCutShort, SomeWantsAt};
 ghost use Rattle.hfs_serving.specs.Faults.{CountsFaults, StopFaults};
 ghost use Rattle.hfs_serving.specs.Going.{SomeStands, Stands};
 ghost use Rattle.hfs_serving.specs.Serving.{TellsOut};
@@ -135,6 +135,8 @@ pub fn serve_step<V: Volume, G: Teller, W: Watcher, K: Speaker>(
     ensures once { IsTrue (G.space base.old).tells → IfOk result (λ count. CommitsOnce (SomeWantsAt V.wants G.space) K.often count (G.space base.old).barriers (G.space base.new).barriers) }
     // The batch ends where there are no more lines, behind its 32nd or a `sync`, and before a line whose command wants a commit first.
     ensures ended { IsTrue (G.space base.old).tells → IfOk result (λ count. HasEnded K.ends K.asks V.wants G.space count lines.now) }
+    // Where a fault cut it short, it made no more.
+    ensures cut { IsTrue (G.space base.old).tells → OnErr result (IsCutShort (SomeWantsAt V.wants G.space) K.often (length lines.now) (G.space base.old).barriers (G.space base.new).barriers) }
     ensures faults { StopFaults (G.failed base.old) (G.space base.old) (G.failed base.new) (G.space base.new) ⊥ result }
     ensures no_many { IsErrOf result Stop.TooMany → ⊥ }
 {

@@ -23,10 +23,11 @@ use Rattle.hfs_volume.specs.Records.{Placed, Overflow, overflow_of, entries_of, 
 use Rattle.hfs_volume.specs.Forks.{Owned, per_block_of, parts_for, data_kind, extents_of, blocks_owned, special_forks, reserved_blocks, extents_id, catalog_id, allocation_id, attributes_id}
 use Rattle.hfs_volume.specs.Content.{VolumeState, volume_of, records_of, overflow_in_volume, block_sector, block_bytes, tree_of_fork, extents_file, catalog_file, attributes_file, overflow_of_content, facts_of, bit_in, bit_of_sector, has_attributes, attributes_of}
 use Rattle.hfs_volume.specs.Entries.{IsUserId}
+use Rattle.hfs_volume.specs.Blocks.{forks_of}
 use Rattle.hfs_volume.specs.Nodes.{HasTrees}
 use Rattle.hfs_volume.specs.Sound.{IsSound, IsSoundVolume}
 use Rattle.hfs_volume.specs.Aside.{IsAside, NamesJournal, AsideIsFree}
-use Rattle.hfs_volume.specs.TreeOf.{tree_in, tree_of, file_bytes, is_plain_file, bytes_in, valued}
+use Rattle.hfs_volume.specs.TreeOf.{tree_in, tree_of, bytes_in_fork, file_bytes, is_plain_file, bytes_in, valued}
 use Rattle.hfs_volume.proofs.Members.{each_of}
 use Rattle.hfs_volume.proofs.BlockWants.{in_range}
 use Rattle.hfs_volume.proofs.Sectors.{from_first, in_front}
@@ -34,7 +35,7 @@ use Rattle.hfs_volume.proofs.Apart.{reserved_is_used}
 use Rattle.hfs_volume.proofs.Hiding.{same_entry}
 use Rattle.hfs_volume.proofs.PlainBytes.{same_plain_bytes, journal_not_plain, info_not_plain}
 use Rattle.hfs_volume.proofs.Rereading.{same_bytes, same_tree, same_block_sector}
-use Rattle.hfs_volume.proofs.Untouched.{IsOwnFile, data_fork_of, file_fork_stands, special_stands, blocks, journal_file, info_file, IsForeign, reserved_apart, sector_stays, fork_stays, value_stays}
+use Rattle.hfs_volume.proofs.Untouched.{IsOwnFile, data_fork_of, file_fork_stands, resource_fork_of, resource_fork_stands, special_stands, blocks, journal_file, info_file, IsForeign, reserved_apart, sector_stays, fork_stays, value_stays}
 
 module _ (content other : Content) (sound : IsSound content) (agrees : AgreesOutside (IsAside content) content other) where
   abbrev was : VolumeState
@@ -196,12 +197,19 @@ module _ (content other : Content) (sound : IsSound content) (agrees : AgreesOut
             let one : p ≡ own = same_entry was.head.next_catalog_id (entries_of (records_of was)) sound.volume.entries.ids p own stands there same_id in
             true≢false (sym plain ∙ ap (is_plain_file (records_of was)) one ∙ hidden)
 
+    fork_bytes_stay : (owned : Owned) → Contains (forks_of was) owned → IsForeign content other sound agrees owned → bytes_in_fork other owned.id owned.kind owned.fork ≡ bytes_in_fork content owned.id owned.kind owned.fork
+    unfolding bytes_in_fork
+    fork_bytes_stay owned stands foreign_it =
+        (λ i. take owned.fork.logical_size (block_bytes other ((header_stays i).total_blocks * per_block_of (header_stays i)) (sectors_of (per_block_of (header_stays i)) (blocks_owned (overflow_in_volume (volume_stays i)) owned))))
+        ∙ ap (take owned.fork.logical_size) (same_bytes content other (head_was.total_blocks * per_was) (sectors_of per_was (blocks_owned (overflow_in_volume was) owned))
+        (λ at has. fork_stays content other sound agrees owned stands foreign_it at has))
+
     plain_bytes : (p : Placed) (file : FileRecord) → Contains (entries_of (records_of was)) p → p.value ≡ File file → is_plain_file (records_of was) p ≡ true → file_bytes other file ≡ file_bytes content file
-    unfolding file_bytes
-    plain_bytes p file stands is plain =
-        (λ i. take file.data_fork.logical_size (block_bytes other ((header_stays i).total_blocks * per_block_of (header_stays i)) (sectors_by (header_stays i) (overflow_in_volume (volume_stays i)) file.fields.id file.data_fork)))
-        ∙ ap (take file.data_fork.logical_size) (same_bytes content other (head_was.total_blocks * per_was) (sectors_by head_was (overflow_in_volume was) file.fields.id file.data_fork)
-        (λ at has. fork_stays content other sound agrees (data_fork_of file) (file_fork_stands was p file stands is) (plain_foreign p file stands is plain) at has))
+    plain_bytes p file stands is plain = λ i. record {
+      data_bytes = fork_bytes_stay (data_fork_of file) (file_fork_stands was p file stands is) (plain_foreign p file stands is plain) i;
+      resource_bytes = fork_bytes_stay (resource_fork_of file) (resource_fork_stands was p file stands is)
+          (λ same. omega (arith, ap (λ (o : Owned). o.kind) same), λ same. omega (arith, ap (λ (o : Owned). o.kind) same)) i;
+    }
 
     values_stay : valued (bytes_in other) (attributes_of was) ≡ valued (bytes_in content) (attributes_of was)
     unfolding volume_of

@@ -10,7 +10,7 @@ use Rattle.hfs_model.specs.declared.plain.PlainAttribute.{PlainAttribute}
 use Rattle.hfs_model.specs.declared.plain.PlainNode.{PlainNode}
 use Rattle.hfs_volume.specs.Records.{Placed, is_empty, entry_of}
 use Rattle.hfs_volume.specs.Content.{VolumeState, attributes_of, records_of}
-use Rattle.hfs_volume.specs.TreeOf.{BytesOf, is_linked, is_plain_file, is_plain_folder, node_found, node_in, plain_attributes, plain_node, threaded_node, tree_in, valued}
+use Rattle.hfs_volume.specs.TreeOf.{BytesOf, ForkBytes, is_linked, is_plain_file, is_plain_folder, node_found, node_in, plain_attributes, plain_node, threaded_node, tree_in, valued, empty_forks}
 use Rattle.hfs_volume.proofs.Flat.{flat_agree, flat_changed}
 use Rattle.hfs_volume.proofs.Trees.{nodes_over}
 
@@ -34,7 +34,7 @@ attributes_tree id old new bytes_of rest change here others = λ i. record {
     changed : PlainNode → PlainNode
     changed node = if is_node id node then record node { attributes = change node.attributes } else node
 
-    one : (fields : EntryFields) (folder : Bool) (bytes : List ℕ) (linked : Bool) → plain_node (valued bytes_of (attributes_of new)) fields folder bytes linked ≡ (if fields.id == id then record (plain_node (valued bytes_of (attributes_of old)) fields folder bytes linked) { attributes = change (plain_attributes (valued bytes_of (attributes_of old)) fields.id) } else plain_node (valued bytes_of (attributes_of old)) fields folder bytes linked)
+    one : (fields : EntryFields) (folder : Bool) (bytes : ForkBytes) (linked : Bool) → plain_node (valued bytes_of (attributes_of new)) fields folder bytes linked ≡ (if fields.id == id then record (plain_node (valued bytes_of (attributes_of old)) fields folder bytes linked) { attributes = change (plain_attributes (valued bytes_of (attributes_of old)) fields.id) } else plain_node (valued bytes_of (attributes_of old)) fields folder bytes linked)
     one fields folder bytes linked = by_test (fields.id == id) refl
       where
         by_test : (b : Bool) → (fields.id == id) ≡ b → plain_node (valued bytes_of (attributes_of new)) fields folder bytes linked ≡ (if b then record (plain_node (valued bytes_of (attributes_of old)) fields folder bytes linked) { attributes = change (plain_attributes (valued bytes_of (attributes_of old)) fields.id) } else plain_node (valued bytes_of (attributes_of old)) fields folder bytes linked)
@@ -44,8 +44,8 @@ attributes_tree id old new bytes_of rest change here others = λ i. record {
     of_value : (p : Placed) (value : CatRecord) → node_in (valued bytes_of (attributes_of new)) (records_of old) bytes_of p value ≡ map (λ (node : PlainNode). if is_node id node then record node { attributes = change node.attributes } else node) (node_in (valued bytes_of (attributes_of old)) (records_of old) bytes_of p value)
     of_value p (Folder f) = by_bool (is_plain_folder (records_of old) p)
       where
-        by_bool : (b : Bool) → (if b then plain_node (valued bytes_of (attributes_of new)) f.fields true [] false ∷ [] else []) ≡ map (λ (node : PlainNode). if is_node id node then record node { attributes = change node.attributes } else node) (if b then plain_node (valued bytes_of (attributes_of old)) f.fields true [] false ∷ [] else [])
-        by_bool true = ap (λ n. n ∷ []) (one f.fields true [] false)
+        by_bool : (b : Bool) → (if b then plain_node (valued bytes_of (attributes_of new)) f.fields true empty_forks false ∷ [] else []) ≡ map (λ (node : PlainNode). if is_node id node then record node { attributes = change node.attributes } else node) (if b then plain_node (valued bytes_of (attributes_of old)) f.fields true empty_forks false ∷ [] else [])
+        by_bool true = ap (λ n. n ∷ []) (one f.fields true empty_forks false)
         by_bool false = refl
     of_value p (File f) = by_bool (is_plain_file (records_of old) p)
       where

@@ -20,7 +20,7 @@ use Rattle.hfs_volume.specs.Forks.{forks_in}
 use Rattle.hfs_volume.specs.Content.{VolumeState, records_of, attributes_of}
 use Rattle.hfs_volume.specs.Blocks.{used_in, is_among, count_used, HasBits}
 use Rattle.hfs_volume.specs.Sound.{IsSoundVolume}
-use Rattle.hfs_volume.specs.TreeOf.{is_seen, tree_in, is_hidden, plain_entry, plain_node, plain_attributes, plain_attribute, node_in, node_found, threaded_node, is_plain_folder, is_plain_file, is_linked, BytesOf, valued}
+use Rattle.hfs_volume.specs.TreeOf.{is_seen, tree_in, is_hidden, plain_entry, plain_node, plain_attributes, plain_attribute, node_in, node_found, threaded_node, is_plain_folder, is_plain_file, is_linked, BytesOf, valued, empty_forks}
 use Rattle.hfs_volume.specs.Changes.{AreSorted, DropsEntry, InCatalog, InValues}
 use Rattle.hfs_volume.specs.Commands.{AreBytesOf, ChangesFields, IsTouched, RemovesFolder, DropsAttributes, blocks_of_all, with_fields, with_folder_removed, RmdirDoes}
 use Rattle.hfs_volume.specs.Values.{value_blocks}
@@ -64,7 +64,7 @@ pub same_attributes : (one other : List Attribute) (records : List Placed) (byte
 same_attributes one other records bytes_of same = flat_agree (threaded_node one records bytes_of) (threaded_node other records bytes_of) records (λ p stands. at p)
   where
     of_value : (p : Placed) (value : CatRecord) → plain_attributes one (id_in value) ≡ plain_attributes other (id_in value) → node_in one records bytes_of p value ≡ node_in other records bytes_of p value
-    of_value p (Folder f) is = λ i. if is_plain_folder records p then (record (plain_node other f.fields true [] false) { attributes = is i }) ∷ [] else []
+    of_value p (Folder f) is = λ i. if is_plain_folder records p then (record (plain_node other f.fields true empty_forks false) { attributes = is i }) ∷ [] else []
     of_value p (File f) is = λ i. if is_plain_file records p then (record (plain_node other f.fields false (bytes_of.file f) (is_linked records p)) { attributes = is i }) ∷ [] else []
     of_value p (Thread f) is = refl
 
@@ -84,8 +84,8 @@ folder_kind (Thread f) is = absurd (true≢false (sym is))
 folder_node : (attributes : List Attribute) (records : List Placed) (bytes_of : BytesOf) (e : Placed) (value : CatRecord) → is_folder value ≡ true → is_seen records e ≡ true
     → (node : PlainNode) × (node_in attributes records bytes_of e value ≡ node ∷ []) × (node.id ≡ id_in value)
 folder_node attributes records bytes_of e (Folder f) is seen = (
-  plain_node attributes f.fields true [] false,
-  (λ i. if (id_of e == 2) || seen i then plain_node attributes f.fields true [] false ∷ [] else []) ∙ ap (λ b. if b then plain_node attributes f.fields true [] false ∷ [] else []) (or_true (id_of e == 2)),
+  plain_node attributes f.fields true empty_forks false,
+  (λ i. if (id_of e == 2) || seen i then plain_node attributes f.fields true empty_forks false ∷ [] else []) ∙ ap (λ b. if b then plain_node attributes f.fields true empty_forks false ∷ [] else []) (or_true (id_of e == 2)),
   refl,
 )
 folder_node attributes records bytes_of e (File f) is seen = absurd (true≢false (sym is))

@@ -18,7 +18,7 @@ pub mod EntryWants
 pub mod Fields
 pub mod Files
 mod Filling
-mod Finishing
+pub mod Finishing
 pub mod Fitting
 pub mod Flat
 mod Folders
@@ -112,4 +112,6 @@ mod TruncCut
 mod WritBytes
 mod WritForks
 mod WritLaw
+mod Resources
+mod Symlinks
 mod WritRows

@@ -20,7 +20,7 @@ use Rattle.std.proofs.lemmas.Cmp.{on_total, nat_list_cmp_total}
 use Rattle.std.proofs.lemmas.Map.Text.{is_eq-slice_cmp}
 use Rattle.hx_bytes.specs.Field.{put_at}
 use Rattle.hfs_model.specs.Sorted.{kept, IsInOrder}
-use Rattle.hfs_model.specs.Plain.{is_at, entry_at, entries_in, names_of, is_node, node_at, node_before, attribute_before, with_entry, without_entry, with_node, without_node, with_changed, new_node, with_attribute, without_attribute, is_named, IsNamed}
+use Rattle.hfs_model.specs.Plain.{is_at, entry_at, entries_in, names_of, is_node, node_at, node_before, attribute_before, with_entry, without_entry, with_node, without_node, with_changed, new_node, with_attribute, without_attribute, with_mode, is_named, IsNamed}
 use Rattle.hfs_model.specs.Step.{then_, unless, root_entry, child, walk, reached, Place, place, place_in, front, last_name, is_root, new_place, to_make, to_rm, to_rmdir, to_pair, to_mv, to_ln, to_link, to_node, to_folder, is_same_file, vacated, moved_over, touched, marked, drawn, with_private, made, unnamed, removed, removed_folder, moved, linked, link_ids, with_bytes, written, resized, padded, facts_of, listed, listed_attribute, to_write, to_read, to_trunc, to_set, to_attribute, most_links, on, step, Step, to_value}
 use Rattle.hfs_volume.specs.Books.{StepKeepsTrees}
 use Rattle.hfs_volume.specs.Laws.{one_if}
@@ -553,8 +553,8 @@ module _ (tree : PlainTree) (steady : IsSteady tree) where
   step_steady (command.Trunc path size) = on_keeps tree (to_trunc tree path size) (λ file. (reply.Ok, resized file size tree)) steady (λ file is. bytes_keep tree file.id (take size (padded size file.bytes)) steady)
   step_steady (command.Ls path) = on_keeps tree (to_folder tree path) (λ folder. (reply.Listing (map listed (entries_in tree folder.id)), tree)) steady (λ folder is. steady)
   step_steady (command.Stat path) = on_keeps tree (to_node tree path) (λ node. (reply.Facts (facts_of tree node), tree)) steady (λ node is. steady)
-  step_steady (command.Chmod path mode) = on_keeps tree (to_node tree path) (λ node. (reply.Ok, marked node.id (with_changed node.id (λ old. record old { mode = mode }) tree))) steady
-      (λ node is. marked_keeps (with_changed node.id (λ old. record old { mode = mode }) tree) node.id (changed_keeps tree node.id (λ old. record old { mode = mode }) (λ old. refl) (λ old. refl) (λ old sorted. sorted) steady))
+  step_steady (command.Chmod path mode) = on_keeps tree (to_node tree path) (λ node. (reply.Ok, marked node.id (with_changed node.id (with_mode mode) tree))) steady
+      (λ node is. marked_keeps (with_changed node.id (with_mode mode) tree) node.id (changed_keeps tree node.id (with_mode mode) (λ old. refl) (λ old. refl) (λ old sorted. sorted) steady))
   step_steady (command.SetAttr path name value) = on_keeps tree (to_set tree path value) (λ node. (reply.Ok, marked node.id (with_changed node.id (with_attribute name value) tree))) steady
       (λ node is. marked_keeps (with_changed node.id (with_attribute name value) tree) node.id (changed_keeps tree node.id (with_attribute name value) (λ old. refl) (λ old. refl) (set_sorted name value) steady))
   step_steady (command.GetAttr path name) = on_keeps tree (to_value tree path name) (λ pair. (reply.Content pair.1.value, tree)) steady (λ pair is. steady)

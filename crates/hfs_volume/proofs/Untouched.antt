@@ -27,7 +27,7 @@ use Rattle.hfs_volume.specs.Attributes.{IsOneExtent, journal_extent, info_extent
 use Rattle.hfs_volume.specs.Blocks.{forks_of, used_in, is_among, HasForks, HasSizes, LieInside}
 use Rattle.hfs_volume.specs.Sound.{IsSound}
 use Rattle.hfs_volume.specs.Aside.{IsAside, IsFreeSector, IsJournalSector}
-use Rattle.hfs_volume.proofs.Members.{each_of, at_front, kept_stands, kept_cases}
+use Rattle.hfs_volume.proofs.Members.{each_of, at_front, behind, kept_stands, kept_cases}
 use Rattle.hfs_volume.proofs.Flat.{found_some}
 use Rattle.hfs_volume.proofs.Reaching.{flat_stands, flat_cases}
 use Rattle.hfs_volume.proofs.BlockWants.{in_range}
@@ -72,6 +72,15 @@ unfolding all_forks
 file_fork_stands volume p file stands is =
     Contains-append_right (special_forks volume.head) (file_forks (records_of volume)) (data_fork_of file)
     (flat_stands (λ (q : Placed). forks_in q.value) (entries_of (records_of volume)) p (data_fork_of file) stands (subst (λ v. Contains (forks_in v) (data_fork_of file)) (sym is) (at_front (data_fork_of file) (record { id = file.fields.id; kind = resource_kind; fork = file.resource_fork } ∷ []))))
+
+abbrev pub resource_fork_of : FileRecord → Owned
+resource_fork_of file = record { id = file.fields.id; kind = resource_kind; fork = file.resource_fork }
+
+pub resource_fork_stands : (volume : VolumeState) (p : Placed) (file : FileRecord) → Contains (entries_of (records_of volume)) p → p.value ≡ File file → Contains (forks_of volume) (resource_fork_of file)
+unfolding all_forks
+resource_fork_stands volume p file stands is =
+    Contains-append_right (special_forks volume.head) (file_forks (records_of volume)) (resource_fork_of file)
+    (flat_stands (λ (q : Placed). forks_in q.value) (entries_of (records_of volume)) p (resource_fork_of file) stands (subst (λ v. Contains (forks_in v) (resource_fork_of file)) (sym is) (behind (data_fork_of file) (resource_fork_of file) (resource_fork_of file ∷ []) (at_front (resource_fork_of file) []))))
 
 pub special_stands : (volume : VolumeState) (owned : Owned) → Contains (special_forks volume.head) owned → Contains (forks_of volume) owned
 unfolding all_forks

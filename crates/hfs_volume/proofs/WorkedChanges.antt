@@ -176,23 +176,27 @@ closed_0 = record new_0 { catalog_pairs = pair_6 ∷ pair_1 ∷ pair_2 ∷ pair_
 a_mode_is_set : ChangesMode 18 448 new_0 closed_0
 unfolding digits number_at number_bytes extents_at entry_of placed_of
 a_mode_is_set = record {
-  entry = placed_of pair_7;
-  before = entry_of (pair_7).1;
-  after = entry_of (pair_9).1;
-  has = refl;
-  is_entry = refl;
-  fields = record { id = refl; count = refl; mode = refl; created = refl; changed = refl; attribute = refl; special = refl };
-  changes = record {
+  folder = true;
+  does = record {
+    entry = placed_of pair_7;
+    before = entry_of (pair_7).1;
+    after = entry_of (pair_9).1;
+    has = refl;
+    is_entry = refl;
+    fields = record { id = refl; count = refl; kept = refl; mode = refl; created = refl; changed = refl; attribute = refl; special = refl };
     changes = record {
-      pair = pair_7;
-      is_entry = refl;
-      other = pair_9;
-      is_other = record { stands = refl; spelled = refl };
-      swapped = record { place = 4; at = refl; is = refl };
-      forks = refl;
-      alike = record { place = (refl, refl); kind = (refl, refl); id = refl; link = refl; reference = λ link. refl };
+      changes = record {
+        pair = pair_7;
+        is_entry = refl;
+        other = pair_9;
+        is_other = record { stands = refl; spelled = refl };
+        swapped = record { place = 4; at = refl; is = refl };
+        forks = refl;
+        alike = record { place = (refl, refl); kind = (refl, refl); id = refl; link = refl; reference = λ link. refl };
+      };
+      nodes = record { total = refl; size = refl };
+      rest = refl;
     };
-    nodes = record { total = refl; size = refl };
-    rest = refl;
   };
+  kind = refl;
 }

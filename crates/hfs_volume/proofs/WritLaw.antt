@@ -10,18 +10,19 @@ use Rattle.hfs_language.specs.declared.refusal.Refusal.TheVariants as refusal
 use Rattle.hfs_language.specs.declared.reply.Reply.TheVariants as reply
 use Rattle.hfs_model.specs.declared.plain.PlainNode.{PlainNode}
 use Rattle.hfs_model.specs.declared.plain.PlainTree.{PlainTree}
+use Rattle.hfs_model.specs.Kinds.{with_resource}
 use Rattle.hfs_model.specs.Plain.{is_node, node_at, with_changed}
 use Rattle.hfs_model.specs.Step.{on, reached, to_node, to_file, unless, with_bytes, written, resized, is_private_name, most_size, most_bytes}
 use Rattle.hfs_volume.specs.Records.{Placed, entries_of, id_of, is_link, special_of}
-use Rattle.hfs_volume.specs.Forks.{data_kind}
+use Rattle.hfs_volume.specs.Forks.{data_kind, resource_kind}
 use Rattle.hfs_volume.specs.Links.{private_id, is_in}
 use Rattle.hfs_volume.specs.Content.{VolumeState, records_of, attributes_of}
 use Rattle.hfs_volume.specs.Sound.{IsSoundVolume}
-use Rattle.hfs_volume.specs.TreeOf.{tree_in, node_in, plain_node, is_plain_folder, is_plain_file, is_linked, is_seen, BytesOf, valued}
+use Rattle.hfs_volume.specs.TreeOf.{tree_in, node_in, plain_node, is_plain_folder, is_plain_file, is_linked, is_seen, BytesOf, ForkBytes, valued, empty_forks}
 use Rattle.hfs_volume.specs.Changes.{PutsBlocks}
 use Rattle.hfs_volume.specs.Commands.{AreBytesOf, with_fields}
 use Rattle.hfs_volume.specs.Laws.{IsShaped, IsUserFile}
-use Rattle.hfs_volume.specs.Writing.{RewritesFile, MakesBytes, file_after, written_bytes, resized_bytes, WriteDoes, WriteNothingDoes, TruncDoes}
+use Rattle.hfs_volume.specs.Writing.{RewritesFork, MakesBytes, file_after, in_fork, written_bytes, resized_bytes, WriteDoes, WriteNothingDoes, TruncDoes}
 use Rattle.hfs_volume.proofs.Members.{in_one}
 use Rattle.hfs_volume.proofs.Hiding.{same_entry}
 use Rattle.hfs_volume.proofs.Reaching.{then_ok, unless_ok, found_ok, seen_shows}
@@ -30,6 +31,7 @@ use Rattle.hfs_volume.proofs.Sharing.{linked_is}
 use Rattle.hfs_volume.proofs.Finishing.{sound_is_both, shared_in}
 use Rattle.hfs_volume.proofs.Marks.{private_not_root}
 use Rattle.hfs_volume.proofs.Marking.{twice, value_sound}
+use Rattle.hfs_volume.proofs.Moding.{one_node, changed_alike}
 use Rattle.hfs_volume.proofs.Telling.{nodes_are}
 use Rattle.hfs_volume.proofs.NodesOf.{nodes_from}
 use Rattle.hfs_volume.proofs.Fields.{dated, touched_views, valence_same, special_now}
@@ -40,6 +42,10 @@ use Rattle.hfs_volume.proofs.BlockSound.{recounted, recounted_shaped, recounted_
 
 -- ---- a file that users see
 
+-- what a file of a tree has in its two forks
+abbrev pub forks_at : PlainNode → ForkBytes
+forks_at node = record { data_bytes = node.bytes; resource_bytes = node.resource }
+
 -- The entry of a file's node.
 pub record IsFileNode (volume : VolumeState) (bytes_of : BytesOf) (node : PlainNode) : Type 0 where
   pub entry : Placed
@@ -47,7 +53,8 @@ pub record IsFileNode (volume : VolumeState) (bytes_of : BytesOf) (node : PlainN
   pub stands : Contains (entries_of (records_of volume)) entry
   pub value : entry.value ≡ File file
   pub id : node.id ≡ id_of entry
-  pub bytes : node.bytes ≡ bytes_of.file file
+  pub there : Contains (tree_in volume bytes_of).nodes node
+  pub bytes : forks_at node ≡ bytes_of.file file
   pub plain : is_plain_file (records_of volume) entry ≡ true
 
 pub file_node : (volume : VolumeState) (bytes_of : BytesOf) (node : PlainNode) → Contains (tree_in volume bytes_of).nodes node → node.folder ≡ false → IsFileNode volume bytes_of node
@@ -58,8 +65,8 @@ file_node volume bytes_of node stands no_folder =
     of_value : (e : Placed) → Contains (entries_of (records_of volume)) e → node.id ≡ id_of e → (v : CatRecord) → e.value ≡ v → Contains (node_in (valued bytes_of (attributes_of volume)) (records_of volume) bytes_of e v) node → IsFileNode volume bytes_of node
     of_value e there id (Folder f) is has = by_test (is_plain_folder (records_of volume) e) has
       where
-        by_test : (b : Bool) → Contains (if b then plain_node (valued bytes_of (attributes_of volume)) f.fields true [] false ∷ [] else []) node → IsFileNode volume bytes_of node
-        by_test true one = absurd (true≢false (sym (ap (λ (n : PlainNode). n.folder) (in_one (plain_node (valued bytes_of (attributes_of volume)) f.fields true [] false) node one)) ∙ no_folder))
+        by_test : (b : Bool) → Contains (if b then plain_node (valued bytes_of (attributes_of volume)) f.fields true empty_forks false ∷ [] else []) node → IsFileNode volume bytes_of node
+        by_test true one = absurd (true≢false (sym (ap (λ (n : PlainNode). n.folder) (in_one (plain_node (valued bytes_of (attributes_of volume)) f.fields true empty_forks false) node one)) ∙ no_folder))
         by_test false none = absurd (omega (arith, none.1))
     of_value e there id (File f) is has = by_test (is_plain_file (records_of volume) e) refl has
       where
@@ -70,7 +77,8 @@ file_node volume bytes_of node stands no_folder =
           stands = there;
           value = is;
           id = id;
-          bytes = ap (λ (n : PlainNode). n.bytes) (in_one (plain_node (valued bytes_of (attributes_of volume)) f.fields false (bytes_of.file f) (is_linked (records_of volume) e)) node one);
+          there = stands;
+          bytes = ap forks_at (in_one (plain_node (valued bytes_of (attributes_of volume)) f.fields false (bytes_of.file f) (is_linked (records_of volume) e)) node one);
           plain = plain;
         }
         by_test false plain none = absurd (omega (arith, none.1))
@@ -78,15 +86,15 @@ file_node volume bytes_of node stands no_folder =
 
 -- the node of a file's CNID has its bytes
 pub bytes_at_node : (volume : VolumeState) (bytes_of : BytesOf) → IsShaped volume → (e : Placed) (file : FileRecord) → Contains (entries_of (records_of volume)) e → e.value ≡ File file
-    → (node : PlainNode) → Contains (tree_in volume bytes_of).nodes node → node.id ≡ id_of e → node.bytes ≡ bytes_of.file file
+    → (node : PlainNode) → Contains (tree_in volume bytes_of).nodes node → node.id ≡ id_of e → forks_at node ≡ bytes_of.file file
 bytes_at_node volume bytes_of shaped e file stands is node there same =
     let it = nodes_from (valued bytes_of (attributes_of volume)) bytes_of (records_of volume) node (subst (λ l. Contains l node) (nodes_are volume bytes_of) there) in
     let one : it.entry ≡ e = same_entry volume.head.next_catalog_id (entries_of (records_of volume)) shaped.ids it.entry e it.stands stands (sym it.id ∙ same) in
     by_test (is_plain_file (records_of volume) e)
     (subst (λ v. Contains (node_in (valued bytes_of (attributes_of volume)) (records_of volume) bytes_of e v) node) is (subst (λ (p : Placed). Contains (node_in (valued bytes_of (attributes_of volume)) (records_of volume) bytes_of p p.value) node) one it.has))
   where
-    by_test : (b : Bool) → Contains (if b then plain_node (valued bytes_of (attributes_of volume)) file.fields false (bytes_of.file file) (is_linked (records_of volume) e) ∷ [] else []) node → node.bytes ≡ bytes_of.file file
-    by_test true has = ap (λ (n : PlainNode). n.bytes) (in_one (plain_node (valued bytes_of (attributes_of volume)) file.fields false (bytes_of.file file) (is_linked (records_of volume) e)) node has)
+    by_test : (b : Bool) → Contains (if b then plain_node (valued bytes_of (attributes_of volume)) file.fields false (bytes_of.file file) (is_linked (records_of volume) e) ∷ [] else []) node → forks_at node ≡ bytes_of.file file
+    by_test true has = ap forks_at (in_one (plain_node (valued bytes_of (attributes_of volume)) file.fields false (bytes_of.file file) (is_linked (records_of volume) e)) node has)
     by_test false none = absurd (omega (arith, none.1))
 
 -- what stands in the private folder doesn't stand in the root
@@ -126,14 +134,18 @@ file_or other (Folder f) = other
 file_or other (File f) = f
 file_or other (Thread f) = other
 
+-- a file has these bytes in its two forks from this moment on
+abbrev pub with_forks : ℕ → ForkBytes → PlainTree → PlainTree
+with_forks id bytes tree = with_changed id (λ node. record node { bytes = bytes.data_bytes; resource = bytes.resource_bytes; changed = tree.moment; attribute = tree.moment }) tree
+
 -- two changes of a node: its bytes, and its dates
-redated_bytes : (id moment : ℕ) (bytes : List ℕ) (tree : PlainTree) → tree.moment ≡ moment → with_changed id (dated moment) (with_changed id (with_new_bytes bytes) tree) ≡ with_bytes id bytes tree
+redated_bytes : (id moment : ℕ) (bytes : ForkBytes) (tree : PlainTree) → tree.moment ≡ moment → with_changed id (dated moment) (with_changed id (with_new_bytes bytes) tree) ≡ with_forks id bytes tree
 redated_bytes id moment bytes tree same =
     (λ i. record tree { nodes = twice id (with_new_bytes bytes) (dated moment) (λ n. refl) tree.nodes i })
-    ∙ (λ i. with_changed id (λ node. record node { bytes = bytes; changed = sym same i; attribute = sym same i }) tree)
+    ∙ (λ i. with_changed id (λ node. record node { bytes = bytes.data_bytes; resource = bytes.resource_bytes; changed = sym same i; attribute = sym same i }) tree)
 
-module _ (make : List ℕ → List ℕ) (file : PlainNode) (from count : ℕ) (fresh : List ℕ) (old new : VolumeState) (bytes_of bytes_after : BytesOf) (are : AreBytesOf bytes_after) (sound : IsSoundVolume old)
-    (it : IsFileNode old bytes_of file) (does : RewritesFile file.id from count fresh old new) (makes : MakesBytes make does bytes_of bytes_after) where
+module _ (make : List ℕ → List ℕ) (file : PlainNode) (kind from count : ℕ) (fresh : List ℕ) (old new : VolumeState) (bytes_of bytes_after : BytesOf) (are : AreBytesOf bytes_after) (sound : IsSoundVolume old)
+    (it : IsFileNode old bytes_of file) (does : RewritesFork file.id kind from count fresh old new) (makes : MakesBytes make does bytes_of bytes_after) where
   shaped : IsShaped old
   shaped = ((sound_is_both old).0 sound).0
 
@@ -143,14 +155,14 @@ module _ (make : List ℕ → List ℕ) (file : PlainNode) (from count : ℕ) (f
   abbrev begun : VolumeState
   begun = recounted does.puts.free does.puts.next old
 
-  abbrev puts : PutsBlocks file.id data_kind from count fresh begun does.put
+  abbrev puts : PutsBlocks file.id kind from count fresh begun does.put
   puts = does.puts.puts
 
   begun_shaped : IsShaped begun
   begun_shaped = recounted_shaped does.puts.free does.puts.next old sound
 
   sound_put : IsSoundVolume does.put
-  sound_put = put_sound file.id data_kind from count fresh old does.put does.puts sound user
+  sound_put = put_sound file.id kind from count fresh old does.put does.puts sound user
 
   -- the volume is sound again
   pub rewritten_sound : IsSoundVolume new
@@ -163,25 +175,40 @@ module _ (make : List ℕ → List ℕ) (file : PlainNode) (from count : ℕ) (f
 
   same_file : puts.file.file ≡ it.file
   same_file =
-      let same : puts.file.entry ≡ it.entry = same_entry old.head.next_catalog_id (entries_of (records_of old)) shaped.ids puts.file.entry it.entry (stood file.id data_kind begun does.put puts.file puts.is_kind begun_shaped) it.stands
-      (entry_id file.id data_kind begun does.put puts.file puts.is_kind begun_shaped ∙ it.id) in
+      let same : puts.file.entry ≡ it.entry = same_entry old.head.next_catalog_id (entries_of (records_of old)) shaped.ids puts.file.entry it.entry (stood file.id kind begun does.put puts.file puts.is_kind begun_shaped) it.stands
+      (entry_id file.id kind begun does.put puts.file puts.is_kind begun_shaped ∙ it.id) in
       ap (file_or it.file) (sym puts.file.is_file.0 ∙ ap (λ (p : Placed). p.value) same ∙ it.value)
 
-  bytes_made : bytes_after.file (file_after does.puts) ≡ make file.bytes
-  bytes_made = makes.made ∙ ap make (ap bytes_of.file same_file ∙ sym it.bytes)
+  bytes_made : bytes_after.file (file_after does.puts) ≡ in_fork kind make (forks_at file)
+  bytes_made = makes.made ∙ ap (in_fork kind make) (ap bytes_of.file same_file ∙ sym it.bytes)
 
   -- and its tree has the file with its new bytes and dates
-  pub rewritten_tree : tree_in new bytes_after ≡ with_bytes file.id (make file.bytes) (tree_in old bytes_of)
-  rewritten_tree =
+  pub rewritten_forks : tree_in new bytes_after ≡ with_forks file.id (in_fork kind make (forks_at file)) (tree_in old bytes_of)
+  rewritten_forks =
       let moment = old.head.modify_date in
       let touched = does.dates.fields.touched in
-      fields_tree file.id does.put new does.dates bytes_after are.by_fork (dated moment) (touched_views moment 0 0 does.dates.before does.dates.after touched) touched.id (put_shaped file.id data_kind from count fresh old does.put does.puts sound user)
+      fields_tree file.id does.put new does.dates bytes_after are.by_fork (dated moment) (touched_views moment 0 0 does.dates.before does.dates.after touched) touched.id (put_shaped file.id kind from count fresh old does.put does.puts sound user)
       ∙ ap (with_changed file.id (dated moment))
-      (put_tree file.id data_kind from count fresh begun does.put puts begun_shaped bytes_after
+      (put_tree file.id kind from count fresh begun does.put puts begun_shaped bytes_after
       ∙ ap (with_changed file.id (with_new_bytes (bytes_after.file (file_after does.puts)))) (recounted_tree does.puts.free does.puts.next old bytes_after)
       ∙ set_bytes_same old bytes_after bytes_of file.id (bytes_after.file (file_after does.puts)) makes.others.0 makes.others.1)
       ∙ redated_bytes file.id moment (bytes_after.file (file_after does.puts)) (tree_in old bytes_of) (moment_is old bytes_of)
-      ∙ ap (λ bytes. with_bytes file.id bytes (tree_in old bytes_of)) bytes_made
+      ∙ ap (λ bytes. with_forks file.id bytes (tree_in old bytes_of)) bytes_made
+
+  -- the node of the file alone has its CNID
+  only : (n : PlainNode) → Contains (tree_in old bytes_of).nodes n → n.id ≡ file.id → file ≡ n
+  only n stands same = one_node old bytes_of shaped file n it.there stands (sym same)
+
+  -- the other fork is as it was: this is the change of the data fork, or of the resource fork
+  pub data_alone : with_forks file.id (in_fork data_kind make (forks_at file)) (tree_in old bytes_of) ≡ with_bytes file.id (make file.bytes) (tree_in old bytes_of)
+  data_alone = changed_alike file.id (λ node. record node { bytes = make file.bytes; resource = file.resource; changed = (tree_in old bytes_of).moment; attribute = (tree_in old bytes_of).moment })
+      (λ node. record node { bytes = make file.bytes; changed = (tree_in old bytes_of).moment; attribute = (tree_in old bytes_of).moment }) (tree_in old bytes_of)
+      (λ n stands same. λ i. record n { bytes = make file.bytes; resource = ap (λ (m : PlainNode). m.resource) (only n stands same) i; changed = (tree_in old bytes_of).moment; attribute = (tree_in old bytes_of).moment })
+
+  pub resource_alone : with_forks file.id (in_fork resource_kind make (forks_at file)) (tree_in old bytes_of) ≡ with_resource file.id (make file.resource) (tree_in old bytes_of)
+  resource_alone = changed_alike file.id (λ node. record node { bytes = file.bytes; resource = make file.resource; changed = (tree_in old bytes_of).moment; attribute = (tree_in old bytes_of).moment })
+      (λ node. record node { resource = make file.resource; changed = (tree_in old bytes_of).moment; attribute = (tree_in old bytes_of).moment }) (tree_in old bytes_of)
+      (λ n stands same. λ i. record n { bytes = ap (λ (m : PlainNode). m.bytes) (only n stands same) i; resource = make file.resource; changed = (tree_in old bytes_of).moment; attribute = (tree_in old bytes_of).moment })
 
 -- ---- the commands
 
@@ -201,8 +228,9 @@ write_law path at value file from count fresh old new bytes_of bytes_after are s
     let first = then_ok (to_file tree path) (unless (nat_lt most_size (at + length value) || nat_lt most_bytes (length value)) refusal.TooLarge) file allowed in
     let same : first.0 ≡ file = (unless_ok (nat_lt most_size (at + length value) || nat_lt most_bytes (length value)) refusal.TooLarge first.0 file first.2).1 in
     let it = reaches_file old bytes_of path file (first.1 ∙ ap Ok same) in (
-      rewritten_sound (written_bytes at value) file from count fresh old new bytes_of bytes_after are sound it does makes,
-      rewritten_tree (written_bytes at value) file from count fresh old new bytes_of bytes_after are sound it does makes
+      rewritten_sound (written_bytes at value) file data_kind from count fresh old new bytes_of bytes_after are sound it does makes,
+      rewritten_forks (written_bytes at value) file data_kind from count fresh old new bytes_of bytes_after are sound it does makes
+          ∙ data_alone (written_bytes at value) file data_kind from count fresh old new bytes_of bytes_after are sound it does makes
           ∙ sym (written_is file at value tree some)
           ∙ sym (ap (stepped_write tree at value) allowed),
     )
@@ -216,6 +244,8 @@ trunc_law path size file from count fresh old new bytes_of bytes_after are sound
     let first = then_ok (to_file tree path) (unless (nat_lt most_size size) refusal.TooLarge) file allowed in
     let same : first.0 ≡ file = (unless_ok (nat_lt most_size size) refusal.TooLarge first.0 file first.2).1 in
     let it = reaches_file old bytes_of path file (first.1 ∙ ap Ok same) in (
-      rewritten_sound (resized_bytes size) file from count fresh old new bytes_of bytes_after are sound it does makes,
-      rewritten_tree (resized_bytes size) file from count fresh old new bytes_of bytes_after are sound it does makes ∙ sym (ap (stepped_trunc tree size) allowed),
+      rewritten_sound (resized_bytes size) file data_kind from count fresh old new bytes_of bytes_after are sound it does makes,
+      rewritten_forks (resized_bytes size) file data_kind from count fresh old new bytes_of bytes_after are sound it does makes
+          ∙ data_alone (resized_bytes size) file data_kind from count fresh old new bytes_of bytes_after are sound it does makes
+          ∙ sym (ap (stepped_trunc tree size) allowed),
     )

@@ -7,25 +7,26 @@ use Rattle.cat_records.specs.declared.record.EntryFields.{EntryFields}
 use Rattle.cat_records.specs.declared.record.FileRecord.{FileRecord}
 use Rattle.cat_records.specs.declared.record.CatRecord.{CatRecord}
 use Rattle.cat_records.specs.declared.record.CatRecord.TheVariants.{Folder, File, Thread}
+use Rattle.hfs_model.specs.Plain.{type_bits_kept}
 use Rattle.hfs_model.specs.Sorted.{kept}
 use Rattle.hfs_language.specs.declared.command.Command.TheVariants as command
 use Rattle.hfs_model.specs.declared.plain.PlainNode.{PlainNode}
 use Rattle.hfs_model.specs.declared.plain.PlainEntry.{PlainEntry}
 use Rattle.hfs_model.specs.Step.{Place, step, to_make, to_node, to_rmdir, is_private_path, last_name}
 use Rattle.hfs_volume.specs.Sound.{IsSoundVolume}
-use Rattle.hfs_volume.specs.TreeOf.{tree_in, BytesOf}
-use Rattle.hfs_volume.specs.Records.{entries_of, attribute_of, Attribute, Placed, is_link_type, id_of, is_empty}
+use Rattle.hfs_volume.specs.TreeOf.{tree_in, type_bits_in, empty_forks, BytesOf}
+use Rattle.hfs_volume.specs.Records.{entries_of, attribute_of, Attribute, Placed, is_link_type, id_of, is_empty, is_folder}
 use Rattle.hfs_volume.specs.Forks.{in_use}
 use Rattle.hfs_volume.specs.Values.{blocks_of_values}
 use Rattle.hfs_volume.specs.Content.{VolumeState, records_of, attributes_of}
 use Rattle.hfs_volume.specs.Changes.{AreSorted, DropsEntry, AddsEntry, ChangesValue, InCatalog, InValues}
 use Rattle.hfs_volume.specs.Data.{PutsInValues}
 
--- an entry's fields as it is made
-pub record AreNewFields (drawn rights moment : ℕ) (fields : EntryFields) : Type 0 where
+-- an entry's fields as it is made, with this whole mode
+pub record AreNewFields (drawn mode_made moment : ℕ) (fields : EntryFields) : Type 0 where
   pub id : fields.id ≡ drawn
   pub count : fields.count ≡ 0
-  pub mode : fields.mode % 4096 ≡ rights
+  pub mode : fields.mode ≡ mode_made
   pub created : fields.created ≡ moment
   pub changed : fields.changed ≡ moment
   pub attribute : fields.attribute ≡ moment
@@ -36,10 +37,18 @@ pub record IsEmptyFork (fork : ForkRecord) : Type 0 where
   pub blocks : fork.total_blocks ≡ 0
   pub extents : in_use fork.extents.extents ≡ []
 
--- a folder or file as it is made: with mode 0755 or 0644, without entries or blocks, and no link
+-- the whole mode of a new folder, 0040755
+abbrev pub folder_mode : ℕ
+folder_mode = 16877
+
+-- the whole mode of a new file, 0100644
+abbrev pub file_mode : ℕ
+file_mode = 33188
+
+-- a folder or file as it is made: with mode 0040755 or 0100644, without entries or blocks, and no link to a file with several names
 abbrev pub IsNewValue : Bool → ℕ → ℕ → CatRecord → Type 0
-IsNewValue true drawn moment (Folder folder) = AreNewFields drawn 493 moment folder.fields
-IsNewValue false drawn moment (File file) = AreNewFields drawn 420 moment file.fields × (is_link_type file.fields ≡ false) × IsEmptyFork file.data_fork × IsEmptyFork file.resource_fork
+IsNewValue true drawn moment (Folder folder) = AreNewFields drawn folder_mode moment folder.fields
+IsNewValue false drawn moment (File file) = AreNewFields drawn file_mode moment file.fields × (is_link_type file.fields ≡ false) × IsEmptyFork file.data_fork × IsEmptyFork file.resource_fork
 IsNewValue folder drawn moment value = ⊥
 
 -- ---- other fields of a folder or file
@@ -70,7 +79,7 @@ pub record ChangesFields (id : ℕ) (Changes : EntryFields → EntryFields → T
 pub record IsTouched (moment up down : ℕ) (before after : EntryFields) : Type 0 where
   pub id : after.id ≡ before.id
   pub count : after.count ≡ before.count + up - down
-  pub mode : after.mode % 4096 ≡ before.mode % 4096
+  pub mode : after.mode ≡ before.mode
   pub created : after.created ≡ before.created
   pub changed : after.changed ≡ moment
   pub attribute : after.attribute ≡ moment
@@ -79,15 +88,17 @@ pub record IsTouched (moment up down : ℕ) (before after : EntryFields) : Type 
 pub record IsMarked (moment : ℕ) (before after : EntryFields) : Type 0 where
   pub id : after.id ≡ before.id
   pub count : after.count ≡ before.count
-  pub mode : after.mode % 4096 ≡ before.mode % 4096
+  pub mode : after.mode ≡ before.mode
   pub created : after.created ≡ before.created
   pub changed : after.changed ≡ before.changed
   pub attribute : after.attribute ≡ moment
 
--- A folder or file whose mode was set at this moment, and of which nothing else has changed.
-pub record HasNewMode (rights moment : ℕ) (before after : EntryFields) : Type 0 where
+-- A folder (true) or file whose mode was set at this moment: it keeps its type bits, or has those of a new one where it had none, and nothing else of it
+-- has changed.
+pub record HasNewMode (folder : Bool) (rights moment : ℕ) (before after : EntryFields) : Type 0 where
   pub id : after.id ≡ before.id
   pub count : after.count ≡ before.count
+  pub kept : type_bits_in after.mode ≡ type_bits_kept folder (type_bits_in before.mode)
   pub mode : after.mode % 4096 ≡ rights
   pub created : after.created ≡ before.created
   pub changed : after.changed ≡ before.changed
@@ -102,7 +113,7 @@ pub record IsRecounted (up down : ℕ) (before after : EntryFields) : Type 0 whe
 -- the same, and no date nor its mode has changed
 pub record IsRecountedAlone (up down : ℕ) (before after : EntryFields) : Type 0 where
   pub recounted : IsRecounted up down before after
-  pub mode : after.mode % 4096 ≡ before.mode % 4096
+  pub mode : after.mode ≡ before.mode
   pub created : after.created ≡ before.created
   pub changed : after.changed ≡ before.changed
   pub attribute : after.attribute ≡ before.attribute
@@ -142,8 +153,10 @@ pub record MakesEntry (folder : Bool) (at : Place) (old new : VolumeState) : Typ
   pub counts : ChangesFields at.folder (IsTouched old.head.modify_date 1 0) added new
 
 -- `chmod`: the folder or file of this CNID has this mode, set at this moment
-abbrev pub ChangesMode : ℕ → ℕ → VolumeState → VolumeState → Type 0
-ChangesMode id mode old new = ChangesFields id (HasNewMode mode old.head.modify_date) old new
+pub record ChangesMode (id mode : ℕ) (old new : VolumeState) : Type 0 where
+  pub folder : Bool
+  pub does : ChangesFields id (HasNewMode folder mode old.head.modify_date) old new
+  pub kind : is_folder does.entry.value ≡ folder
 
 -- all attributes of this CNID were removed
 abbrev pub DropsAttributes : ℕ → List Pair → List Pair → Type 0
@@ -176,10 +189,10 @@ with_counts next files folders head = record head { next_catalog_id = next; file
 
 -- ---- what each command does
 
--- the bytes of a file are told by its CNID and its data fork, and a file of size 0 has none
+-- the bytes of a file are told by its CNID and its forks, and forks of size 0 have none
 pub record AreBytesOf (bytes_of : BytesOf) : Type 0 where
   pub by_fork : (file : FileRecord) (fields : EntryFields) → fields.id ≡ file.fields.id → bytes_of.file (record file { fields = fields }) ≡ bytes_of.file file
-  pub none : (file : FileRecord) → file.data_fork.logical_size ≡ 0 → bytes_of.file file ≡ []
+  pub none : (file : FileRecord) → file.data_fork.logical_size ≡ 0 → file.resource_fork.logical_size ≡ 0 → bytes_of.file file ≡ empty_forks
 
 -- Where the step of `mkdir` refuses nothing, the lists that its change leads to are those of a sound volume, and tell the step's tree.
 abbrev pub MkdirDoes : Type 0

@@ -22,19 +22,27 @@ pub record AreFresh (volume : VolumeState) (blocks : List ℕ) : Type 0 where
   pub free : All (λ block. is_set volume block ≡ false) blocks
   pub once : AreApart blocks
 
--- New blocks stand in place of the old ones from the first that is written on.
-pub record PutsData (put : Data) (old new : VolumeState) : Type 0 where
+-- New blocks stand in place of the old ones of a fork from the first that is written on.
+pub record PutsDataIn (kind : ℕ) (put : Data) (old new : VolumeState) : Type 0 where
   pub fresh : List ℕ
   pub are_fresh : AreFresh old fresh
   pub many : length fresh ≡ new_blocks_of old.head.block_size put
-  pub is : blocks_at new put.id data_kind
-      ≡ take (first_block old.head.block_size put) (blocks_at old put.id data_kind)
-      ++ (fresh ++ drop (first_block old.head.block_size put + old_blocks_of old.head.block_size put) (blocks_at old put.id data_kind))
+  pub is : blocks_at new put.id kind
+      ≡ take (first_block old.head.block_size put) (blocks_at old put.id kind)
+      ++ (fresh ++ drop (first_block old.head.block_size put + old_blocks_of old.head.block_size put) (blocks_at old put.id kind))
 
--- what becomes of the forks of files: the one that data is put into has it, and all others have the blocks that they had
+-- what becomes of the forks of files: the one of this kind that data is put into has it, and all others have the blocks that they had
+abbrev pub PutsInForkOf : ℕ → Option Data → VolumeState → VolumeState → Type 0
+PutsInForkOf fork None old new = (id kind : ℕ) → ¬ IsTreeFork id → blocks_at new id kind ≡ blocks_at old id kind
+PutsInForkOf fork (Some put) old new = PutsDataIn fork put old new × ((id kind : ℕ) → ¬ IsTreeFork id → (id ≢ put.id) ⊎ (kind ≢ fork) → blocks_at new id kind ≡ blocks_at old id kind)
+
+-- the same of a data fork
+abbrev pub PutsData : Data → VolumeState → VolumeState → Type 0
+PutsData put old new = PutsDataIn data_kind put old new
+
+-- the same where the data goes into a data fork
 abbrev pub PutsInFork : Option Data → VolumeState → VolumeState → Type 0
-PutsInFork None old new = (id kind : ℕ) → ¬ IsTreeFork id → blocks_at new id kind ≡ blocks_at old id kind
-PutsInFork (Some put) old new = PutsData put old new × ((id kind : ℕ) → ¬ IsTreeFork id → (id ≢ put.id) ⊎ (kind ≢ data_kind) → blocks_at new id kind ≡ blocks_at old id kind)
+PutsInFork put old new = PutsInForkOf data_kind put old new
 
 -- ---- the values of attributes
 

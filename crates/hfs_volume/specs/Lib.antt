@@ -1,4 +1,5 @@
 pub mod Aside
+pub mod Asked
 pub mod Attributes
 pub mod Attributing
 pub mod Blocks
@@ -13,6 +14,8 @@ pub mod Entries
 pub mod Findings
 pub mod Forks
 pub mod Inline
+pub mod Kinds
+pub mod KindWeight
 pub mod Laws
 pub mod Links
 pub mod Mount

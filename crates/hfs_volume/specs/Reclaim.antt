@@ -1,16 +1,16 @@
 -- Housekeeping: steps that give blocks, attributes and entries back which no name leads to any more.
 use Rattle.hfs_volume.specs.Values.{value_blocks}
-use Rattle.std.specs.Prelude.{◌≡◌, ◌≢◌, ◌⊎◌, ◌<◌, ◌≤◌, ℕ, ◌+◌, ◌-◌, ◌*◌, ◌/◌, ◌%◌, ◌^◌, ◌==◌, ◌&&◌, nat_lt, Bool, false, not, List, [], ◌∷◌, length, take, find, slice_index, Option, Some, None, Ok, if◌then◌else◌}
+use Rattle.std.specs.Prelude.{◌≡◌, ◌≢◌, ◌⊎◌, ◌<◌, ◌≤◌, ℕ, ◌+◌, ◌-◌, ◌*◌, ◌/◌, ◌%◌, ◌^◌, ◌==◌, ◌&&◌, nat_lt, Bool, false, not, List, [], ◌∷◌, length, take, find, slice_index, Option, Some, None, if◌then◌else◌}
 use Rattle.std.specs.Str.{bytes_eq}
 use Rattle.sector_disk.specs.Space.{AgreesOutside}
 use Rattle.jnl_format.specs.Recovery.{Content}
 use Rattle.volume_header.specs.declared.header.VolumeHeader.{VolumeHeader}
 use Rattle.hx_bytes.specs.declared.extents.ForkRecord.{ForkRecord}
-use Rattle.hfs_language.specs.declared.command.Command.{Command}
 use Rattle.hfs_volume.specs.declared.cost.Cost.{Cost}
 use Rattle.hfs_volume.specs.declared.cost.Cost.TheVariants as cost
 use Rattle.hfs_model.specs.Sorted.{kept}
-use Rattle.hfs_model.specs.Step.{refuses}
+use Rattle.hfs_volume.specs.declared.asked.Asked.{Asked}
+use Rattle.hfs_volume.specs.Asked.{asked_weight, is_refused}
 use Rattle.hfs_volume.specs.Records.{Placed, Overflow, Attribute, entry_of, id_of}
 use Rattle.hfs_volume.specs.Forks.{Owned, blocks_owned, parts_for, data_kind, resource_kind, extents_id, catalog_id, attributes_id}
 use Rattle.hfs_volume.specs.Content.{facts_at, VolumeState, volume_of, records_of, overflow_in_volume, attributes_of}
@@ -20,7 +20,7 @@ use Rattle.hfs_volume.specs.Sound.{IsSound}
 use Rattle.hfs_volume.specs.TreeOf.{tree_of}
 use Rattle.hfs_volume.specs.Aside.{IsAside, IsFreeSector}
 use Rattle.hfs_volume.specs.Cost.{cost_of}
-use Rattle.hfs_volume.specs.Weight.{free_blocks, room_with, needs_for, edits, cut_cost, file_fork, file_blocks, weight, with_values, value_change}
+use Rattle.hfs_volume.specs.Weight.{free_blocks, room_with, needs_for, edits, cut_cost, file_fork, file_blocks, with_values, value_change}
 
 -- ---- forks of a volume, by their file and kind
 
@@ -188,21 +188,22 @@ pub record Reclaims (capacity : ℕ) (shrunk : Option ℕ) (old new : Content) :
   pub does : Does step (volume_of old) (volume_of new)
   pub keeps : KeepsTree old new
 
--- A file lost blocks past its size, before it grows again.
+-- A fork of a file lost blocks past its size, before it grows again.
 pub record CutsSurplus (capacity : ℕ) (old new : Content) : Type 0 where
   pub id : ℕ
   pub load : ℕ
   pub grow : List ℕ
   pub affords : cut_cost (room_with capacity (free_blocks (volume_of old)) (volume_of old)) ≡ cost.Load load grow
-  pub cuts : CutsAlone id data_kind (blocks_wanted (volume_of old) id data_kind) (volume_of old) (volume_of new)
+  pub kind : ℕ
+  pub cuts : CutsAlone id kind (blocks_wanted (volume_of old) id kind) (volume_of old) (volume_of new)
   pub keeps : KeepsTree old new
 
 -- A command that its step doesn't refuse wants these nodes, and nothing is missing for it.
 pub record CommandWants (capacity : ℕ) (content : Content) (grow : List ℕ) : Type 0 where
-  pub asked : Command
-  pub no_refusal : refuses (tree_of content) (Ok asked) ≡ false
+  pub asked : Asked
+  pub no_refusal : is_refused (tree_of content) asked ≡ false
   pub load : ℕ
-  pub affords : weight capacity (volume_of content) (tree_of content) asked ≡ cost.Load load grow
+  pub affords : asked_weight capacity (volume_of content) (tree_of content) asked ≡ cost.Load load grow
 
 -- The next step of reclaiming wants these nodes, and nothing is missing for it.
 pub record StepWants (capacity : ℕ) (shrunk : Option ℕ) (content : Content) (grow : List ℕ) : Type 0 where
@@ -228,11 +229,12 @@ pub record GrowsTreeFirst (capacity : ℕ) (shrunk : Option ℕ) (old new : Cont
   pub values : SameValues (volume_of old) (volume_of new)
   pub keeps : KeepsTree old new
 
--- the header as a mount writes it: by a system that keeps the journal, not unmounted, and written once more
+-- The header as a mount writes it: by a system that keeps the journal, not unmounted, and written once more. It no longer says (bit 31) that
+-- free nodes of the catalog are zero, since a node that is given back keeps its bytes.
 abbrev pub mounted_header : VolumeHeader → VolumeHeader
 mounted_header head = record head {
   last_mounted_version = 0x4846534A;
-  attributes = head.attributes - (head.attributes / 256 % 2) * 256;
+  attributes = (head.attributes - (head.attributes / 256 % 2) * 256) % 2 ^ 31;
   write_count = (head.write_count + 1) % 2 ^ 32;
 }
 

@@ -1,5 +1,5 @@
 -- The plain tree of a volume's content.
-use Rattle.std.specs.Prelude.{ℕ, zero, suc, ◌%◌, ◌==◌, ◌&&◌, ◌||◌, Bool, true, false, not, List, [], ◌∷◌, length, map, take, find, Option, Some, None, is_some, if◌then◌else◌}
+use Rattle.std.specs.Prelude.{ℕ, zero, suc, ◌*◌, ◌/◌, ◌%◌, ◌==◌, ◌&&◌, ◌||◌, Bool, true, false, not, List, [], ◌∷◌, length, map, take, find, Option, Some, None, is_some, if◌then◌else◌}
 use Rattle.std.specs.List.{flat_map, list_any}
 use Rattle.jnl_format.specs.Recovery.{Content}
 use Rattle.cat_records.specs.declared.record.EntryFields.{EntryFields}
@@ -9,7 +9,8 @@ use Rattle.cat_records.specs.declared.record.CatRecord.TheVariants.{Folder, File
 use Rattle.hfs_model.specs.Sorted.{kept}
 use Rattle.hfs_model.specs.Step.{is_private_name}
 use Rattle.hfs_volume.specs.Records.{Placed, Attribute, entries_of, is_empty, is_folder, is_link, id_of, special_of, entry_of, inline_bytes}
-use Rattle.hfs_volume.specs.Forks.{extents_of, data_kind}
+use Rattle.hx_bytes.specs.declared.extents.ForkRecord.{ForkRecord}
+use Rattle.hfs_volume.specs.Forks.{extents_of, data_kind, resource_kind}
 use Rattle.hfs_volume.specs.Values.{value_extents}
 use Rattle.hx_bytes.specs.declared.extents.Extent.{Extent}
 use Rattle.cat_records.specs.declared.attribute.AttrRecord.{AttrRecord}
@@ -76,10 +77,19 @@ plain_entry records placed = record { parent = placed.parent; name = placed.name
 
 -- ---- the bytes
 
+-- The bytes of a file's two forks.
+pub record ForkBytes : Type 0 where
+  pub data_bytes : List ℕ
+  pub resource_bytes : List ℕ
+
+-- no byte in either
+abbrev pub empty_forks : ForkBytes
+empty_forks = record { data_bytes = []; resource_bytes = [] }
+
 -- What a content has in the blocks of files and of values.
 pub record BytesOf : Type 0 where
   -- of a file, by its record
-  pub file : FileRecord → List ℕ
+  pub file : FileRecord → ForkBytes
   -- of a value of so many bytes in these extents
   pub value : ℕ → List Extent → List ℕ
 
@@ -109,17 +119,23 @@ plain_attribute attribute = record { name = attribute.name; value = inline_bytes
 abbrev pub plain_attributes : List Attribute → ℕ → List PlainAttribute
 plain_attributes attributes id = map plain_attribute (kept (λ attribute. attribute.id == id) attributes)
 
+-- the bits of a whole mode that say what it is
+abbrev pub type_bits_in : ℕ → ℕ
+type_bits_in mode = mode / 4096 * 4096
+
 -- a folder or file as users see it
-abbrev pub plain_node : List Attribute → EntryFields → Bool → List ℕ → Bool → PlainNode
+abbrev pub plain_node : List Attribute → EntryFields → Bool → ForkBytes → Bool → PlainNode
 plain_node attributes fields folder bytes linked = record {
   id = fields.id;
   folder = folder;
+  type_bits = type_bits_in fields.mode;
   mode = fields.mode % 4096;
   created = fields.created;
   changed = fields.changed;
   attribute = fields.attribute;
   attributes = plain_attributes attributes fields.id;
-  bytes = bytes;
+  bytes = bytes.data_bytes;
+  resource = bytes.resource_bytes;
   linked = linked;
 }
 
@@ -137,7 +153,7 @@ is_plain_file records placed = (is_seen records placed && not (is_link placed)) 
 
 -- the folder or file of an entry, where it has a name; the bytes of files are these
 abbrev pub node_in : List Attribute → List Placed → BytesOf → Placed → CatRecord → List PlainNode
-node_in attributes records bytes_of placed (Folder folder) = if is_plain_folder records placed then plain_node attributes folder.fields true [] false ∷ [] else []
+node_in attributes records bytes_of placed (Folder folder) = if is_plain_folder records placed then plain_node attributes folder.fields true empty_forks false ∷ [] else []
 node_in attributes records bytes_of placed (File file) = if is_plain_file records placed then plain_node attributes file.fields false (bytes_of.file file) (is_linked records placed) ∷ [] else []
 node_in attributes records bytes_of placed (Thread thread) = []
 
@@ -165,9 +181,13 @@ tree_in volume bytes_of =
       moment = volume.head.modify_date;
     }
 
--- the bytes of a file: the first of the blocks of its data fork
-unfoldable pub file_bytes : Content → FileRecord → List ℕ
-file_bytes content file = take file.data_fork.logical_size (fork_bytes content (extents_of (overflow_in_volume (volume_of content)) file.fields.id data_kind file.data_fork))
+-- the bytes of a fork of the file with this CNID: the first of its blocks
+unfoldable pub bytes_in_fork : Content → ℕ → ℕ → ForkRecord → List ℕ
+bytes_in_fork content id kind fork = take fork.logical_size (fork_bytes content (extents_of (overflow_in_volume (volume_of content)) id kind fork))
+
+-- the bytes of a file: those of its data fork, and those of its resource fork
+abbrev pub file_bytes : Content → FileRecord → ForkBytes
+file_bytes content file = record { data_bytes = bytes_in_fork content file.fields.id data_kind file.data_fork; resource_bytes = bytes_in_fork content file.fields.id resource_kind file.resource_fork }
 
 -- the bytes of a content: those of its files, and those of its values, which are the first of their blocks
 abbrev pub bytes_in : Content → BytesOf

@@ -182,9 +182,13 @@ file_extents volume id kind = extents_found (overflow_in_volume volume) id kind 
 abbrev pub file_blocks : VolumeState → ℕ → ℕ → List ℕ
 file_blocks volume id kind = blocks_of (file_extents volume id kind)
 
+-- the fork of this kind has blocks past its size
+abbrev pub has_surplus_in : ℕ → VolumeState → ℕ → ℕ → Bool
+has_surplus_in kind volume id size = nat_lt (parts_for size volume.head.block_size) (length (file_blocks volume id kind))
+
 -- the file has blocks past its size
 abbrev pub has_surplus : VolumeState → ℕ → ℕ → Bool
-has_surplus volume id size = nat_lt (parts_for size volume.head.block_size) (length (file_blocks volume id data_kind))
+has_surplus volume id size = has_surplus_in data_kind volume id size
 
 -- ---- what a command needs
 
@@ -268,21 +272,25 @@ edits_of tree _ = edits 0 0 0 0
 abbrev pub extents_edits : ℕ → ℕ → ℕ → ℕ
 extents_edits extents runs blocks = if blocks == 0 then 0 else overflow_records extents + overflow_records (extents + 1 + runs)
 
--- what edits and data need, where the blocks that are free are these
-abbrev pub needs_for : List Bool → VolumeState → Edits → Option Data → Needs
-needs_for free volume many None =
+-- what edits need, and data that goes into the fork of this kind of its file, where the blocks that are free are these
+abbrev pub needs_in : ℕ → List Bool → VolumeState → Edits → Option Data → Needs
+needs_in kind free volume many None =
     record { ids = many.ids; edits = 0 ∷ many.catalog ∷ many.attributes ∷ []; updates = many.updates; new_blocks = 0; old_blocks = 0; runs = 0 }
-needs_for free volume many (Some put) =
+needs_in kind free volume many (Some put) =
     let blocks = new_blocks_of volume.head.block_size put in
     let runs = fewest_of blocks (free_runs free) in
     record {
       ids = many.ids;
-      edits = extents_edits (length (file_extents volume put.id data_kind)) runs blocks ∷ many.catalog ∷ many.attributes ∷ [];
+      edits = extents_edits (length (file_extents volume put.id kind)) runs blocks ∷ many.catalog ∷ many.attributes ∷ [];
       updates = many.updates;
       new_blocks = blocks;
       old_blocks = old_blocks_of volume.head.block_size put;
       runs = runs;
     }
+
+-- the same where the data goes into a data fork
+abbrev pub needs_for : List Bool → VolumeState → Edits → Option Data → Needs
+needs_for free volume many put = needs_in data_kind free volume many put
 
 -- ---- the values of attributes
 
@@ -359,10 +367,14 @@ cut_load room =
 abbrev pub cut_cost : Room → Cost
 cut_cost room = cost_or (load_refusal (cut_load room) room.capacity) (cut_load room) (0 ∷ 0 ∷ 0 ∷ [])
 
--- the file that grows has blocks past its size, which go first, step by step
+-- the fork of this kind grows and has blocks past its size, which go first, step by step
+abbrev pub needs_cut_in : ℕ → VolumeState → Option Data → Bool
+needs_cut_in kind volume None = false
+needs_cut_in kind volume (Some put) = grows put && has_surplus_in kind volume put.id put.old_size
+
+-- the same of a data fork
 abbrev pub needs_cut : VolumeState → Option Data → Bool
-needs_cut volume None = false
-needs_cut volume (Some put) = grows put && has_surplus volume put.id put.old_size
+needs_cut volume put = needs_cut_in data_kind volume put
 
 -- ---- the weight
 

@@ -1,6 +1,6 @@
 -- What `write`, `trunc` and the steps that cut a file do to the lists of a volume, and what the growth of a tree does: the changes that their
 -- code hands in, and what they lead to.
-use Rattle.std.specs.Prelude.{◌≡◌, ◌≢◌, ◌⊎◌, ◌<◌, ◌≤◌, ℕ, ◌+◌, ◌/◌, List, [], length, take, Contains, Some, None, Ok}
+use Rattle.std.specs.Prelude.{◌≡◌, ◌≢◌, ◌⊎◌, ◌<◌, ◌≤◌, ℕ, ◌+◌, ◌/◌, ◌==◌, false, List, [], length, take, Contains, Some, None, Ok, if◌then◌else◌}
 use Rattle.sector_disk.specs.Space.{AgreesOutside}
 use Rattle.hx_bytes.specs.Field.{put_at}
 use Rattle.jnl_format.specs.Recovery.{Content, header_of_volume}
@@ -14,12 +14,13 @@ use Rattle.hfs_volume.specs.Records.{Placed, entries_of, id_of}
 use Rattle.hfs_volume.specs.Forks.{Owned, data_kind, blocks_owned, per_block_of, reserved_blocks, special_forks}
 use Rattle.hfs_volume.specs.Links.{orphans_of}
 use Rattle.hfs_volume.specs.Content.{VolumeState, volume_of, records_of, attributes_of, overflow_in_volume}
-use Rattle.hfs_volume.specs.Reclaim.{IsTreeFork, GrowsTree, Does, CutShrunk, CutOrphan, blocks_at, blocks_wanted, SameValues}
-use Rattle.hfs_volume.specs.Data.{PutsInFork}
+use Rattle.hfs_volume.specs.Blocks.{forks_of}
+use Rattle.hfs_volume.specs.Reclaim.{IsTreeFork, GrowsTree, CutsAlone, Does, CutOrphan, blocks_at, blocks_wanted, is_fork, SameValues}
+use Rattle.hfs_volume.specs.Data.{PutsInFork, PutsInForkOf}
 use Rattle.hfs_volume.specs.Weight.{Data, first_block, new_blocks_of, old_blocks_of}
 use Rattle.hfs_volume.specs.Aside.{IsFreeSector}
 use Rattle.hfs_volume.specs.Sound.{IsSound, IsSoundVolume}
-use Rattle.hfs_volume.specs.TreeOf.{tree_in, bytes_in, valued, BytesOf}
+use Rattle.hfs_volume.specs.TreeOf.{tree_in, bytes_in, bytes_in_fork, valued, BytesOf, ForkBytes}
 use Rattle.hfs_volume.specs.Changes.{PutsBlocks, GrowsFile, with_fork, with_free}
 use Rattle.hfs_volume.specs.Commands.{AreBytesOf, ChangesFields, IsTouched}
 use Rattle.hfs_volume.specs.Laws.{IsUserFile}
@@ -38,12 +39,16 @@ pub record IsRewritten (moment : ℕ) (before after : EntryFields) : Type 0 wher
   pub touched : IsTouched moment 0 0 before after
   pub special : after.special ≡ before.special
 
--- `write` and `trunc`: some blocks of the file's data fork have fresh ones in their place, the header counts the free blocks anew, and the
--- file has new content and attribute dates
-pub record RewritesFile (id from count : ℕ) (fresh : List ℕ) (old new : VolumeState) : Type 0 where
+-- Some blocks of a file's fork have fresh ones in their place, the header counts the free blocks anew, and the file has new content and
+-- attribute dates.
+pub record RewritesFork (id kind from count : ℕ) (fresh : List ℕ) (old new : VolumeState) : Type 0 where
   pub put : VolumeState
-  pub puts : PutsAndCounts id data_kind from count fresh old put
+  pub puts : PutsAndCounts id kind from count fresh old put
   pub dates : ChangesFields id (IsRewritten old.head.modify_date) put new
+
+-- `write` and `trunc` do so with the data fork
+abbrev pub RewritesFile : (id from count : ℕ) → List ℕ → VolumeState → VolumeState → Type 0
+RewritesFile id from count fresh old new = RewritesFork id data_kind from count fresh old new
 
 -- the record of the file before its fork is another one, and after it
 abbrev pub file_before : {id kind from count : ℕ} {fresh : List ℕ} {old new : VolumeState} → PutsAndCounts id kind from count fresh old new → FileRecord
@@ -64,9 +69,13 @@ KeepsFiles id volume bytes_of bytes_after = (p : Placed) (file : FileRecord) →
 abbrev pub KeepsOthers : ℕ → VolumeState → BytesOf → BytesOf → Type 0
 KeepsOthers id volume bytes_of bytes_after = KeepsFiles id volume bytes_of bytes_after × KeepsValues volume bytes_of bytes_after
 
--- The file has the bytes that are made of those that it had, and all others have theirs.
-pub record MakesBytes (make : List ℕ → List ℕ) {id from count : ℕ} {fresh : List ℕ} {old new : VolumeState} (does : RewritesFile id from count fresh old new) (bytes_of bytes_after : BytesOf) : Type 0 where
-  pub made : bytes_after.file (file_after does.puts) ≡ make (bytes_of.file (file_before does.puts))
+-- a file's bytes with those of one fork made of what it had; the other fork has its own
+abbrev pub in_fork : ℕ → (List ℕ → List ℕ) → ForkBytes → ForkBytes
+in_fork kind make bytes = if kind == data_kind then record bytes { data_bytes = make bytes.data_bytes } else record bytes { resource_bytes = make bytes.resource_bytes }
+
+-- The file has in this fork the bytes that are made of those that it had; its other fork and all other files have theirs.
+pub record MakesBytes (make : List ℕ → List ℕ) {id kind from count : ℕ} {fresh : List ℕ} {old new : VolumeState} (does : RewritesFork id kind from count fresh old new) (bytes_of bytes_after : BytesOf) : Type 0 where
+  pub made : bytes_after.file (file_after does.puts) ≡ in_fork kind make (bytes_of.file (file_before does.puts))
   pub others : KeepsOthers id old bytes_of bytes_after
 
 -- Blocks at the end of a fork are cut, and the header counts the free blocks anew: so many are left.
@@ -111,11 +120,11 @@ TruncDoes =
     → to_trunc (tree_in old bytes_of) path size ≡ Ok file → (does : RewritesFile file.id from count fresh old new) → MakesBytes (resized_bytes size) does bytes_of bytes_after
     → IsSoundVolume new × (tree_in new bytes_after ≡ (step (tree_in old bytes_of) (command.Trunc path size)).1)
 
--- A step that cuts blocks past a file's size: the volume is sound, its tree is as it was, and of all forks this one alone is cut.
+-- A step that cuts blocks past the size of a file's fork: the volume is sound, its tree is as it was, and of all forks this one alone is cut.
 abbrev pub ShrunkCut : Type 0
 ShrunkCut =
-    (id left count : ℕ) (old new : VolumeState) (bytes_of bytes_after : BytesOf) → IsSoundVolume old → IsUserFile id old → (does : CutsBlocks id data_kind left count old new) → blocks_wanted old id data_kind ≤ left
-    → bytes_after.file (file_after does.puts) ≡ bytes_of.file (file_before does.puts) → KeepsOthers id old bytes_of bytes_after → IsSoundVolume new × (tree_in new bytes_after ≡ tree_in old bytes_of) × Does (CutShrunk id) old new
+    (id kind left count : ℕ) (old new : VolumeState) (bytes_of bytes_after : BytesOf) → IsSoundVolume old → IsUserFile id old → (does : CutsBlocks id kind left count old new) → blocks_wanted old id kind ≤ left
+    → bytes_after.file (file_after does.puts) ≡ bytes_of.file (file_before does.puts) → KeepsOthers id old bytes_of bytes_after → IsSoundVolume new × (tree_in new bytes_after ≡ tree_in old bytes_of) × CutsAlone id kind (blocks_wanted old id kind) old new
 
 -- A step that cuts blocks of a file that lost its last name: the same, whatever its bytes are.
 abbrev pub OrphanCut : Type 0
@@ -123,12 +132,12 @@ OrphanCut =
     (entry : Placed) (kind left count : ℕ) (old new : VolumeState) (bytes_of bytes_after : BytesOf) → IsSoundVolume old → Contains (orphans_of (records_of old)) entry → CutsBlocks (id_of entry) kind left count old new
     → KeepsOthers (id_of entry) old bytes_of bytes_after → IsSoundVolume new × (tree_in new bytes_after ≡ tree_in old bytes_of) × Does (CutOrphan (id_of entry) kind) old new
 
--- `write` and `trunc` that put data: the file's data fork has the new blocks in place of the old ones from the first that is written on, and
--- every other fork of a file has the blocks that it had.
+-- Data that is put into a fork: it has the new blocks in place of the old ones from the first that is written on, and every other fork of a
+-- file has the blocks that it had.
 abbrev pub RewritePuts : Type 0
 RewritePuts =
-    (put : Data) (fresh : List ℕ) (old new : VolumeState) → IsSoundVolume old → IsUserFile put.id old
-    → RewritesFile put.id (first_block old.head.block_size put) (old_blocks_of old.head.block_size put) fresh old new → length fresh ≡ new_blocks_of old.head.block_size put → PutsInFork (Some put) old new
+    (kind : ℕ) (put : Data) (fresh : List ℕ) (old new : VolumeState) → IsSoundVolume old → IsUserFile put.id old
+    → RewritesFork put.id kind (first_block old.head.block_size put) (old_blocks_of old.head.block_size put) fresh old new → length fresh ≡ new_blocks_of old.head.block_size put → PutsInForkOf kind (Some put) old new
 
 -- Where they put none, every fork of a file has the blocks that it had.
 abbrev pub RewriteKeepsBlocks : Type 0
@@ -150,9 +159,15 @@ IsPutSector content at =
     IsFreeSector content at ⊎ (Contains (reserved_blocks (volume_of content).sectors (volume_of content).head) (at / per_block_of (header_of_volume content))
     ⊎ ((owned : Owned) × Contains (special_forks (volume_of content).head) owned × Contains (blocks_owned (overflow_in_volume (volume_of content)) owned) (at / per_block_of (header_of_volume content))))
 
+-- every fork of a file but this one has the bytes that it had
+abbrev pub KeepsForksBut : ℕ → ℕ → Content → Content → Type 0
+KeepsForksBut id kind content other =
+    (p : Placed) (file : FileRecord) → Contains (entries_of (records_of (volume_of content))) p → p.value ≡ File file → (owned : Owned) → owned.id ≡ file.fields.id → Contains (forks_of (volume_of content)) owned → is_fork id kind owned ≡ false
+    → bytes_in_fork other owned.id owned.kind owned.fork ≡ bytes_in_fork content owned.id owned.kind owned.fork
+
 -- Contents before and after blocks of a file's fork are others, which differ in such sectors alone: every other file has the bytes that it
--- had.
+-- had, and so has the file's other fork.
 abbrev pub OthersKeepBytes : Type 0
 OthersKeepBytes =
     (id kind from count : ℕ) (fresh : List ℕ) (content other : Content) (put : VolumeState) → IsSound content → PutsAndCounts id kind from count fresh (volume_of content) put → (volume_of other).head ≡ put.head
-    → (volume_of other).overflow_pairs ≡ put.overflow_pairs → AgreesOutside (IsPutSector content) content other → KeepsOthers id (volume_of content) (bytes_in content) (bytes_in other)
+    → (volume_of other).overflow_pairs ≡ put.overflow_pairs → AgreesOutside (IsPutSector content) content other → KeepsOthers id (volume_of content) (bytes_in content) (bytes_in other) × KeepsForksBut id kind content other

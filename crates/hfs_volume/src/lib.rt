@@ -1,6 +1,7 @@
 //! Whole volumes: when one is sound, which tree it tells, what commands take of it and change in it, and the laws of these.
 #![tactic(auto)]
 
+mod asked;
 mod cost;
 mod laws;
 mod laws_aside;
@@ -8,6 +9,7 @@ mod laws_attributes;
 mod laws_blocks;
 mod laws_changes;
 mod laws_findings;
+mod laws_kinds;
 mod laws_names;
 mod laws_reclaiming;
 mod laws_steps;
@@ -15,6 +17,7 @@ mod laws_values;
 mod laws_writing;
 mod summary;
 
+pub use asked::Asked;
 pub use cost::{Cost, Needs, Room, TreeCost, ValueChange};
 pub use laws::{
     chmod_does_its_step, create_does_its_step, entry_may_join, header_may_change,
@@ -31,6 +34,7 @@ pub use laws_changes::{
     attribute_may_be_added, entry_may_be_added, entry_may_be_moved, entry_may_be_removed,
 };
 pub use laws_findings::{no_finding_is_sound, sound_has_no_finding};
+pub use laws_kinds::{rwrite_does_its_step, symlink_does_its_step};
 pub use laws_names::{ln_does_its_step, mv_does_its_step, rm_does_its_step};
 pub use laws_reclaiming::{
     reclaim_drops_an_attribute, reclaim_drops_an_entry, reclaim_drops_attributes_of_orphans,

@@ -126,11 +126,15 @@ fn tell_all(
 
 // The names that the image's catalog tells.
 fn names_of(rt: &HostRuntime, image: &str) -> Result<Names, AllocError> {
-    let survey = match ImageSectors::open(rt, image) {
-        Ok(mut source) => read_survey(rt.alloc(), &mut source)?,
-        Err(_) => None,
+    let Ok(mut source) = ImageSectors::open(rt, image) else {
+        return Names::new(rt.alloc(), None, 0);
     };
-    Names::new(rt.alloc(), survey)
+    let survey = read_survey(rt.alloc(), &mut source)?;
+    let unerased = match &survey {
+        Some(survey) => survey.unerased(rt.alloc(), &mut source)?,
+        None => 0,
+    };
+    Names::new(rt.alloc(), survey, unerased)
 }
 
 // Findings in order, with those that a repair would leave: some are judged only where the first ones are mended.

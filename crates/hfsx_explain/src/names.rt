@@ -18,6 +18,8 @@ struct Used {
 pub(crate) struct Names {
     alloc: Global,
     survey: Option<Survey>,
+    /// Free nodes of the catalog that aren't zero, though the header says so.
+    unerased: u64,
     files: BTreeMap<u32, usize>,
     used: Vec<Used>,
 }
@@ -25,8 +27,12 @@ pub(crate) struct Names {
 const ROOT: u64 = 2;
 
 impl Names {
-    /// The names that a survey tells.
-    pub(crate) fn new(alloc: Global, survey: Option<Survey>) -> Result<Names, AllocError> {
+    /// The names that a survey tells, of a volume with so many free nodes of its catalog that aren't zero, though its header says so.
+    pub(crate) fn new(
+        alloc: Global,
+        survey: Option<Survey>,
+        unerased: u64,
+    ) -> Result<Names, AllocError> {
         let mut files = BTreeMap::new(alloc);
         let mut used = Vec::new(alloc);
         if let Some(found) = &survey {
@@ -46,15 +52,16 @@ impl Names {
         Ok(Names {
             alloc,
             survey,
+            unerased,
             files,
             used,
         })
     }
 
-    /// The notes on what macOS shows otherwise than lines do.
+    /// The notes on what macOS shows otherwise than lines do, and on free nodes that aren't zero.
     pub(crate) fn notes(&self) -> Result<Vec<Note>, AllocError> {
         match &self.survey {
-            Some(survey) => notes_of(self.alloc, survey),
+            Some(survey) => notes_of(self.alloc, survey, self.unerased),
             None => Ok(Vec::new(self.alloc)),
         }
     }

@@ -1,4 +1,5 @@
-//! What of a sound volume macOS shows otherwise than lines do: further names of folders, symbolic links, resource forks, compressed bytes.
+//! What of a sound volume macOS shows otherwise than lines do: further names of folders, symbolic links, resource forks, compressed bytes;
+//! and free nodes of the catalog that aren't zero, though the header says so.
 
 use crate::names::shown;
 use salvage_tree::{
@@ -31,8 +32,12 @@ const FOLDERS: [u16; 29] = [
     0x72, 0x65, 0x63, 0x74, 0x6F, 0x72, 0x79, 0x20, 0x44, 0x61, 0x74, 0x61, 0x0D,
 ];
 
-/// The notes on a volume.
-pub(crate) fn notes_of(alloc: Global, survey: &Survey) -> Result<Vec<Note>, AllocError> {
+/// The notes on a volume with so many free nodes of its catalog that aren't zero, though its header says so.
+pub(crate) fn notes_of(
+    alloc: Global,
+    survey: &Survey,
+    unerased: u64,
+) -> Result<Vec<Note>, AllocError> {
     let mut notes = Vec::new(alloc);
     let catalog = &survey.catalog;
     for (id, folder) in catalog.folders.iter() {
@@ -53,6 +58,12 @@ pub(crate) fn notes_of(alloc: Global, survey: &Survey) -> Result<Vec<Note>, Allo
         }
     }
     counts.tell(alloc, &mut notes)?;
+    if unerased > 0 {
+        let text = format!(in alloc;
+            "the header says that free nodes of the catalog are zero, and {unerased} aren't; the next run clears what it says"
+        )?;
+        notes.push(without_path("free nodes", text))?;
+    }
     Ok(notes)
 }
 

@@ -8,6 +8,7 @@ use Rattle.jnl_format.specs.Recovery.{Content, header_of_volume, recovery}
 use Rattle.hfs_volume.specs.Sound.{IsSound}
 use Rattle.hfs_volume.specs.declared.summary.Summary.{Summary}
 use Rattle.fsck_list.specs.declared.finding.Finding.{Finding}
+use Rattle.fsck_core.specs.Rules.{EachRule}
 use Rattle.fsck_core.specs.Verdicts.{IsCounted, KeepsEarly, findings_in, is_clean}
 use Rattle.fsck_core.specs.Wants.{as_found}
 use Rattle.fsck_list.specs.Kept.{IsListed}
@@ -60,6 +61,7 @@ told_broken old mid new list judged same faults told = record {
   list = list;
   some = none_clean list judged.2.some;
   broken = judged.2.broken;
+  each_rule = judged.2.each_rule;
   listed = judged.2.listed;
   told = told_from old mid new (findings_text list) same faults told;
 }
@@ -68,10 +70,10 @@ told_broken old mid new list judged same faults told = record {
 
 -- what is said of each verdict clause by clause
 pub judges_of : {E : Type 0} (c : Content) (r : Result Verdict E) → IfOk r (λ found. IsTrue (is_clean found) ↔ IsSound c) → IfOk r (IsCounted (volume_of c)) → IfOk r (λ found. IsTrue (is_clean found) ⊎ (0 < length (findings_in found)))
-    → IfOk r (λ found. (f : Finding) → Contains (findings_in found) f → IsBroken c (as_found f))
+    → IfOk r (λ found. (f : Finding) → Contains (findings_in found) f → IsBroken c (as_found f)) → IfOk r (λ found. EachRule c (findings_in found))
     → (KeepsEarly c → IfOk r (λ found. (f : Finding) → 11 ≤ f.rule → f.rule ≤ 14 → IsBroken c (as_found f) → IsListed (findings_in found) f)) → IfOk r (Judges c)
-judges_of c (Ok found) sound counted some broken listed = record { sound = sound; counted = counted; some = some; broken = broken; listed = listed }
-judges_of c (Err e) sound counted some broken listed = tt
+judges_of c (Ok found) sound counted some broken rules listed = record { sound = sound; counted = counted; some = some; broken = broken; each_rule = rules; listed = listed }
+judges_of c (Err e) sound counted some broken rules listed = tt
 
 -- what an image stands for whose header was read, and accepted, and whose journal was found
 pub stands_for : (c : Content) (head : VolumeHeader) (sectors : ℕ) (recovered : Content) → head ≡ header_of_volume c → header_refusal head sectors ≡ None → length c ≡ sectors → recovery c ≡ Ok recovered → StandsFor c recovered

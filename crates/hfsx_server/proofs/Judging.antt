@@ -41,6 +41,7 @@ judged_is start mend (verdict.Findings list) folds repair counted each says = (
     unsound = λ sound. not_clean false refl (says.sound.1 sound);
     some = none_clean list says.some;
     broken = says.broken;
+    each_rule = says.each_rule;
     listed = says.listed;
   },
 )

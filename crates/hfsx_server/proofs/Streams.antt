@@ -37,10 +37,11 @@ use Rattle.hfs_model.specs.Plain.{fresh_tree}
 use Rattle.hfs_model.specs.Step.{Step, facts_of, is_private, is_refusal, linked, made, marked, moved_over, on, removed, removed_folder, resized, step, step_line, to_attribute, to_file, to_folder, to_link, to_make, to_mv, to_node, to_read, to_rm, to_rmdir, to_set, to_trunc, to_value, to_write, written}
 use Rattle.hfs_model.specs.declared.plain.PlainTree.{PlainTree}
 use Rattle.hfs_serving.specs.Ending.{FinishesRun}
+use Rattle.hfs_volume.specs.declared.asked.Asked.{Asked}
 use Rattle.hfs_volume.specs.Mount.{Mounts, MountsTo}
 use Rattle.hfs_volume.specs.TreeOf.{tree_of}
 use Rattle.stream_gen.specs.Stream.{eight_digits, folder_of, line_of, value_of}
-use Rattle.volume_runs.specs.Run.{Entry, IsAnswered, IsRun, IsRunFrom, IsServed, LacksMemory, LacksResource, asked_by, lines_of, replies_of, reply_to, shrunk_after, tree_after}
+use Rattle.volume_runs.specs.Run.{Entry, IsAnswered, IsRun, IsRunFrom, IsServed, LacksMemory, LacksResource, asked_by, lines_of, replies_of, reply_to, shrunk_after, tree_after, ArePlain, IsServedBy, asked_in}
 use Rattle.hfsx_server.specs.Checking.{IsSoundImage}
 use Rattle.hfsx_server.specs.Made.{IsMade}
 use Rattle.hfsx_server.specs.Playing.{HasPlayed, Plays, ServesBytes, no_run, number_done, number_refused, one_run, stream_from, stream_of, tallied, tallied_byte}
@@ -270,11 +271,14 @@ named_reply capacity content (Ok (command.LsAttr p)) bare = named_line (tree_of 
 named_reply capacity content (Ok (command.At n)) bare = named_line (tree_of content) (command.At n) (bare (command.At n) refl)
 named_reply capacity content (Ok command.Sync) bare = named_line (tree_of content) command.Sync (bare command.Sync refl)
 
-named_entry : (capacity : ℕ) (entry : Entry) → IsServed capacity entry → IsQuiet entry.line → HasNames entry.reply
-named_entry capacity entry served quiet = by served.is
+named_entry : (capacity : ℕ) (entry : Entry) → entry.own ≡ None → IsServed capacity entry → IsQuiet entry.line → HasNames entry.reply
+named_entry capacity entry plain served quiet = by (subst (λ (own : Option Asked). IsServedBy capacity own entry) plain served.is)
   where
+    asks : asked_by entry ≡ command_of entry.line
+    asks = ap (λ (own : Option Asked). asked_in own entry.line) plain
+
     by : IsAnswered capacity entry ⊎ (LacksResource capacity entry ⊎ LacksMemory capacity entry) → HasNames entry.reply
-    by (inl answered) = subst HasNames (sym answered.reply_is) (named_reply capacity entry.before (asked_by entry) (λ one is. quiet_command entry.line one quiet is))
+    by (inl answered) = subst HasNames (sym answered.reply_is) (named_reply capacity entry.before (asked_by entry) (λ one is. quiet_command entry.line one quiet (sym asks ∙ is)))
     by (inr (inl lacks)) = subst HasNames (sym lacks.reply_is) tt
     by (inr (inr lacks)) = subst HasNames (sym lacks.reply_is) tt
 
@@ -284,14 +288,18 @@ AreNamed : List Entry → Type 0
 AreNamed [] = Unit {0}
 AreNamed (entry ∷ run) = HasNames entry.reply × AreNamed run
 
-named_run : (capacity : ℕ) (shrunk : Option ℕ) (content : Content) (run : List Entry) (all : List (List ℕ)) → IsRunFrom capacity shrunk content run → lines_of run ≡ all → AreGood all → AreNamed run
+named_run : (capacity : ℕ) (shrunk : Option ℕ) (content : Content) (run : List Entry) (all : List (List ℕ)) → IsRunFrom capacity shrunk content run → ArePlain run → lines_of run ≡ all → AreGood all → AreNamed run
 unfolding AreNamed AreGood
-named_run capacity shrunk content [] all is asked are = tt
-named_run capacity shrunk content (entry ∷ run) [] is asked are = absurd (cc asked)
-named_run capacity shrunk content (entry ∷ run) (line ∷ all) is asked are =
+named_run capacity shrunk content [] all is plain asked are = tt
+named_run capacity shrunk content (entry ∷ run) [] is plain asked are = absurd (cc asked)
+named_run capacity shrunk content (entry ∷ run) (line ∷ all) is plain asked are =
     let first : entry.line ≡ line = cc asked in
     let rest : lines_of run ≡ all = cc asked in
-    (named_entry capacity entry is.1 (subst IsQuiet (sym first) are.0.1), named_run capacity (shrunk_after shrunk entry) entry.after run all is.2 rest are.1)
+    (named_entry capacity entry plain.0 is.1 (subst IsQuiet (sym first) are.0.1), named_run capacity (shrunk_after shrunk entry) entry.after run all is.2 plain.1 rest are.1)
+
+plain_both : (run more : List Entry) → ArePlain run → ArePlain more → ArePlain (run ++ more)
+plain_both [] more first second = second
+plain_both (entry ∷ run) more first second = (first.0, plain_both run more first.1 second)
 
 tally_with : Bool → ℕ → ℕ → Tally
 tally_with begins done refused = record { begins = begins; done = done; refused = refused }
@@ -397,7 +405,7 @@ module _ (seed first end : ℕ) (order : first ≤ end) (most : end ≤ 18446744
   unfolding tally_with
   tally_is =
       ap (tallied (record { begins = true; done = old.done; refused = old.refused })) serves.replies
-      ∙ run_tallied serves.run (named_run serves.capacity None serves.start serves.run (stream_from seed first (end - first)) serves.run_is asked_here (stream_good seed first (end - first))) old.done old.refused
+      ∙ run_tallied serves.run (named_run serves.capacity None serves.start serves.run (stream_from seed first (end - first)) serves.run_is serves.plain asked_here (stream_good seed first (end - first))) old.done old.refused
       (omega (arith, order, most, long_before, long_here, all_numbered played.run, played.done, played.refused))
 
   pub part_played : (new : Stage) → new.image.sectors.items ≡ image → (tally : Tally) → tally ≡ tallied (record { begins = true; done = old.done; refused = old.refused }) told → new.done ≡ tally.done → new.refused ≡ tally.refused → HasPlayed seed end new
@@ -407,6 +415,7 @@ module _ (seed first end : ℕ) (order : first ≤ end) (most : end ≤ 18446744
         run = played.run ++ serves.run;
         tree = tree_after serves.start serves.run;
         plays = one_run fresh_tree played.run serves.capacity serves.start serves.run (subst (λ (t : PlainTree). Plays fresh_tree played.run t) (sym serves.begins) played.plays) serves.run_is;
+        plain = plain_both played.run serves.run played.plain serves.plain;
         asked =
             map-append (λ (e : Entry). e.line) played.run serves.run ∙ (λ i. played.asked i ++ asked_here i) ∙ sym (stream_both seed first (end - first))
             ∙ ap (stream_from seed 0) whole;
@@ -418,7 +427,7 @@ module _ (seed first end : ℕ) (order : first ≤ end) (most : end ≤ 18446744
 -- none was played yet
 pub nothing_played : (seed : ℕ) (stage : Stage) → stage.done ≡ 0 → stage.refused ≡ 0 → MountsTo stage.image.sectors.items fresh_tree → HasPlayed seed 0 stage
 unfolding stream_from number_done number_refused
-nothing_played seed stage done refused mounts = record { run = []; tree = fresh_tree; plays = no_run fresh_tree; asked = refl; done = done; refused = refused; mounts = mounts }
+nothing_played seed stage done refused mounts = record { run = []; tree = fresh_tree; plays = no_run fresh_tree; plain = tt; asked = refl; done = done; refused = refused; mounts = mounts }
 
 pub played_at : (seed m n : ℕ) (stage : Stage) → m ≡ n → HasPlayed seed m stage → HasPlayed seed n stage
 played_at seed m n stage same played = subst (λ (k : ℕ). HasPlayed seed k stage) same played
@@ -443,6 +452,7 @@ module _ (image : Content) (old new : State) (tree : PlainTree) (starts : Starts
     run = finishes.run;
     begins = mounts.3;
     run_is = finishes.keeps.run_is;
+    plain = finishes.keeps.plain;
     asked = finishes.all hands.tells ∙ ap lines hands.left;
     replies = is ∙ finishes.told ∙ ap (λ (l : List ℕ). l ++ replies_of finishes.run) starts.told;
     mounts = subst (λ (c : Content). MountsTo c (tree_after mounts.1 finishes.run)) (sym (image_is new left finishes.unmounted.away.settled leaves)) finishes.unmounted.mounts;

@@ -9,6 +9,7 @@ use Rattle.hfs_volume.specs.Sound.{IsSound}
 use Rattle.hfs_volume.specs.declared.summary.Summary.{Summary}
 use Rattle.fsck_list.specs.Kept.{IsListed}
 use Rattle.fsck_list.specs.declared.finding.Finding.{Finding}
+use Rattle.fsck_core.specs.Rules.{EachRule}
 use Rattle.fsck_core.specs.Verdicts.{HasNumbers, IsCounted, KeepsEarly, findings_in, is_clean}
 use Rattle.fsck_core.specs.Wants.{as_found}
 use Rattle.fsck_core.specs.declared.checking.Verdict.{Verdict}
@@ -50,6 +51,7 @@ pub record Judges (recovered : Content) (verdict : Verdict) : Type 0 where
   pub counted : IsCounted (volume_of recovered) verdict
   pub some : IsTrue (is_clean verdict) ⊎ (0 < length (findings_in verdict))
   pub broken : (f : Finding) → Contains (findings_in verdict) f → IsBroken recovered (as_found f)
+  pub each_rule : EachRule recovered (findings_in verdict)
   pub listed : KeepsEarly recovered → (f : Finding) → 11 ≤ f.rule → f.rule ≤ 14 → IsBroken recovered (as_found f) → IsListed (findings_in verdict) f
 
 -- the verdict is that on what the image stands for
@@ -65,14 +67,15 @@ pub record ToldSound (old new : State) : Type 0 where
   pub numbers : HasNumbers (volume_of recovered) summary
   pub told : new.told ≡ old.told ++ clean_text summary
 
--- The image stands for a content that isn't sound, and findings were told, at least one, of which each is broken there. Where none of the first ten rules
--- is broken, each place that breaks rules 11 to 14 is listed, or the list is full.
+-- The image stands for a content that isn't sound, and findings were told, at least one, of which each is broken there, and one of each broken rule that
+-- can be judged. Where none of the first ten rules is broken, each place that breaks rules 11 to 14 is listed, or the list is full.
 pub record ToldBroken (old new : State) : Type 0 where
   pub recovered : Content
   pub stands : StandsFor (content old) recovered
   pub list : List Finding
   pub some : 0 < length list
   pub broken : (f : Finding) → Contains list f → IsBroken recovered (as_found f)
+  pub each_rule : EachRule recovered list
   pub listed : KeepsEarly recovered → (f : Finding) → 11 ≤ f.rule → f.rule ≤ 14 → IsBroken recovered (as_found f) → IsListed list f
   pub told : ToldUnlessFailed old new (findings_text list)
 

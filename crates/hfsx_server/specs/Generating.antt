@@ -4,7 +4,7 @@ use Rattle.sector_disk.specs.Disk.{State}
 use Rattle.hfs_language.specs.Text.{field}
 use Rattle.hfs_model.specs.Plain.{fresh_tree}
 use Rattle.hfs_model.specs.declared.plain.PlainTree.{PlainTree}
-use Rattle.volume_runs.specs.Run.{Entry, lines_of}
+use Rattle.volume_runs.specs.Run.{Entry, lines_of, ArePlain}
 use Rattle.hfsx_server.specs.declared.generating.Played.{Played}
 use Rattle.hfsx_server.specs.Playing.{Plays, number_done, number_refused, stream_of}
 use Rattle.hfsx_server.specs.declared.status.Status.{Status}
@@ -29,6 +29,7 @@ pub record IsPlayed (seed count : ℕ) (played : Played) : Type 0 where
   pub run : List Entry
   pub tree : PlainTree
   pub plays : Plays fresh_tree run tree
+  pub plain : ArePlain run
   pub asked : lines_of run ≡ stream_of seed count
   pub done : played.done ≡ number_done run
   pub refused : played.refused ≡ number_refused run

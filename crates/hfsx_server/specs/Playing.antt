@@ -9,7 +9,7 @@ use Rattle.hfs_model.specs.declared.plain.PlainTree.{PlainTree}
 use Rattle.hfs_volume.specs.Mount.{MountsTo}
 use Rattle.hfs_volume.specs.TreeOf.{tree_of}
 use Rattle.stream_gen.specs.Stream.{line_of}
-use Rattle.volume_runs.specs.Run.{Entry, IsRun, lines_of, replies_of, tree_after}
+use Rattle.volume_runs.specs.Run.{Entry, IsRun, lines_of, replies_of, tree_after, ArePlain}
 use Rattle.hfsx_server.specs.declared.playing.Stage.{Stage}
 use Rattle.hfsx_server.specs.declared.playing.Tally.{Tally}
 
@@ -64,6 +64,7 @@ pub record ServesBytes (old : PlainTree) (bytes told : List ℕ) (image : Conten
   pub run : List Entry
   pub begins : tree_of start ≡ old
   pub run_is : IsRun capacity start run
+  pub plain : ArePlain run
   pub asked : lines_of run ≡ lines bytes
   pub replies : told ≡ replies_of run
   pub mounts : MountsTo image (tree_after start run)
@@ -73,6 +74,7 @@ pub record HasPlayed (seed count : ℕ) (stage : Stage) : Type 0 where
   pub run : List Entry
   pub tree : PlainTree
   pub plays : Plays fresh_tree run tree
+  pub plain : ArePlain run
   pub asked : lines_of run ≡ stream_of seed count
   pub done : stage.done ≡ number_done run
   pub refused : stage.refused ≡ number_refused run

@@ -17,6 +17,7 @@ use Rattle.fsck_repair.specs.Renewing.{FitInto, IsSoundRepair}
 use Rattle.fsck_repair.specs.declared.mend.Mend.{Mend}
 use Rattle.fsck_list.specs.Kept.{IsListed}
 use Rattle.fsck_list.specs.declared.finding.Finding.{Finding}
+use Rattle.fsck_core.specs.Rules.{EachRule}
 use Rattle.fsck_core.specs.Verdicts.{KeepsEarly}
 use Rattle.fsck_core.specs.Wants.{as_found}
 use Rattle.fsck_core.specs.declared.checking.Verdict.{Verdict}
@@ -49,14 +50,15 @@ repair_text (refusal.TooBig sectors capacity) = refused_text (codes "TooBig") (s
 
 -- ---- what an image is to a repair
 
--- The repair of a content isn't sound. These were found of it, at least one, of which each is broken there; where none of the first ten rules is broken,
--- each place that breaks rules 11 to 14 is listed, or the list is full.
+-- The repair of a content isn't sound. These were found of it, at least one, of which each is broken there, and one of each broken rule that can be judged;
+-- where none of the first ten rules is broken, each place that breaks rules 11 to 14 is listed, or the list is full.
 pub record StaysBroken (start : Content) (list : List Finding) : Type 0 where
   pub mended : Content
   pub repair : IsRepair start mended
   pub unsound : ¬ IsSound mended
   pub some : 0 < length list
   pub broken : (f : Finding) → Contains list f → IsBroken mended (as_found f)
+  pub each_rule : EachRule mended list
   pub listed : KeepsEarly mended → (f : Finding) → 11 ≤ f.rule → f.rule ≤ 14 → IsBroken mended (as_found f) → IsListed list f
 
 -- The content has a sound repair, which differs in so many sectors.

@@ -2,19 +2,16 @@
 ghost use Rattle.std.specs.Prelude.{◌≡◌, IsTrue, IfOk, IfErr, None, Ok};
 ghost use Rattle.sector_disk.specs.Disk.{OnlyReads, content};
 ghost use Rattle.volume_header.specs.Refusal.{header_refusal};
-ghost use Rattle.jnl_format.specs.Recovery.{header_of_volume, info_sector_of, recovery, replayed};
+ghost use Rattle.jnl_format.specs.Recovery.{header_of_volume, recovery, replayed};
 ghost use Rattle.jnl_replay.specs.Plan.{FitsPlan, IsPlan, journal_of};
 ghost use Rattle.hfsx_server.specs.Cause.{IsCause};
 ghost use Rattle.hfsx_server.specs.Checking.{IsCheckFault};
 
 use crate::faults::CheckFault;
 use hfs_serving::OpenRefusal;
-use jnl_replay::{Place, Plan, ReplayFault, validate};
+use jnl_replay::{Plan, ReplayFault, find_volume_header, place_of, validate};
 use sector_disk::SectorDisk;
-use volume_header::{HeaderRefusal, VolumeHeader, read_header};
-
-/// The sector of the volume header.
-const HEADER: u64 = 2;
+use volume_header::{HeaderRefusal, VolumeHeader};
 
 /// The volume header, where it is accepted.
 pub(crate) fn find_header<D: SectorDisk>(disk: &mut D) -> Result<VolumeHeader, CheckFault>
@@ -24,13 +21,8 @@ pub(crate) fn find_header<D: SectorDisk>(disk: &mut D) -> Result<VolumeHeader, C
     ensures reads { OnlyReads (D.state disk.old) (D.state disk.new) }
     ensures cause { IsCause CheckFault.Disk (D.state disk.old).faults (D.state disk.new).faults result }
 {
-    let sectors = disk.sectors();
-    if sectors <= HEADER {
-        return Err(refused_header(HeaderRefusal::LimitSectors(sectors)));
-    }
-    let mut sector = [0; 512];
-    disk.read(HEADER, &mut sector)?;
-    match read_header(&sector, sectors) {
+    let found = find_volume_header(disk)?;
+    match found {
         Ok(header) => Ok(header),
         Err(why) => Err(refused_header(why)),
     }
@@ -40,16 +32,6 @@ fn refused_header(why: HeaderRefusal) -> CheckFault
     ensures { result ≡ CheckFault.Refused (OpenRefusal.Header why) }
 {
     CheckFault::Refused(OpenRefusal::Header(why))
-}
-
-// Where the header says that the journal is.
-fn place_of(header: &VolumeHeader) -> Place
-    ensures { result ≡ record { info_sector = info_sector_of header.now; last_mounted = header.now.last_mounted_version } }
-{
-    Place {
-        info_sector: u64::from(header.journal_info_block) * u64::from(header.block_size / 512),
-        last_mounted: header.last_mounted_version,
-    }
 }
 
 /// The plan of the journal's replay, where it has no fault.

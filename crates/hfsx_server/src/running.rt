@@ -1,5 +1,5 @@
 // A volume that is mounted, served to the end of a source, and unmounted.
-ghost use Rattle.std.specs.Prelude.{◌≡◌, ◌≢◌, ◌⊎◌, ◌≤◌, ◌<◌, [], ℕ, List, IsTrue, false, length};
+ghost use Rattle.std.specs.Prelude.{◌≡◌, ◌≢◌, ◌⊎◌, ◌≤◌, ◌<◌, ◌/◌, [], ℕ, List, IsTrue, false, length, min, max};
 ghost use Rattle.std.specs.List.{AllByRecursion};
 ghost use Rattle.sector_disk.specs.Disk.{SameDisk, HasNothingPending, content};
 ghost use Rattle.jnl_format.specs.Recovery.{Content};
@@ -25,8 +25,10 @@ use served_volume::{ServedVolume, VolumeChecker};
 use std::alloc::Global;
 use watchers::Watcher;
 
-/// How many sectors of the volume are held in memory.
-pub(crate) const SLOTS: u32 = 1_024;
+// How many sectors of a volume are held in memory at least, and at most: half a MiB and 8 MiB.
+const FEWEST_SLOTS: u64 = 1_024;
+
+const MOST_SLOTS: u64 = 16_384;
 
 /// Mounts a volume, serves it to the end of a source, and unmounts it. A refused image isn't written. Watchers are told what lines changed.
 pub fn run<R: Rig, S: LineSource, W: Watcher>(
@@ -55,7 +57,10 @@ pub fn run<R: Rig, S: LineSource, W: Watcher>(
     // Done, each batch has made one commit: beside these the disk passed eight barriers at most ahead of the first batch and six behind the last, and those of
     // commits that a step wanted, for room, for blocks that are held until then or for zero blocks, or that were made since memory was missing for a step.
     ensures commits { IsTrue (R.state rig.old).tells → result ≡ Status.Done → (count : ℕ) × (IsTrue (S.stream source.old).tells → count ≡ length (lines (S.stream source.old).left))
-        × CommitsRun (WantsOver ServedWants R.state) 9 8 count (R.state rig.old).barriers (R.state rig.new).barriers }
+        × CommitsRun (WantsOver ServedWants R.state) 9 8 1 count (R.state rig.old).barriers (R.state rig.new).barriers }
+    // Where a fault ended it, so has each batch before, and the one that was cut short made no more.
+    ensures cut { IsTrue (R.state rig.old).tells → result ≢ Status.Done → result ≢ Status.Refused → (count : ℕ) × (IsTrue (S.stream source.old).tells → count ≤ length (lines (S.stream source.old).left))
+        × CommitsRun (WantsOver ServedWants R.state) 9 8 2 count (R.state rig.old).barriers (R.state rig.new).barriers }
     ensures no_usage { result ≢ Status.Usage }
     ensures disk { IsCauseOf Status.Disk (R.state rig.old).faults (R.state rig.new).faults result }
     ensures source { IsCauseOf Status.Source (S.stream source.old).faults (S.stream source.new).faults result }
@@ -64,10 +69,11 @@ pub fn run<R: Rig, S: LineSource, W: Watcher>(
     ensures same_source { SameSource (S.stream source.old) (S.stream source.new) }
 {
     let mut checker = VolumeChecker::new(alloc);
+    let slots = slots_for(rig.sectors());
     match serve_image::<ServedVolume, VolumeChecker, R, W, S>(
         alloc,
         &mut checker,
-        SLOTS,
+        slots,
         rig,
         watchers,
         source,
@@ -79,6 +85,13 @@ pub fn run<R: Rig, S: LineSource, W: Watcher>(
         }
         Err(stop) => status_of(stop),
     }
+}
+
+// How many sectors of a volume of this size are held in memory: one in thirty-two, within bounds.
+pub(crate) fn slots_for(sectors: u64) -> u32
+    ensures { result ≡ min 16384 (max 1024 (sectors / 32)) }
+{
+    (sectors / 32).max(FEWEST_SLOTS).min(MOST_SLOTS) as u32
 }
 
 // The status of a run that ended before its last line.

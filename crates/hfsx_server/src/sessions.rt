@@ -20,7 +20,7 @@ ghost use Rattle.hfsx_server.specs.Sessions.{ServesSessions};
 ghost use Rattle.hfsx_server.specs.Telling.{Tells, taken_text};
 
 use crate::refusal::tell_refused;
-use crate::running::{SLOTS, status_of};
+use crate::running::{slots_for, status_of};
 use crate::{Status, tell_mount};
 use hfs_serving::{find_image, serve_found};
 use hx_bytes::Trouble;
@@ -74,11 +74,12 @@ pub fn serve_sessions<R: Rig, S: LineSource, W: Watcher>(
         Err(trouble) => return trouble_status(trouble),
     };
     let mut speaker = Sessions::new(alloc, files);
+    let slots = slots_for(rig.sectors());
     match serve_found::<ServedVolume, R, W, S, Sessions>(
         alloc,
         &mut speaker,
         plan,
-        SLOTS,
+        slots,
         rig,
         watchers,
         source,

@@ -4,7 +4,7 @@ use hx_bytes::OutOfMemory;
 use mem_disk::MemRig;
 use std::alloc::Global;
 use std::test::Fail;
-use test_kit::{fresh_rig, has_written, run_on, set_bytes};
+use test_kit::{fresh_rig, has_written, run_on, set_bytes, stopped_rig};
 
 const CLEAN: &str = "clean files 2 folders 0 blocks 2048 free 1692\n";
 
@@ -34,50 +34,37 @@ fn a_volume_of_another_size_is_clean(rt: HostRuntime) -> Result<(), Fail> {
     Ok(())
 }
 
+// Whether a check finds a volume clean, and tells this, on which these lines were served.
+fn finds_clean(alloc: Global, lines: &[u8], told: &str) -> Result<bool, OutOfMemory> {
+    let mut rig = fresh_rig(alloc)?;
+    run_on(alloc, "run v.img", &mut rig, lines)?;
+    finds(alloc, &mut rig, Status::Done, told)
+}
+
 #[test]
 fn folders_are_counted(rt: HostRuntime) -> Result<(), Fail> {
-    let alloc = rt.alloc();
-    let mut rig = fresh_rig(alloc)?;
-    run_on(
-        alloc,
-        "run v.img",
-        &mut rig,
-        b"mkdir /a\nmkdir /a/b\ncreate /a/b/c\n",
-    )?;
+    let lines = b"mkdir /a\nmkdir /a/b\ncreate /a/b/c\n";
     let told = "clean files 3 folders 2 blocks 2048 free 1692\n";
-    assert!(rt; finds(alloc, &mut rig, Status::Done, told)?);
+    assert!(rt; finds_clean(rt.alloc(), lines, told)?);
     Ok(())
 }
 
 // Files that lost their names go, with their blocks and attributes, also where the run ends behind that; the folder in which they waited stays.
 #[test]
 fn files_without_a_name_are_given_back(rt: HostRuntime) -> Result<(), Fail> {
-    let alloc = rt.alloc();
-    let mut rig = fresh_rig(alloc)?;
-    run_on(
-        alloc,
-        "run v.img",
-        &mut rig,
-        b"create /a\ncreate /b\nsetattr /b k =v\nsetattr /b l =w\nmkdir /d\ncreate /d/c\nwrite /d/c 5000 =x\nrm /b\nrm /a\nrm /d/c\n",
-    )?;
+    let lines =
+        b"create /a\ncreate /b\nsetattr /b k =v\nsetattr /b l =w\nmkdir /d\ncreate /d/c\nwrite /d/c 5000 =x\nrm /b\nrm /a\nrm /d/c\n";
     let told = "clean files 2 folders 2 blocks 2048 free 1692\n";
-    assert!(rt; finds(alloc, &mut rig, Status::Done, told)?);
+    assert!(rt; finds_clean(rt.alloc(), lines, told)?);
     Ok(())
 }
 
 // So do blocks past the size of a file that the last line made shorter.
 #[test]
 fn blocks_that_the_last_line_cut_off_are_given_back(rt: HostRuntime) -> Result<(), Fail> {
-    let alloc = rt.alloc();
-    let mut rig = fresh_rig(alloc)?;
-    run_on(
-        alloc,
-        "run v.img",
-        &mut rig,
-        b"create /a\ntrunc /a 90000\ntrunc /a 4097\n",
-    )?;
+    let lines = b"create /a\ntrunc /a 90000\ntrunc /a 4097\n";
     let told = "clean files 3 folders 0 blocks 2048 free 1690\n";
-    assert!(rt; finds(alloc, &mut rig, Status::Done, told)?);
+    assert!(rt; finds_clean(rt.alloc(), lines, told)?);
     Ok(())
 }
 
@@ -85,13 +72,9 @@ fn blocks_that_the_last_line_cut_off_are_given_back(rt: HostRuntime) -> Result<(
 #[test]
 fn a_live_journal_is_looked_through(rt: HostRuntime) -> Result<(), Fail> {
     let alloc = rt.alloc();
-    let lines = b"mkdir /a\nls /\n".as_slice();
-    let mut whole = fresh_rig(alloc)?;
-    run_on(alloc, "run v.img", &mut whole, lines)?;
-    let mut rig = fresh_rig(alloc)?;
     // The end of a run writes the journal's sectors home and sets bit 8.
-    rig.stop_after(whole.calls().saturating_sub(30));
-    assert_eq!(rt; run_on(alloc, "run v.img", &mut rig, lines)?, Status::Disk);
+    let (mut rig, ended) = stopped_rig(alloc, b"mkdir /a\nls /\n", 30)?;
+    assert_eq!(rt; ended, Status::Disk);
     let told = "clean files 2 folders 1 blocks 2048 free 1692\n";
     assert!(rt; finds(alloc, &mut rig, Status::Done, told)?);
     Ok(())

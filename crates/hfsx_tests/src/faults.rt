@@ -1,8 +1,8 @@
 // Statuses of devices that fail.
-use hfsx_server::{Status, hfsx};
+use hfsx_server::Status;
 use mem_disk::MemSource;
 use std::test::Fail;
-use test_kit::{fresh_rig, run_on, words};
+use test_kit::{fresh_rig, run_on, run_watched};
 use watchers::Watcher;
 
 #[test]
@@ -10,15 +10,8 @@ fn a_source_that_fails_ends_the_run(rt: HostRuntime) -> Result<(), Fail> {
     let alloc = rt.alloc();
     let mut rig = fresh_rig(alloc)?;
     let mut source = MemSource::new(alloc, b"ls /\n", 7, Some(0))?;
-    let words = words(alloc, "run v.img")?;
     let mut watchers: Vec<Box<dyn Watcher>> = Vec::new(alloc);
-    let ended = hfsx(
-        alloc,
-        words.as_slice(),
-        &mut rig,
-        &mut source,
-        &mut watchers,
-    );
+    let ended = run_watched(alloc, "run v.img", &mut rig, &mut source, &mut watchers)?;
     assert_eq!(rt; ended, Status::Source);
     assert_eq!(rt; ended.code(), 4);
     assert_eq!(rt; rig.told(), b"".as_slice());

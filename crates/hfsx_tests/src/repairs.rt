@@ -4,7 +4,9 @@ use hx_bytes::OutOfMemory;
 use mem_disk::MemRig;
 use std::alloc::Global;
 use std::test::Fail;
-use test_kit::{fresh, fresh_rig, has_written, miscount, put, run_on, sector_of, set_bytes};
+use test_kit::{
+    fresh, fresh_rig, has_written, miscount, put, run_on, sector_of, set_bytes, stopped_rig,
+};
 
 const CLEAN: &str = "clean files 2 folders 0 blocks 2048 free 1692\n";
 
@@ -226,13 +228,9 @@ fn an_image_that_no_run_mounts_is_refused(rt: HostRuntime) -> Result<(), Fail> {
 #[test]
 fn a_live_journal_is_replayed_first(rt: HostRuntime) -> Result<(), Fail> {
     let alloc = rt.alloc();
-    let lines = b"mkdir /a\nls /\n".as_slice();
-    let mut whole = fresh_rig(alloc)?;
-    run_on(alloc, "run v.img", &mut whole, lines)?;
-    let mut rig = fresh_rig(alloc)?;
     // The end of a run writes the journal's sectors home and sets bit 8.
-    rig.stop_after(whole.calls().saturating_sub(30));
-    assert_eq!(rt; run_on(alloc, "run v.img", &mut rig, lines)?, Status::Disk);
+    let (mut rig, ended) = stopped_rig(alloc, b"mkdir /a\nls /\n", 30)?;
+    assert_eq!(rt; ended, Status::Disk);
     let image = rig.image(alloc, 1)?;
     let mut left = MemRig::from_image(alloc, &image)?;
     set_bytes(&mut left, 8, 250, &[0x80]);

@@ -1,10 +1,10 @@
-// Lines of many sessions, and the folder that keeps what they hold open.
+// Lines of many sessions, the folder that keeps what they hold open, and lines on symbolic links and resource forks.
 use hfsx_server::Status;
 use hx_bytes::OutOfMemory;
 use mem_disk::MemRig;
 use std::alloc::Global;
 use std::test::Fail;
-use test_kit::{fresh_rig, has_written, run_on};
+use test_kit::{fresh_rig, has_written, run_on, set_bytes};
 
 /// A file loses its only name while a session has it open.
 const LINES: &[u8] =
@@ -27,6 +27,33 @@ const REFUSED: &[u8] =
 
 const OF_REFUSED: &[u8] =
     b"no Private\nno Private\nno IsFolder\nno NotFound\nno BadCommand\nno BadCommand\nno BadCommand\nno BadCommand\nno BadCommand\n";
+
+/// A link into a folder, and one to itself; a text that is no target.
+const LINKS: &[u8] =
+    b"1 mkdir /d\n1 create /d/f\n1 symlink /l =d/../d/f\n1 follow /l\n1 readlink /l\n1 symlink /m =/m\n1 follow /m\n1 readlink /d/f\n1 symlink /e =\n";
+
+const OF_LINKS: &[u8] =
+    b"ok\nok\nok\nok /d/f\nok =d/../d/f\nok\nno TooManySteps 16\nno NotLink\nno BadTarget\n";
+
+/// The resource fork of a file has a size of its own.
+const FORKS: &[u8] =
+    b"1 create /f\n1 rwrite /f 3 =ab\n1 rread /f 0 9\n1 stat /f\n1 rread /f 0 65537\n1 follow /f/x\n1 follow /q\n";
+
+const OF_FORKS: &[u8] =
+    b"ok\nok\nok =%00%00%00ab\nok file 18 0 1 0644 0 0 0\nno TooLarge\nno NotFolder\nno NotFound\n";
+
+/// A file that gets the flag of a compressed one, and another.
+const MADE: &[u8] = b"create /f\nwrite /f 0 =hi\ncreate /g\n";
+
+/// Where the owner's flags of the first of them stand, in the second sector of the catalog's leaf.
+const FLAGS: (u64, usize) = (2_337, 265);
+
+/// What sessions write to them, and what they do besides.
+const COMPRESSED: &[u8] =
+    b"1 write /f 0 =new\n1 trunc /f 1\n1 rwrite /f 0 =r\n1 read /f 0 9\n1 rread /f 0 9\n1 write /g 0 =x\n1 mv /f /h\n1 write /h 0 =x\n1 stat /h\n1 write /f 0 =x\n1 write / 0 =x\n";
+
+const OF_COMPRESSED: &[u8] =
+    b"no Compressed\nno Compressed\nno Compressed\nok =hi\nok =\nok\nok\nno Compressed\nok file 18 2 1 0644 0 0 0\nno NotFound\nno IsFolder\n";
 
 /// What the keeping folder holds between two runs.
 const KEPT: &[u8] = b"ls /%u0000HFSX%u0020Open%u0020Files\n";
@@ -70,6 +97,34 @@ fn the_last_name_is_saved(rt: HostRuntime) -> Result<(), Fail> {
 #[test]
 fn the_keeping_folder_is_private(rt: HostRuntime) -> Result<(), Fail> {
     assert!(rt; tells(rt.alloc(), REFUSED, OF_REFUSED)?);
+    Ok(())
+}
+
+#[test]
+fn links_are_followed(rt: HostRuntime) -> Result<(), Fail> {
+    assert!(rt; tells(rt.alloc(), LINKS, OF_LINKS)?);
+    Ok(())
+}
+
+#[test]
+fn resource_forks_are_written_and_read(rt: HostRuntime) -> Result<(), Fail> {
+    assert!(rt; tells(rt.alloc(), FORKS, OF_FORKS)?);
+    Ok(())
+}
+
+#[test]
+fn compressed_files_are_not_written(rt: HostRuntime) -> Result<(), Fail> {
+    let alloc = rt.alloc();
+    let mut rig = fresh_rig(alloc)?;
+    assert_eq!(rt; run_on(alloc, "run v.img", &mut rig, MADE)?, Status::Done);
+    let mut flagged = after(alloc, &mut rig)?;
+    set_bytes(&mut flagged, FLAGS.0, FLAGS.1, &[0x20]);
+    let mut next = after(alloc, &mut flagged)?;
+    assert_eq!(rt;
+        run_on(alloc, "sessions v.img", &mut next, COMPRESSED)?,
+        Status::Done
+    );
+    assert_eq!(rt; next.told(), OF_COMPRESSED);
     Ok(())
 }
 

@@ -2,12 +2,12 @@
 ghost use Rattle.std.specs.Prelude.{◌≡◌, IfOk};
 
 use hfs_language::{Change, Changes};
-use hfsx_server::{Status, hfsx};
+use hfsx_server::Status;
 use hx_bytes::{OutOfMemory, Units};
 use mem_disk::MemSource;
 use std::alloc::Global;
 use std::test::Fail;
-use test_kit::{fresh_rig, words};
+use test_kit::{fresh_rig, run_watched};
 use watchers::{Keep, Watcher};
 
 /// Stays as long as the changes that it is told are those of these lines.
@@ -86,14 +86,7 @@ fn served_with(
     for lines in expected {
         watchers.push(Box::new(alloc, Expecting::new(alloc, *lines))?)?;
     }
-    let words = words(alloc, "run v.img")?;
-    let ended = hfsx(
-        alloc,
-        words.as_slice(),
-        &mut rig,
-        &mut source,
-        &mut watchers,
-    );
+    let ended = run_watched(alloc, "run v.img", &mut rig, &mut source, &mut watchers)?;
     if ended != Status::Done {
         return Ok(None);
     }

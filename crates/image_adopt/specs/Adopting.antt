@@ -1,5 +1,5 @@
 -- What an adoption makes of an image, what a crash leaves of it on the way, and why one is refused.
-use Rattle.std.specs.Prelude.{◌≡◌, ◌⊎◌, ◌==◌, not, true, false, length, Some, None, Ok, Err}
+use Rattle.std.specs.Prelude.{◌≡◌, ◌⊎◌, ◌==◌, not, true, false, length, Option, Some, None, Ok, Err}
 use Rattle.volume_header.specs.Refusal.{header_refusal, is_locked}
 use Rattle.jnl_format.specs.Recovery.{Content, header_of_volume, recovery, recovery_as, replayed}
 use Rattle.jnl_format.specs.declared.dialect.Dialect.TheVariants.{Wide}
@@ -33,6 +33,11 @@ IsMadeSo old new made = (plan : Plan) × IsMade made plan old new
 abbrev pub IsAdoptedAs : Content → Content → Adopted → Type 0
 IsAdoptedAs old new Already = MayChange old × (new ≡ old) × (stood : Content) × (recovery old ≡ Ok stood)
 IsAdoptedAs old new (Anew made) = MayChange old × ((why : JnlRefusal) × (recovery old ≡ Err why)) × IsMadeSo old new made
+
+-- the plain dialect reads the image, or it refuses it and the wide one reads it by this plan
+abbrev pub IsFoundAs : Content → Option Plan → Type 0
+IsFoundAs image None = MayChange image × (stood : Content) × (recovery image ≡ Ok stood)
+IsFoundAs image (Some plan) = MayChange image × ((why : JnlRefusal) × (recovery image ≡ Err why)) × IsPlanAs Wide image plan
 
 -- the image itself, or one on the way to its adoption
 abbrev pub MayBeAdopted : Content → Content → Type 0

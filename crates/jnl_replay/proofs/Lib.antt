@@ -4,6 +4,7 @@ pub mod Checks
 pub mod Common
 pub mod Filling
 pub mod Fits
+pub mod Found
 pub mod Fresh
 pub mod HomeWritten
 pub mod Homed

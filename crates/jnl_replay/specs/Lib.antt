@@ -1,5 +1,6 @@
 pub mod Adopting
 pub mod Buffered
+pub mod Finding
 pub mod Homing
 pub mod Peeked
 pub mod Peeking

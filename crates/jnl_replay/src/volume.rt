@@ -15,6 +15,7 @@ use jnl_format::JnlRefusal;
 use sector_disk::SectorDisk;
 use volume_header::{VolumeHeader, read_header};
 
+/// The sector of the volume header.
 pub const HEADER_SECTOR: u64 = 2;
 
 /// The volume header of a disk from which this place was taken. Where the disk reads otherwise by now, it is refused.

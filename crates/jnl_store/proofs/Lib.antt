@@ -43,3 +43,4 @@ pub mod Room
 pub mod Composed
 pub mod BroughtHome
 pub mod Sides
+pub mod Owned

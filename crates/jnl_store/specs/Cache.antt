@@ -6,6 +6,8 @@ use Rattle.sector_disk.specs.Lists.{Content, run_of, sector}
 use Rattle.jnl_replay.specs.declared.plan.Plan.{Plan}
 use Rattle.jnl_store.specs.Batch.{is_dropped}
 use Rattle.jnl_store.specs.Journal.{is_closed}
+use Rattle.jnl_store.specs.Own.{NamesNone}
+use Rattle.jnl_store.specs.declared.own.Own.{Own}
 use Rattle.jnl_store.specs.declared.puts.Put.{Put}
 
 -- each is empty, or keeps the bytes of one sector
@@ -31,6 +33,11 @@ slots_with (name ∷ names) (first ∷ bytes) = slot_with name first ∷ slots_w
 -- there is a sector of 512 bytes for each slot
 abbrev pub AreSlots : List (Option ℕ) → List (List ℕ) → Type 0
 AreSlots names bytes = (length bytes ≡ length names) × ((k : ℕ) → k < length bytes → length (sector bytes k) ≡ 512)
+
+-- the same, and where no slot may name a sector of the journal, none does
+pub record IsCache (names : List (Option ℕ)) (bytes : List (List ℕ)) (own : Own) (may_own : Bool) : Type 0 where
+  pub slots : AreSlots names bytes
+  pub none : may_own ≡ false → NamesNone own names
 
 -- the slot of a sector
 abbrev pub slot_of : Slots → ℕ → Option Put

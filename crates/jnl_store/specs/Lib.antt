@@ -1,5 +1,6 @@
 pub mod Batch
 pub mod Table
+pub mod Own
 pub mod Cache
 pub mod FollowLaws
 pub mod Following

@@ -249,7 +249,7 @@ fn save(puts: &PutTable, kept: usize, saved: &mut PutTable, at: u64)
 {
     let _once = saved.as_slice();
     match puts.among(kept, at) {
-        Some(put) => saved.add(*put),
+        Some(put) => saved.add(put),
         None => {}
     }
 }

@@ -1,13 +1,15 @@
 //! Slots that keep sectors of a content, so that they are read without a device.
-ghost use Rattle.std.specs.Prelude.{◌≡◌, ◌<◌, ◌≤◌, ◌+◌, ◌^◌, ℕ, Bool, IsTrue, IfOk, IfSome, MatchOption, OnOk, Option, None, Some, if◌then◌else◌, length, replicate, slice_index_or};
+ghost use Rattle.std.specs.Prelude.{◌≡◌, ◌<◌, ◌≤◌, ◌+◌, ◌^◌, ◌||◌, ℕ, Bool, IsTrue, IfOk, IfSome, MatchOption, OnOk, Option, None, Some, if◌then◌else◌, length, replicate, slice_index_or};
 ghost use Rattle.jnl_store.specs.Cache.{AreRead, AreSlots, EachBecomes, EachReread, IsKept, IsRead, IsReread, KeepsRun, OthersStand, holds, slot_of, slot_with, slots_with, undone_name, undone_slot, with_slot};
 ghost use Rattle.sector_disk.specs.Cause.{HasCause};
 ghost use Rattle.sector_disk.specs.Disk.{OnlyReads, content};
 ghost use Rattle.jnl_replay.specs.Plan.{FitsPlan};
 ghost use Rattle.jnl_store.specs.Journal.{is_closed};
+ghost use Rattle.jnl_store.specs.Own.{NamesNone, owns};
 ghost use Rattle.jnl_store.specs.declared.puts.Put.{Put};
 
 use crate::batch::Batch;
+use crate::own::Own;
 use crate::puts::Put;
 use hx_bytes::{Failed, OutOfMemory, Sector};
 use jnl_replay::Plan;
@@ -22,16 +24,20 @@ pub struct Cache {
     names: Vec<Option<u64>>,
     /// The bytes of each slot, of which those of an empty one aren't looked at.
     bytes: Vec<Sector>,
+    /// The sectors of the journal, as slots were read again last.
+    own: Own,
+    /// Whether a slot may name one of these.
+    may_own: bool,
 }
 
 impl Model for Cache {
-    ghost use Rattle.jnl_store.specs.Cache.{AreSlots, Slots, slots_with};
+    ghost use Rattle.jnl_store.specs.Cache.{IsCache, Slots, slots_with};
 
     ghost Value = { Slots };
 
     ghost view = { λ c. slots_with c.names.items c.bytes.items };
 
-    ghost invariant = { λ c. AreSlots c.names.items c.bytes.items };
+    ghost invariant = { λ c. IsCache c.names.items c.bytes.items c.own c.may_own };
 }
 
 impl Cache {
@@ -43,7 +49,12 @@ impl Cache {
         names.resize(count as usize, None)?;
         let mut bytes = Vec::new(alloc);
         bytes.resize(count as usize, [0; 512])?;
-        Ok(Cache { names, bytes })
+        Ok(Cache {
+            names,
+            bytes,
+            own: Own::none(),
+            may_own: true,
+        })
     }
 
     /// The bytes of a sector whose slot names it.
@@ -107,6 +118,7 @@ impl Cache {
         let place = (at % self.names.len() as u64) as usize;
         self.names[place] = Some(at);
         self.bytes[place] = *from;
+        self.may_own = may_own(self.may_own, &self.own, at);
     }
 
     /// Empties the slot of a sector.
@@ -118,9 +130,10 @@ impl Cache {
         }
         let place = (at % self.names.len() as u64) as usize;
         self.names[place] = None;
+        self.may_own = true;
     }
 
-    /// Reads again what each slot that names a sector of the journal keeps.
+    /// Reads again what each slot that names a sector of the journal keeps. Mostly none does, and no slot is looked at.
     pub fn reread_own<D: SectorDisk>(&mut self, plan: &Plan, disk: &mut D) -> Result<(), Failed>
         requires { FitsPlan (D.state disk.old).sectors plan.now }
         ensures slots { EachReread plan.now self.old self.new }
@@ -128,7 +141,14 @@ impl Cache {
         ensures reads { OnlyReads (D.state disk.old) (D.state disk.new) }
         ensures cause { HasCause (D.state disk.old).faults (D.state disk.new).faults result }
     {
-        reread_all(self.names.as_slice(), self.bytes.as_mut_slice(), plan, disk)
+        let own = Own::of(plan);
+        if !self.may_own && self.own.is(&own) {
+            return Ok(());
+        }
+        reread_all(self.names.as_slice(), self.bytes.as_mut_slice(), plan, disk)?;
+        self.may_own = any_own(self.names.as_slice(), &own);
+        self.own = own;
+        Ok(())
     }
 
     /// Empties each slot that names a sector which an undo changes.
@@ -140,6 +160,35 @@ impl Cache {
                 *name = None;
             }
         }
+        self.may_own = true;
+    }
+}
+
+// Whether a slot may name a sector of the journal when one has named this sector.
+fn may_own(before: bool, own: &Own, at: u64) -> bool
+    ensures { result ≡ (before || owns own.now at) }
+{
+    before || own.has(at)
+}
+
+// Whether a slot names a sector of the journal.
+fn any_own(names: &[Option<u64>], own: &Own) -> bool
+    ensures { result ≡ Bool.false → NamesNone own.now names.now }
+{
+    for i in 0..names.len() {
+        if is_own_name(names[i], own) {
+            return true;
+        }
+    }
+    false
+}
+
+fn is_own_name(name: Option<u64>, own: &Own) -> bool
+    ensures { result ≡ Bool.false → (at : ℕ) → name ≡ Some at → owns own.now at ≡ Bool.false }
+{
+    match name {
+        Some(at) => own.has(at),
+        None => false,
     }
 }
 

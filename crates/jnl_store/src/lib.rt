@@ -14,6 +14,7 @@ mod law;
 mod list_header;
 mod lists;
 mod live_table;
+mod own;
 mod put_table;
 mod puts;
 mod reading;

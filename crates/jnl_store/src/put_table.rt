@@ -142,33 +142,33 @@ impl PutTable {
         ensures count { length self.new.items ≡ (if names self.old.items at then length self.old.items else length self.old.items + 1) }
         ensures memory { self.new.memory ≡ self.old.memory }
     {
-        self.place(Put { at, bytes: *from });
+        self.place(&Put { at, bytes: *from });
     }
 
     /// The same of a put as a whole.
-    pub fn place(&mut self, put: Put)
-        requires { (length self.old.items < self.old.memory) ⊎ IsTrue (names self.old.items put.at) }
-        ensures placed { IsPlaced self.old.items put self.new.items }
-        ensures content { (c : Content) → overlay self.new.items c ≡ slice_set (overlay self.old.items c) put.at put.bytes }
-        ensures names { (s : ℕ) → names self.new.items s ≡ (s == put.at || names self.old.items s) }
-        ensures count { length self.new.items ≡ (if names self.old.items put.at then length self.old.items else length self.old.items + 1) }
+    pub fn place(&mut self, put: &Put)
+        requires { (length self.old.items < self.old.memory) ⊎ IsTrue (names self.old.items put.now.at) }
+        ensures placed { IsPlaced self.old.items put.now self.new.items }
+        ensures content { (c : Content) → overlay self.new.items c ≡ slice_set (overlay self.old.items c) put.now.at put.now.bytes }
+        ensures names { (s : ℕ) → names self.new.items s ≡ (s == put.now.at || names self.old.items s) }
+        ensures count { length self.new.items ≡ (if names self.old.items put.now.at then length self.old.items else length self.old.items + 1) }
         ensures memory { self.new.memory ≡ self.old.memory }
     {
         match self.find(put.at) {
             Some(k) => {
-                self.puts[k] = put;
+                self.puts[k] = *put;
             }
             None => {
                 self.index.push(put.at);
-                let _put = self.puts.push(put);
+                let _put = self.puts.push(*put);
             }
         }
     }
 
     /// Adds a put, where its sector has none. There is memory for it.
-    pub fn add(&mut self, put: Put)
-        requires { names self.old.items put.at ≡ Bool.false → length self.old.items < self.old.memory }
-        ensures added { self.new.items ≡ with_put self.old.items put }
+    pub fn add(&mut self, put: &Put)
+        requires { names self.old.items put.now.at ≡ Bool.false → length self.old.items < self.old.memory }
+        ensures added { self.new.items ≡ with_put self.old.items put.now }
         ensures memory { self.new.memory ≡ self.old.memory }
     {
         if self.has(put.at) {
@@ -219,7 +219,7 @@ impl PutTable {
     {
         self.clear();
         for k in 0..count {
-            self.place(from.puts[k]);
+            self.place(&from.puts[k]);
         }
         let _once = self.as_slice();
     }

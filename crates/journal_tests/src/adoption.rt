@@ -1,5 +1,6 @@
 // Images whose journal later systems wrote, adopted or refused.
-use crate::wide::{BLHDR, HOME, settle, volume};
+use crate::trying::{HOME, settle};
+use crate::wide::{BLHDR, volume};
 use hx_bytes::Order;
 use image_adopt::{AdoptRefusal, Adopted, Made, adopt_image};
 use jnl_format::JnlRefusal;

@@ -9,4 +9,6 @@ mod replays;
 #[cfg(test)]
 mod ring;
 #[cfg(test)]
+mod trying;
+#[cfg(test)]
 mod wide;

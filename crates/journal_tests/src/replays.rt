@@ -1,9 +1,9 @@
 // Journals replayed, refused, and cut off in the middle.
+use crate::trying::{HFSJ, HOME, refusal, settle, shows};
 use hx_bytes::{Order, Sector};
-use jnl_format::{Entry, JnlRefusal, checksum};
-use jnl_replay::{Peek, PeekView, ReplayFault, replay};
+use jnl_format::{Dialect, Entry, JnlRefusal, checksum};
+use jnl_replay::{Peek, replay};
 use mem_disk::MemRig;
-use sector_disk::{SectorDisk, SectorView};
 use std::alloc::Global;
 use std::test::Fail;
 use test_kit::{
@@ -11,19 +11,11 @@ use test_kit::{
     sealed_list, sector_of, volume_header, with_number,
 };
 
-const HFSJ: u32 = 0x4846_534A;
-
 const FOREIGN: u32 = 825_241_136;
 // A volume of 6,144 sectors and one of 2,048, and the sector into which the list's block belongs.
 const LARGE: (u64, u32, u64) = (6144, 768, 5000);
 
 const SMALL: (u64, u32, u64) = (2048, 256, 2000);
-
-const HOME: u64 = 2000;
-
-fn settle(rig: &mut MemRig) {
-    let _settled = rig.barrier();
-}
 
 fn block(bnum: u64, bsize: u32) -> Entry {
     Entry {
@@ -52,13 +44,6 @@ fn volume(
     put(&mut rig, BASE + 3, &[2; 512]);
     settle(&mut rig);
     Ok(rig)
-}
-
-fn refusal(rig: &mut MemRig) -> Option<JnlRefusal> {
-    match find_plan(rig) {
-        Err(ReplayFault::Refused(refusal)) => Some(refusal),
-        _ => None,
-    }
 }
 
 fn replays(rig: &mut MemRig) -> bool {
@@ -158,7 +143,11 @@ fn each_damage_has_its_refusal(rt: HostRuntime) -> Result<(), Fail> {
         let mut rig = volume(alloc, SMALL, little, HFSJ, 1)?;
         let damaged = with_number(&sector_of(&mut rig, at), place, number, order);
         put(&mut rig, at, &damaged);
-        assert_eq!(rt; refusal(&mut rig), Some(want), "sector {at} byte {place}");
+        assert_eq!(rt;
+            refusal(&mut rig, Dialect::Plain),
+            Some(want),
+            "sector {at} byte {place}"
+        );
     }
     Ok(())
 }
@@ -168,7 +157,7 @@ fn another_systems_journal_has_to_be_empty(rt: HostRuntime) -> Result<(), Fail> 
     let alloc = rt.alloc();
     let mut rig = volume(alloc, SMALL, Order::Little, FOREIGN, 1)?;
     assert_eq!(rt;
-        refusal(&mut rig),
+        refusal(&mut rig, Dialect::Plain),
         Some(JnlRefusal::ForeignJournal(FOREIGN))
     );
     put(
@@ -248,7 +237,11 @@ fn the_first_damage_is_named(rt: HostRuntime) -> Result<(), Fail> {
             order_two,
         );
         put(&mut rig, at_two, &twice);
-        assert_eq!(rt; refusal(&mut rig), Some(want), "sector {at} byte {place}");
+        assert_eq!(rt;
+            refusal(&mut rig, Dialect::Plain),
+            Some(want),
+            "sector {at} byte {place}"
+        );
     }
     Ok(())
 }
@@ -287,7 +280,7 @@ fn headers_keep_the_format(rt: HostRuntime) -> Result<(), Fail> {
         let twice = with_number(&once, at_two, number_two, order);
         put(&mut rig, BASE, &sealed_header(&twice, order));
         settle(&mut rig);
-        assert_eq!(rt; refusal(&mut rig), want, "{shows}");
+        assert_eq!(rt; refusal(&mut rig, Dialect::Plain), want, "{shows}");
         assert_eq!(rt; replays(&mut rig), want.is_none(), "{shows}");
         assert_eq!(rt; sector_of(&mut rig, HOME), [byte; 512], "{shows}");
     }
@@ -327,7 +320,7 @@ fn lists_keep_the_format(rt: HostRuntime) -> Result<(), Fail> {
         } else {
             Some(JnlRefusal::BadList(512))
         };
-        assert_eq!(rt; refusal(&mut rig), want, "{shows}");
+        assert_eq!(rt; refusal(&mut rig, Dialect::Plain), want, "{shows}");
         assert_eq!(rt; replays(&mut rig), is_read, "{shows}");
     }
     Ok(())
@@ -344,14 +337,17 @@ fn a_list_header_has_room_for_31_entries(rt: HostRuntime) -> Result<(), Fail> {
     let list = list_block(order, &blocks, 1536);
     put(&mut rig, BASE + 1, &list);
     settle(&mut rig);
-    assert_eq!(rt; refusal(&mut rig), None);
+    assert_eq!(rt; refusal(&mut rig, Dialect::Plain), None);
     // One entry more, which stands behind the list's header and is as an entry must be.
     let more = with_number(&list, 0, 2_097_183, order);
     put(&mut rig, BASE + 1, &sealed_list(&more, order));
     let mut body = [0; 512];
     body[..8].copy_from_slice(&[255; 8]);
     put(&mut rig, BASE + 2, &body);
-    assert_eq!(rt; refusal(&mut rig), Some(JnlRefusal::BadList(512)));
+    assert_eq!(rt;
+        refusal(&mut rig, Dialect::Plain),
+        Some(JnlRefusal::BadList(512))
+    );
     put(&mut rig, BASE + 1, &list);
     settle(&mut rig);
     assert!(rt; replays(&mut rig));
@@ -385,7 +381,10 @@ fn a_later_list_comes_later(rt: HostRuntime) -> Result<(), Fail> {
     put(&mut rig, BASE + 3, &with_number(&last, 8, 1, order));
     put(&mut rig, BASE + 4, &[4; 512]);
     settle(&mut rig);
-    assert_eq!(rt; refusal(&mut rig), Some(JnlRefusal::BadList(1536)));
+    assert_eq!(rt;
+        refusal(&mut rig, Dialect::Plain),
+        Some(JnlRefusal::BadList(1536))
+    );
     put(&mut rig, BASE + 3, &last);
     settle(&mut rig);
     assert!(rt; replays(&mut rig));
@@ -422,7 +421,7 @@ fn a_volume_header_comes_home(rt: HostRuntime) -> Result<(), Fail> {
         } else {
             Some(JnlRefusal::BadList(512))
         };
-        assert_eq!(rt; refusal(&mut rig), want, "{shows}");
+        assert_eq!(rt; refusal(&mut rig, Dialect::Plain), want, "{shows}");
         assert_eq!(rt; replays(&mut rig), is_same, "{shows}");
         let old = volume_header(HFSJ, 256);
         assert_eq!(rt;
@@ -470,18 +469,12 @@ fn a_peek_shows_what_a_replay_writes(rt: HostRuntime) -> Result<(), Fail> {
         assert!(rt; false);
         return Ok(());
     };
-    for (at, byte) in [(HOME, 2), (HOME + 1, 0), (BASE + 2, 1)] {
-        let mut sector = [9; 512];
-        let mut view = PeekView {
-            peek: &peek,
-            disk: &mut rig,
-        };
-        if at < view.sectors() {
-            assert!(rt; view.get(at, &mut sector).is_ok());
-        }
-        assert_eq!(rt; sector, [byte; 512], "sector {at}");
-    }
-    assert_eq!(rt; sector_of(&mut rig, HOME), [0; 512]);
+    shows(
+        &rt,
+        &mut rig,
+        &peek,
+        &[(HOME, 2), (HOME + 1, 0), (BASE + 2, 1)],
+    );
     Ok(())
 }
 

@@ -1,9 +1,9 @@
 // Journals as later systems write them: headers of lists of 98,304 bytes, and transaction numbers and checksums in `next`.
+use crate::trying::{HFSJ, HOME, refusal, settle, shows};
 use hx_bytes::{Order, Sector, write_o16, write_o32, write_o64};
 use jnl_format::{Dialect, JnlRefusal};
-use jnl_replay::{Peek, PeekView, ReplayFault, adopt, replay_as};
+use jnl_replay::{Peek, adopt, replay_as};
 use mem_disk::MemRig;
-use sector_disk::{SectorDisk, SectorView};
 use std::alloc::Global;
 use std::test::Fail;
 use test_kit::{
@@ -11,13 +11,9 @@ use test_kit::{
     volume_header, with_number,
 };
 
-const HFSJ: u32 = 0x4846_534A;
-
 const SECTORS: u64 = 2048;
 
 const BLOCKS: u32 = 256;
-
-pub(crate) const HOME: u64 = 2000;
 
 // A transaction buffer of 3 MiB has 6,144 blocks of 512 bytes, with 16 bytes each.
 pub(crate) const BLHDR: u32 = 98_304;
@@ -69,17 +65,6 @@ pub(crate) fn volume(alloc: Global, order: Order) -> Result<MemRig, Fail> {
     Ok(rig)
 }
 
-pub(crate) fn settle(rig: &mut MemRig) {
-    let _settled = rig.barrier();
-}
-
-fn refusal(rig: &mut MemRig, dialect: Dialect) -> Option<JnlRefusal> {
-    match find_plan_as(rig, dialect) {
-        Err(ReplayFault::Refused(refusal)) => Some(refusal),
-        _ => None,
-    }
-}
-
 fn replays(rig: &mut MemRig) -> bool {
     match find_plan_as(rig, Dialect::Wide) {
         Ok(plan) => replay_as(rig, &plan).is_ok(),
@@ -125,18 +110,7 @@ fn a_peek_shows_what_the_wide_dialect_reads(rt: HostRuntime) -> Result<(), Fail>
         assert!(rt; false);
         return Ok(());
     };
-    for (at, byte) in [(HOME, 2), (HOME + 1, 0)] {
-        let mut sector = [9; 512];
-        let mut view = PeekView {
-            peek: &peek,
-            disk: &mut rig,
-        };
-        if at < view.sectors() {
-            assert!(rt; view.get(at, &mut sector).is_ok());
-        }
-        assert_eq!(rt; sector, [byte; 512], "sector {at}");
-    }
-    assert_eq!(rt; sector_of(&mut rig, HOME), [0; 512]);
+    shows(&rt, &mut rig, &peek, &[(HOME, 2), (HOME + 1, 0)]);
     Ok(())
 }
 

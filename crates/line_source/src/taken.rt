@@ -17,6 +17,9 @@ use std::marker::Model;
 /// How many bytes are taken of a source at a time, at most.
 const BUFFER: usize = 4_194_304;
 
+/// How many are taken the first time, at most. Where so many came, eight times as many are taken the next time.
+const FIRST: usize = 65_536;
+
 /// Bytes that were taken from a source and belong to no line yet.
 #[derive(Drop)]
 pub(crate) struct Taken {
@@ -26,14 +29,14 @@ pub(crate) struct Taken {
 }
 
 impl Model for Taken {
-    ghost use Rattle.std.specs.Prelude.{ℕ, List, ◌≡◌, ◌≤◌, ◌-◌, length, take, drop};
+    ghost use Rattle.std.specs.Prelude.{ℕ, List, ◌≤◌, ◌<◌, ◌-◌, length, take, drop};
     ghost use Rattle.line_source.specs.Input.{most_taken};
 
     ghost Value = { List ℕ };
 
     ghost view = { λ taken. take (taken.end - taken.start) (drop taken.start taken.buffer.items) };
 
-    ghost invariant = { λ taken. (taken.start ≤ taken.end) × (taken.end ≤ most_taken) × (length taken.buffer.items ≡ most_taken) };
+    ghost invariant = { λ taken. (taken.start ≤ taken.end) × (taken.end ≤ length taken.buffer.items) × (0 < length taken.buffer.items) × (length taken.buffer.items ≤ most_taken) };
 }
 
 impl Taken {
@@ -42,7 +45,7 @@ impl Taken {
         ensures { IfOk result (λ taken. taken ≡ []) }
     {
         Ok(Taken {
-            buffer: vec![in alloc; 0; BUFFER]?,
+            buffer: vec![in alloc; 0; FIRST]?,
             start: 0,
             end: 0,
         })
@@ -132,6 +135,7 @@ impl Taken {
         ensures same { SameSource (S.stream source.old) (S.stream source.new) }
         ensures cause { HasCause (S.stream source.old).faults (S.stream source.new).faults result }
     {
+        widen(&mut self.buffer, self.end);
         let count = source.take(&mut self.buffer)?;
         self.start = 0;
         self.end = count;
@@ -156,6 +160,22 @@ impl Taken {
                 Ok(false)
             }
         }
+    }
+}
+
+// Makes room for eight times as many bytes, where so many fill the buffer and memory is found.
+fn widen(buffer: &mut Vec<u8>, count: usize)
+    requires some { 0 < length buffer.old.items }
+    requires few { length buffer.old.items ≤ most_taken }
+    ensures wider { length buffer.old.items ≤ length buffer.new.items }
+    ensures few { length buffer.new.items ≤ most_taken }
+{
+    if count < buffer.len() {
+        return;
+    }
+    let room = (buffer.len() * 8).min(BUFFER);
+    if let Err(_) = buffer.resize(room, 0) {
+        return;
     }
 }
 

@@ -78,6 +78,7 @@ pub(crate) const REFUSALS: &[(Refusal, &str)] = &[
     (Refusal::TooLarge, "no TooLarge\n"),
     (Refusal::AttributeTooLarge, "no AttributeTooLarge\n"),
     (Refusal::NoAttribute, "no NoAttribute\n"),
+    (Refusal::BadTarget, "no BadTarget\n"),
     (Refusal::NoTree, "no NoTree\n"),
     (Refusal::NoIds(4_294_967_295), "no NoIds 4294967295\n"),
     (Refusal::TooDeep(8), "no TooDeep 8\n"),

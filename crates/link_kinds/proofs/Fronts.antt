@@ -1,17 +1,22 @@
 -- A link of which only the first 1,024 bytes are seen leads where the whole link leads.
 use Rattle.std.proofs.Common.{◌≡◌, ◌⊎◌, inl, inr, ℕ, zero, suc, Bool, true, false, List, [], ◌∷◌, ◌++◌, length, take, refl, sym, ◌∙◌, ap, arith}
-use Rattle.std.specs.Prelude.{◌&&◌, nat_le, Result, Err, if◌then◌else◌}
+use Rattle.std.specs.Prelude.{◌&&◌, nat_le, Option, None, Some, Result, Err, if◌then◌else◌}
 use Rattle.std.specs.Str.{is_utf8}
 use Rattle.std.proofs.lemmas.Bool.{leb-true, leb-false}
 use Rattle.std.proofs.lemmas.List.{length-take-le, take_all}
 use Rattle.link_kinds.specs.declared.kinds.Folder.{Folder}
 use Rattle.link_kinds.specs.declared.kinds.KindRefusal.{KindRefusal}
 use Rattle.link_kinds.specs.declared.kinds.KindRefusal.TheVariants as refusal
-use Rattle.link_kinds.specs.declared.kinds.Sight.{Sight}
-use Rattle.link_kinds.specs.declared.kinds.Sight.TheVariants as sight
+use Rattle.hfs_model.specs.declared.kinds.Sight.{Sight}
+use Rattle.hfs_model.specs.declared.kinds.Sight.TheVariants as sight
 use Rattle.link_kinds.specs.Lookers.{front_of, front_seen}
-use Rattle.link_kinds.specs.Resolves.{Reach, by_sight, ends, go_on, goes_up, here, reach, resolve, stays, without_last}
-use Rattle.link_kinds.specs.Targets.{are_short, components_of, is_from_root, is_target, most_target}
+use Rattle.link_kinds.specs.Resolves.{Reach, by_sight, ends, file_seen, go_on, goes_up, here, is_unseen, reach, resolve, sight_at, sight_of, stays, without_last}
+use Rattle.hfs_model.specs.declared.plain.PlainEntry.{PlainEntry}
+use Rattle.hfs_model.specs.declared.plain.PlainNode.{PlainNode}
+use Rattle.hfs_model.specs.declared.plain.PlainTree.{PlainTree}
+use Rattle.hfs_model.specs.Extras.{entry_sight, file_sight, is_link, sight_in}
+use Rattle.hfs_model.specs.Plain.{entry_at, node_at}
+use Rattle.hfs_model.specs.Targets.{are_short, components_of, is_from_root, is_target, most_target}
 
 -- ---- targets
 
@@ -30,6 +35,28 @@ whole_or_bad bytes = length_cases (nat_le (length bytes) most_target) refl
     length_cases : (b : Bool) → nat_le (length bytes) most_target ≡ b → (take 1024 bytes ≡ bytes) ⊎ ((is_target (take 1024 bytes) ≡ false) × (is_target bytes ≡ false))
     length_cases true is = inl (take_all 1024 bytes (omega (arith, leb-true (length bytes) most_target is)))
     length_cases false is = inr (too_long (take 1024 bytes) (ap (λ n. nat_le n most_target) (length-take-le 1024 bytes (omega (arith, leb-false (length bytes) most_target is)))), too_long bytes is)
+
+-- ---- what is seen of a tree
+
+front_if : (b : Bool) (bytes : List ℕ) → front_of (if b then sight.Link bytes else sight.File) ≡ (if b then sight.Link (take 1024 bytes) else sight.File)
+front_if true bytes = refl
+front_if false bytes = refl
+
+front_file : (node : Option PlainNode) → front_of (file_seen node) ≡ file_sight node
+front_file None = refl
+front_file (Some node) = front_if (is_link node) node.bytes
+
+front_entry : (tree : PlainTree) (entry : Option PlainEntry) → front_of (sight_of tree entry) ≡ entry_sight tree entry
+front_entry tree None = refl
+front_entry tree (Some entry) = folder_cases entry.folder
+  where
+    folder_cases : (b : Bool) → front_of (if b then sight.Folder entry.id else file_seen (node_at tree entry.id)) ≡ (if b then sight.Folder entry.id else file_sight (node_at tree entry.id))
+    folder_cases true = refl
+    folder_cases false = front_file (node_at tree entry.id)
+
+-- Of a name that is seen, what a look at the tree tells is the front of what stands under it.
+pub front_at : (tree : PlainTree) (parent : ℕ) (name : List ℕ) → is_unseen parent name ≡ false → sight_in tree parent name ≡ front_of (sight_at tree parent name)
+front_at tree parent name seen = sym (ap (λ b. front_of (if b then sight.Absent else sight_of tree (entry_at tree parent name))) seen ∙ front_entry tree (entry_at tree parent name))
 
 -- ---- walks
 

@@ -1,4 +1,3 @@
-pub mod Components
 pub mod Fronts
 pub mod Ways
 mod Worked

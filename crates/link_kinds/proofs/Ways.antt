@@ -6,10 +6,10 @@ use Rattle.std.proofs.lemmas.List.{append-nil, reverse-append, reverse-reverse}
 use Rattle.link_kinds.specs.declared.kinds.Folder.{Folder}
 use Rattle.link_kinds.specs.declared.kinds.KindRefusal.{KindRefusal}
 use Rattle.link_kinds.specs.declared.kinds.KindRefusal.TheVariants as refusal
-use Rattle.link_kinds.specs.declared.kinds.Sight.{Sight}
+use Rattle.hfs_model.specs.declared.kinds.Sight.{Sight}
 use Rattle.link_kinds.specs.declared.walk.Next.{Next}
 use Rattle.link_kinds.specs.declared.walk.Next.TheVariants as asked
-use Rattle.link_kinds.specs.Targets.{components_of, is_from_root, is_target}
+use Rattle.hfs_model.specs.Targets.{components_of, is_from_root, is_target}
 use Rattle.link_kinds.specs.Resolves.{Reach, at_link, by_sight, ends, go_on, goes_up, here, is_looked_at, most_steps, names_to, reach, resolve, stays, turned, without_last}
 use Rattle.link_kinds.specs.Walks.{Sees, Walking, leads, leads_to}
 

@@ -9,7 +9,7 @@ use Rattle.hfs_model.specs.Step.{then_}
 use Rattle.open_files.specs.Sessions.{Part, session_of}
 use Rattle.link_kinds.specs.declared.kinds.KindCommand.{KindCommand}
 use Rattle.link_kinds.specs.declared.kinds.KindCommand.TheVariants as command
-use Rattle.link_kinds.specs.declared.kinds.KindEdit.TheVariants as edit
+use Rattle.hfs_model.specs.declared.kinds.KindEdit.TheVariants as edit
 use Rattle.link_kinds.specs.declared.kinds.KindLine.{KindLine}
 
 -- ---- which lines these are
@@ -18,9 +18,11 @@ use Rattle.link_kinds.specs.declared.kinds.KindLine.{KindLine}
 abbrev pub kind_words : List (List ℕ)
 kind_words = codes "symlink " ∷ codes "readlink " ∷ codes "follow " ∷ codes "rwrite " ∷ codes "rread " ∷ []
 
+-- the part begins with this word
 abbrev pub begins_as : List ℕ → List ℕ → Bool
 begins_as part word = bytes_eq (take (length word) part) word
 
+-- the part behind a session's number begins with one of these words; where there is no session it doesn't
 abbrev pub is_kind_part : Option Part → Bool
 is_kind_part None = false
 is_kind_part (Some part) = list_any (begins_as part.rest) kind_words
@@ -35,9 +37,11 @@ is_kind_line line = is_kind_part (session_of line)
 abbrev pub symlink_of : Result (List (List ℕ)) Refusal → Result (List ℕ) Refusal → Result KindCommand Refusal
 symlink_of path value = then_ value (λ v. after (λ p. command.Edit (edit.Symlink p v)) path)
 
+-- bytes for a resource fork; what is wrong with the offset comes first, then what is wrong with the value and the path
 abbrev pub write_of : Result (List (List ℕ)) Refusal → Result ℕ Refusal → Result (List ℕ) Refusal → Result KindCommand Refusal
 write_of path from value = then_ from (λ n. then_ value (λ v. after (λ p. command.Edit (edit.ResourceWrite p n v)) path))
 
+-- bytes of a resource fork; what is wrong with a number comes before what is wrong with the path
 abbrev pub read_of : Result (List (List ℕ)) Refusal → Result ℕ Refusal → Result ℕ Refusal → Result KindCommand Refusal
 read_of path from long = then_ from (λ n. then_ long (λ m. after (λ p. command.Edit (edit.ResourceRead p n m)) path))
 
@@ -57,6 +61,7 @@ words_kind _ = Err BadCommand
 abbrev pub kind_of : List ℕ → Result KindCommand Refusal
 kind_of part = if is_utf8 part then words_kind (slice_split (λ b. b == 32) part) else Err BadCommand
 
+-- what is asked for behind the number of a session; without one it is no command
 abbrev pub kind_in : Option Part → Result KindLine Refusal
 kind_in None = Err BadCommand
 kind_in (Some part) = after (λ command. record { session = part.session; command = command }) (kind_of part.rest)

@@ -3,8 +3,8 @@ use Rattle.std.specs.Prelude.{◌≡◌, ◌≤◌, ℕ, Bool, List, take, Resul
 use Rattle.hx_bytes.specs.declared.faults.Trouble.{Trouble}
 use Rattle.hx_bytes.specs.declared.faults.Trouble.TheVariants.{Disk}
 use Rattle.sector_disk.specs.Cause.{Rose}
-use Rattle.link_kinds.specs.declared.kinds.Sight.{Sight}
-use Rattle.link_kinds.specs.declared.kinds.Sight.TheVariants as sight
+use Rattle.hfs_model.specs.declared.kinds.Sight.{Sight}
+use Rattle.hfs_model.specs.declared.kinds.Sight.TheVariants as sight
 
 -- What a contract sees of it: whether it tells what it looks at, what it then sees under each name in each folder, and its count of faults.
 pub record Looking : Type 0 where

@@ -3,17 +3,16 @@ use Rattle.std.specs.Prelude.{ℕ, ◌==◌, ◌&&◌, ◌||◌, Bool, not, zero
 use Rattle.hfs_model.specs.declared.plain.PlainEntry.{PlainEntry}
 use Rattle.hfs_model.specs.declared.plain.PlainNode.{PlainNode}
 use Rattle.hfs_model.specs.declared.plain.PlainTree.{PlainTree}
+use Rattle.hfs_model.specs.Extras.{is_link}
 use Rattle.hfs_model.specs.Plain.{entry_at, node_at}
 use Rattle.hfs_model.specs.Step.{is_private_name}
 use Rattle.open_files.specs.Keeping.{keeping_name}
-use Rattle.link_kinds.specs.declared.kinds.FileKind.{FileKind}
 use Rattle.link_kinds.specs.declared.kinds.Folder.{Folder}
-use Rattle.link_kinds.specs.declared.kinds.Sight.{Sight}
-use Rattle.link_kinds.specs.declared.kinds.Sight.TheVariants as sight
+use Rattle.hfs_model.specs.declared.kinds.Sight.{Sight}
+use Rattle.hfs_model.specs.declared.kinds.Sight.TheVariants as sight
 use Rattle.link_kinds.specs.declared.kinds.KindRefusal.{KindRefusal}
 use Rattle.link_kinds.specs.declared.kinds.KindRefusal.TheVariants as refusal
-use Rattle.link_kinds.specs.Extras.{is_link}
-use Rattle.link_kinds.specs.Targets.{components_of, is_from_root, is_target}
+use Rattle.hfs_model.specs.Targets.{components_of, is_from_root, is_target}
 
 -- how many links are followed at most
 abbrev pub most_steps : ℕ
@@ -25,19 +24,19 @@ most_steps = 16
 abbrev pub is_unseen : ℕ → List ℕ → Bool
 is_unseen parent name = (parent == 2) && (is_private_name name || bytes_eq name keeping_name)
 
-abbrev pub bytes_at : Option PlainNode → List ℕ
-bytes_at None = []
-bytes_at (Some node) = node.bytes
+-- a link's target is its bytes
+abbrev pub file_seen : Option PlainNode → Sight
+file_seen None = sight.File
+file_seen (Some node) = if is_link node then sight.Link node.bytes else sight.File
 
-abbrev pub sight_of : PlainTree → List FileKind → Option PlainEntry → Sight
-sight_of tree kinds None = sight.Absent
-sight_of tree kinds (Some entry) = if entry.folder then sight.Folder entry.id
-    else if is_link kinds entry.id then sight.Link (bytes_at (node_at tree entry.id))
-    else sight.File
+-- what an entry is seen as, if there is one
+abbrev pub sight_of : PlainTree → Option PlainEntry → Sight
+sight_of tree None = sight.Absent
+sight_of tree (Some entry) = if entry.folder then sight.Folder entry.id else file_seen (node_at tree entry.id)
 
 -- what stands under a name in a folder
-abbrev pub sight_at : PlainTree → List FileKind → ℕ → List ℕ → Sight
-sight_at tree kinds parent name = if is_unseen parent name then sight.Absent else sight_of tree kinds (entry_at tree parent name)
+abbrev pub sight_at : PlainTree → ℕ → List ℕ → Sight
+sight_at tree parent name = if is_unseen parent name then sight.Absent else sight_of tree (entry_at tree parent name)
 
 -- ---- walks
 
@@ -46,6 +45,7 @@ abbrev pub here : List Folder → ℕ
 here [] = 2
 here (last ∷ way) = last.id
 
+-- the way without its last folder; at the root it stays
 abbrev pub without_last : List Folder → List Folder
 without_last [] = []
 without_last (last ∷ way) = way
@@ -100,6 +100,7 @@ abbrev pub follows : Reach → (List Folder → List (List ℕ) → Result (List
 follows (result answer) behind = answer
 follows (at_link way bytes left) behind = if is_target bytes then behind (if is_from_root bytes then [] else way) (components_of bytes ++ left) else Err refusal.BadTarget
 
+-- where no link may be followed any more
 abbrev pub at_last : Reach → Result (List (List ℕ)) KindRefusal
 at_last (result answer) = answer
 at_last (at_link way bytes left) = Err (refusal.TooManySteps most_steps)
@@ -114,5 +115,5 @@ abbrev pub resolve : (ℕ → List ℕ → Sight) → ℕ → List Folder → Li
 resolve look more way left = go_on look more (reach look way left)
 
 -- Where a path leads: to the names of a folder or file from the root, none of them a link, or nowhere for this reason.
-abbrev pub resolves : PlainTree → List FileKind → List (List ℕ) → Result (List (List ℕ)) KindRefusal
-resolves tree kinds path = resolve (sight_at tree kinds) most_steps [] path
+abbrev pub resolves : PlainTree → List (List ℕ) → Result (List (List ℕ)) KindRefusal
+resolves tree path = resolve (sight_at tree) most_steps [] path

@@ -4,7 +4,7 @@ use Rattle.link_kinds.specs.declared.kinds.Ask.{Ask}
 use Rattle.link_kinds.specs.declared.kinds.Ask.TheVariants as ask
 use Rattle.link_kinds.specs.declared.kinds.Folder.{Folder}
 use Rattle.link_kinds.specs.declared.kinds.KindRefusal.{KindRefusal}
-use Rattle.link_kinds.specs.declared.kinds.Sight.{Sight}
+use Rattle.hfs_model.specs.declared.kinds.Sight.{Sight}
 use Rattle.link_kinds.specs.declared.walk.Next.{Next}
 use Rattle.link_kinds.specs.declared.walk.Next.TheVariants as asked
 use Rattle.link_kinds.specs.Resolves.{by_sight, go_on, here, reach}

@@ -1,18 +1,8 @@
 //! What a line on a symbolic link or a resource fork asks for, and what a walk meets.
 
 use hfs_language::Path;
-use hx_bytes::{Bytes, Units};
-
-/// What changes or reads a file's kind or its resource fork.
-#[derive(Drop)]
-pub enum KindEdit {
-    /// A symbolic link is made, whose target is this value.
-    Symlink { path: Path, value: Bytes },
-    /// Bytes are written into the resource fork from an offset on.
-    ResourceWrite { path: Path, from: u64, value: Bytes },
-    /// At most so many bytes of the resource fork are read from an offset on.
-    ResourceRead { path: Path, from: u64, length: u64 },
-}
+use hfs_model::KindEdit;
+use hx_bytes::Units;
 
 #[derive(Drop)]
 pub enum KindCommand {
@@ -40,28 +30,6 @@ pub enum KindRefusal {
     TooManySteps(u32),
     BadTarget,
     NotLink,
-}
-
-/// What a file has beside what the plain tree tells.
-#[derive(Drop)]
-pub struct FileKind {
-    pub id: u32,
-    /// The bits of its mode that tell a symbolic link from a regular file (TN1150, "HFS Plus Permissions").
-    pub type_bits: u16,
-    /// The bytes of its resource fork.
-    pub resource: Bytes,
-}
-
-/// What stands under a name in a folder.
-#[derive(Drop)]
-pub enum Sight {
-    Absent,
-    /// A folder with this id.
-    Folder(u32),
-    /// A file that isn't a symbolic link.
-    File,
-    /// A symbolic link with this target.
-    Link(Bytes),
 }
 
 /// A folder on the way from the root.

@@ -8,11 +8,12 @@ ghost use Rattle.hfs_language.specs.Language.{number_of, path_of, value_of};
 ghost use Rattle.hfs_language.specs.declared.refusal.Refusal.{Refusal};
 ghost use Rattle.link_kinds.specs.Lines.{begins_as, is_kind_line, kind_line_of, kind_of, read_of, symlink_of, words_kind, write_of};
 
-use crate::kinds::{KindCommand, KindEdit, KindLine};
+use crate::kinds::{KindCommand, KindLine};
 use cmd_lang::{
     BAD_COMMAND, LineFault, MOST_BYTES, read_number, read_path, read_value_text, text_of, words_of,
 };
 use hfs_language::Refusal;
+use hfs_model::KindEdit;
 use open_files::session_of;
 use std::alloc::Global;
 

@@ -2,12 +2,12 @@
 ghost use Rattle.std.specs.Prelude.{◌≡◌, ℕ, List, [], IsTrue, IfOk};
 ghost use Rattle.link_kinds.specs.Lookers.{Looking, OnlyLooks, front_of, front_seen};
 ghost use Rattle.hfs_model.specs.declared.plain.PlainTree.{PlainTree};
-ghost use Rattle.link_kinds.specs.declared.kinds.FileKind.{FileKind};
 ghost use Rattle.link_kinds.specs.Resolves.{most_steps, resolve, resolves, sight_at};
 
-use crate::kinds::{Ask, KindRefusal, Sight};
+use crate::kinds::{Ask, KindRefusal};
 use crate::walk::Walk;
 use hfs_language::Path;
+use hfs_model::Sight;
 use hx_bytes::{Trouble, Units};
 use open_files::copy_path;
 use std::alloc::Global;
@@ -31,7 +31,7 @@ pub fn follow<L: Looker>(
     looker: &mut L,
 ) -> Result<Result<Path, KindRefusal>, Trouble>
     ensures leads { IsTrue (L.state looker.old).tells → IfOk result (λ answer. answer ≡ resolve (L.state looker.old).sight most_steps [] path.now) }
-    ensures tree { IsTrue (L.state looker.old).tells → (tree : PlainTree) (kinds : List FileKind) → (L.state looker.old).sight ≡ sight_at tree kinds → IfOk result (λ answer. answer ≡ resolves tree kinds path.now) }
+    ensures tree { IsTrue (L.state looker.old).tells → (tree : PlainTree) → (L.state looker.old).sight ≡ sight_at tree → IfOk result (λ answer. answer ≡ resolves tree path.now) }
     ensures looks { OnlyLooks (L.state looker.old) (L.state looker.new) result }
 {
     walk_along(alloc, path, looker)

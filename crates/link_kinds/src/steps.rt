@@ -1,16 +1,17 @@
 //! A walk goes on to the next name that it looks at.
 ghost use Rattle.std.specs.Prelude.{◌≡◌, ◌≢◌, ◌≤◌, ◌+◌, ◌*◌, true, false, ◌++◌, ℕ, List, [], length, reverse, IfOk, if◌then◌else◌};
-ghost use Rattle.link_kinds.specs.declared.kinds.Sight.{Sight};
-ghost use Rattle.link_kinds.specs.Targets.{is_from_root};
+ghost use Rattle.hfs_model.specs.declared.kinds.Sight.{Sight};
+ghost use Rattle.hfs_model.specs.Targets.{is_from_root};
 ghost use Rattle.link_kinds.specs.Resolves.{at_link, by_sight, ends, go_on, reach, resolve};
 ghost use Rattle.link_kinds.specs.Walks.{asks_by, asks_left, leads, leads_to};
 
-use crate::kinds::{Folder, KindRefusal, Sight};
+use crate::kinds::{Folder, KindRefusal};
 use crate::lists::{in_front, take_last};
-use crate::target::{is_from_root, read_target};
 use crate::walk::{MOST_STEPS, Next, Walk, at_end};
 use crate::way::{is_looked_at, names, turn};
+use hfs_model::Sight;
 use hx_bytes::{OutOfMemory, Units};
+use link_text::{is_from_root, read_target};
 use std::alloc::Global;
 
 /// Goes on behind a name, under which this stands.

@@ -98,7 +98,7 @@ struct Small {
 
 impl Looker for Small {
     ghost use Rattle.std.specs.Prelude.{false};
-    ghost use Rattle.link_kinds.specs.declared.kinds.Sight.TheVariants.{Absent};
+    ghost use Rattle.hfs_model.specs.declared.kinds.Sight.TheVariants.{Absent};
 
     ghost state = { λ _. record { tells = false; sight = λ parent name. Absent; faults = 0 } };
 

@@ -1,15 +1,16 @@
 //! A path is followed through symbolic links.
 ghost use Rattle.std.specs.Prelude.{◌≡◌, ◌<◌, ℕ, List, [], reverse, IfOk};
-ghost use Rattle.link_kinds.specs.declared.kinds.Sight.{Sight};
+ghost use Rattle.hfs_model.specs.declared.kinds.Sight.{Sight};
 ghost use Rattle.link_kinds.specs.declared.walk.Next.TheVariants as asked;
 ghost use Rattle.link_kinds.specs.Resolves.{most_steps, resolve};
 ghost use Rattle.link_kinds.specs.Walks.{Asks, Sees, asks_left, leads_to};
 
-use crate::kinds::{Ask, Folder, KindRefusal, Sight};
+use crate::kinds::{Ask, Folder, KindRefusal};
 use crate::lists::reversed;
 use crate::steps::{go_on, seen};
 use crate::way::last_id;
 use hfs_language::Path;
+use hfs_model::Sight;
 use hx_bytes::{OutOfMemory, Units};
 use std::alloc::Global;
 use std::marker::Model;

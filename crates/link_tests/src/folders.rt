@@ -56,31 +56,30 @@ impl Folders {
     /// Adds a file with a CNID.
     pub fn add_file(&mut self, alloc: Global, at: &EntryAt, id: u32) -> Result<Inserted, Stop> {
         takes_name(&at.name)?;
-        self.is_wide()?;
-        let rec = file(id, 0);
-        let answer = add(
-            alloc,
-            &mut self.store,
-            &mut self.desk,
-            at.parent,
-            &at.name,
-            &rec,
-        )?;
-        Ok(answer)
+        self.insert(alloc, at, &file(id, 0))
     }
 
     /// Adds the private folder.
     fn add_private(&mut self, alloc: Global, at: &EntryAt) -> Result<Inserted, Stop> {
         takes_name(&at.name)?;
+        self.insert(alloc, at, &private_folder(PRIVATE))
+    }
+
+    /// Adds an entry with a record.
+    fn insert(&mut self, alloc: Global, at: &EntryAt, rec: &CatRecord) -> Result<Inserted, Stop>
+        requires some { 1 ≤ length at.now.name }
+        requires name { length at.now.name ≤ 255 }
+        requires kind { is_thread rec.now ≡ false }
+        requires fits { FitsRecord rec.now }
+    {
         self.is_wide()?;
-        let rec = private_folder(PRIVATE);
         let answer = add(
             alloc,
             &mut self.store,
             &mut self.desk,
             at.parent,
             &at.name,
-            &rec,
+            rec,
         )?;
         Ok(answer)
     }

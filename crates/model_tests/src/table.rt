@@ -242,16 +242,17 @@ impl Table {
         Ok(())
     }
 
-    fn mv(&mut self, alloc: Global, from: &[u8], to: &[u8]) -> Result<Told, AllocError> {
+    /// The item at a path, and the folder into which another name of it goes.
+    fn reach_both(&self, from: &[u8], to: &[u8]) -> Result<(usize, usize), &'static str> {
         if from.is_empty() || to.is_empty() {
-            return Ok(Err("Root"));
+            return Err("Root");
         }
-        let item = match self.reach(from) {
-            Ok(item) => item,
-            Err(why) => return Ok(Err(why)),
-        };
-        let goal = match self.reach_above(to) {
-            Ok(goal) => goal,
+        Ok((self.reach(from)?, self.reach_above(to)?))
+    }
+
+    fn mv(&mut self, alloc: Global, from: &[u8], to: &[u8]) -> Result<Told, AllocError> {
+        let (item, goal) = match self.reach_both(from, to) {
+            Ok(ends) => ends,
             Err(why) => return Ok(Err(why)),
         };
         if let Some(other) = self.find(to) {
@@ -276,15 +277,8 @@ impl Table {
     }
 
     fn ln(&mut self, alloc: Global, from: &[u8], to: &[u8]) -> Result<Told, AllocError> {
-        if from.is_empty() || to.is_empty() {
-            return Ok(Err("Root"));
-        }
-        let item = match self.reach(from) {
-            Ok(item) => item,
-            Err(why) => return Ok(Err(why)),
-        };
-        let goal = match self.reach_above(to) {
-            Ok(goal) => goal,
+        let (item, goal) = match self.reach_both(from, to) {
+            Ok(ends) => ends,
             Err(why) => return Ok(Err(why)),
         };
         if self.is_folder(item) {

@@ -4,4 +4,5 @@ pub mod Making
 pub mod Ordered
 pub mod Releasing
 pub mod Saving
+pub mod Slashes
 mod Worked

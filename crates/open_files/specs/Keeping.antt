@@ -74,14 +74,16 @@ is_seen_node tree node = (node.id == 2) || list_any (λ entry. entry.id == node.
 pub record SeenNode : Type 0 where
   pub id : ℕ
   pub folder : Bool
+  pub type_bits : ℕ
   pub mode : ℕ
   pub created : ℕ
   pub attributes : List PlainAttribute
   pub bytes : List ℕ
+  pub resource : List ℕ
 
 -- what is seen of a folder or file
 abbrev pub seen_node : PlainNode → SeenNode
-seen_node node = record { id = node.id; folder = node.folder; mode = node.mode; created = node.created; attributes = node.attributes; bytes = node.bytes }
+seen_node node = record { id = node.id; folder = node.folder; type_bits = node.type_bits; mode = node.mode; created = node.created; attributes = node.attributes; bytes = node.bytes; resource = node.resource }
 
 -- What users of sessions see of a tree: all but the keeping folder and files that only it names.
 pub record Seen : Type 0 where

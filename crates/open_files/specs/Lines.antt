@@ -4,7 +4,8 @@ use Rattle.std.specs.List.{slice_split}
 use Rattle.std.specs.Str.{is_utf8}
 use Rattle.cmd_lang.specs.Numbers.{small_number_of}
 use Rattle.hfs_language.specs.Language.{after, command_of, most_bytes, number_of, path_of}
-use Rattle.hfs_language.specs.Text.{field, reply_text}
+use Rattle.hfs_language.specs.Text.{field, name_text, reply_text}
+use Rattle.hfs_language.specs.Written.{path_text}
 use Rattle.hfs_model.specs.Step.{then_}
 use Rattle.hfs_language.specs.declared.refusal.Refusal.{Refusal}
 use Rattle.hfs_language.specs.declared.refusal.Refusal.TheVariants.{TooLong, BadCommand}
@@ -54,9 +55,17 @@ asks_of line = if nat_lt most_bytes (length line) then Err TooLong else asks_in 
 
 -- ---- what it is told
 
+-- a name of a path, with its slash before it
+abbrev pub slashed : List ℕ → List ℕ
+slashed name = 47 ∷ name_text name
+
 -- a reply as one line, with its newline
 unfoldable pub session_text : SessionReply → List ℕ
 session_text (told.Plain reply) = reply_text reply
 session_text (told.Opened handle) = codes "ok" ++ field handle ++ 10 ∷ []
 session_text told.TooManyOpen = codes "no TooManyOpen 256" ++ 10 ∷ []
 session_text (told.NoHandle handle) = codes "no NoHandle" ++ field handle ++ 10 ∷ []
+session_text (told.Followed path) = codes "ok " ++ path_text path ++ 10 ∷ []
+session_text (told.TooManySteps most) = codes "no TooManySteps" ++ field most ++ 10 ∷ []
+session_text told.NotLink = codes "no NotLink" ++ 10 ∷ []
+session_text told.Compressed = codes "no Compressed" ++ 10 ∷ []

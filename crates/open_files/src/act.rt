@@ -35,6 +35,14 @@ pub enum SessionReply {
     TooManyOpen,
     /// This handle isn't open in the session.
     NoHandle(u32),
+    /// Where a path leads that follows symbolic links.
+    Followed(Path),
+    /// So many symbolic links were followed, and there is one more.
+    TooManySteps(u32),
+    /// The file isn't a symbolic link.
+    NotLink,
+    /// macOS keeps the file compressed: what would be written isn't what it shows.
+    Compressed,
 }
 
 /// A file that a session has open.

@@ -2,8 +2,7 @@
 //!
 //! Many sessions speak in one stream, each line behind its session's number. A file that a session has open keeps an entry in a folder of
 //! its own once its last name is taken away, and is gone with its last handle. The definitions say what every line does and is told; the calls read
-//! and print lines, keep the table of handles, and name the keeping folder's entries. Nothing of the program uses them yet: the server of
-//! sessions will.
+//! and print lines, keep the table of handles, and name the keeping folder's entries.
 #![tactic(auto)]
 
 mod act;

@@ -160,5 +160,25 @@ fn replies_are_printed(rt: HostRuntime) -> Result<(), OutOfMemory> {
     assert_eq!(rt; many.as_slice(), b"no TooManyOpen 256\n".as_slice());
     let none = print_session_reply(rt.alloc(), &SessionReply::NoHandle(7))?;
     assert_eq!(rt; none.as_slice(), b"no NoHandle 7\n".as_slice());
+    let steps = print_session_reply(rt.alloc(), &SessionReply::TooManySteps(16))?;
+    assert_eq!(rt; steps.as_slice(), b"no TooManySteps 16\n".as_slice());
+    let file = print_session_reply(rt.alloc(), &SessionReply::NotLink)?;
+    assert_eq!(rt; file.as_slice(), b"no NotLink\n".as_slice());
+    let packed = print_session_reply(rt.alloc(), &SessionReply::Compressed)?;
+    assert_eq!(rt; packed.as_slice(), b"no Compressed\n".as_slice());
+    Ok(())
+}
+
+#[test]
+fn a_path_is_printed_with_its_slashes(rt: HostRuntime) -> Result<(), OutOfMemory> {
+    let alloc = rt.alloc();
+    let mut path = Path::new(alloc);
+    let root = print_session_reply(alloc, &SessionReply::Followed(path))?;
+    assert_eq!(rt; root.as_slice(), b"ok /\n".as_slice());
+    path = Path::new(alloc);
+    path.push(Units::from_vec(Vec::from_slice(alloc, &[100])?))?;
+    path.push(Units::from_vec(Vec::from_slice(alloc, &[102, 32])?))?;
+    let file = print_session_reply(alloc, &SessionReply::Followed(path))?;
+    assert_eq!(rt; file.as_slice(), b"ok /d/f%u0020\n".as_slice());
     Ok(())
 }

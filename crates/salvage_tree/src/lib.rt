@@ -19,6 +19,7 @@ mod source;
 mod strays;
 mod text;
 mod tree;
+mod unerased;
 mod volume;
 
 pub use bitmap::Bits;

@@ -39,8 +39,8 @@ struct Fronts {
 }
 
 impl<'a> TreeFile<'a> {
-    // The sectors of the file, as far as the source has any.
-    fn sectors<S: Sectors>(&self, source: &S) -> u64 {
+    /// The sectors of the file, as far as the source has any.
+    pub(crate) fn sectors<S: Sectors>(&self, source: &S) -> u64 {
         let mut blocks: u64 = 0;
         for extent in self.extents {
             blocks = blocks.saturating_add(u64::from(extent.count));
@@ -48,8 +48,14 @@ impl<'a> TreeFile<'a> {
         blocks.saturating_mul(self.per_block).min(source.count())
     }
 
-    // Reads the sectors of a node. What can't be read of it is zero.
-    fn read<S: Sectors>(&self, source: &mut S, node: u64, size: u64, into: &mut [Sector]) {
+    /// Reads the sectors of a node. What can't be read of it is zero.
+    pub(crate) fn read<S: Sectors>(
+        &self,
+        source: &mut S,
+        node: u64,
+        size: u64,
+        into: &mut [Sector],
+    ) {
         read_fork(
             source,
             self.per_block,
@@ -59,8 +65,8 @@ impl<'a> TreeFile<'a> {
         );
     }
 
-    // The sectors of a node that the header node tells, if it is one.
-    fn told_size<S: Sectors>(&self, source: &mut S) -> Option<u64> {
+    /// The sectors of a node that the header node tells, if it is one.
+    pub(crate) fn told_size<S: Sectors>(&self, source: &mut S) -> Option<u64> {
         let mut first: [Sector; 1] = [[0; 512]; 1];
         self.read(source, 0, 1, first.as_mut_slice());
         let bytes = first.as_flattened();
@@ -101,8 +107,8 @@ fn read_fronts<S: Sectors>(
     Ok(fronts)
 }
 
-// The bits of the header node and of the map nodes behind it, if the first of these is there.
-fn read_map<S: Sectors>(
+/// The bits of the header node and of the map nodes behind it, if the first of these is there.
+pub(crate) fn read_map<S: Sectors>(
     alloc: Global,
     source: &mut S,
     file: TreeFile<'_>,

@@ -5,42 +5,11 @@ use btree_node::{ExtentOrder, Node};
 use fork_map::{ExtentList, SummedFork};
 use fsck_list::{Finding, Findings, Records};
 use fsck_scan::{Fault, Fork, TreeName, WrongNode, read_level, scan_tree};
-use hx_bytes::{Extent, Failed, Sector};
-use sector_disk::SectorView;
+use hx_bytes::{Extent, Sector};
+use sector_kit::Sectors;
 use std::alloc::Global;
 use std::process::Abort;
 use std::test::Fail;
-
-/// Sectors that tell nothing, and how often they were read.
-#[derive(Drop)]
-struct Sectors {
-    list: Vec<Sector>,
-    reads: u64,
-}
-
-impl SectorView for Sectors {
-    ghost use Rattle.alloc_bitmap.specs.Untold.{told_none};
-
-    ghost space = { λ s. told_none (length s.list.items) };
-
-    ghost follows = { λ _ _. Unit {0} };
-
-    ghost follows_refl = { λ _. tt };
-
-    ghost follows_trans = { λ _ _ _ _ _. tt };
-
-    fn sectors(&self) -> u64 {
-        self.list.len() as u64
-    }
-
-    fn get(&mut self, at: u64, into: &mut Sector) -> Result<(), Failed> {
-        into.copy_from_slice(&self.list[at as usize]);
-        self.reads = self.reads.wrapping_add(1);
-        Ok(())
-    }
-
-    ghost well_formed = { λ s tells. Prim.cc };
-}
 
 type Patch = (usize, &'static [u8]);
 
@@ -86,7 +55,7 @@ fn leaves(alloc: Global, damage: &[(usize, Patch)]) -> Result<Sectors, Fail> {
             patch(sector, &[*change]);
         }
     }
-    Ok(Sectors { list, reads: 0 })
+    Ok(Sectors::new(list))
 }
 
 fn names(alloc: Global, items: &[&[u8]]) -> Result<Records, Fail> {
@@ -242,7 +211,7 @@ fn tree(alloc: Global, damage: &[(usize, Patch)]) -> Result<Sectors, Fail> {
             patch(sector, &[*change]);
         }
     }
-    Ok(Sectors { list, reads: 0 })
+    Ok(Sectors::new(list))
 }
 
 /// Scans the tree: how many pairs it gives, and the first finding.

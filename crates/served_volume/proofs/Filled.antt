@@ -1,22 +1,20 @@
 -- Blocks filled ahead of a line, as serving sees it.
-use Rattle.std.proofs.Common.{◌≡◌, ◌⊎◌, ◌<◌, ◌≤◌, ◌+◌, ◌/◌, ⊎_elim, ℕ, List, false, inl, inr, sym, ◌∙◌, ap, subst}
-use Rattle.std.specs.Prelude.{Ok}
+use Rattle.std.proofs.Common.{◌≡◌, ◌⊎◌, ◌<◌, ◌≤◌, ◌+◌, ◌/◌, ⊎_elim, ℕ, false, inl, inr, sym, ◌∙◌, ap, subst}
+use Rattle.std.specs.Prelude.{Option, Some}
+use Rattle.hfs_volume.specs.declared.asked.Asked.{Asked}
 use Rattle.jnl_format.specs.Recovery.{Content, header_of_volume, info_sector_of}
 use Rattle.sector_disk.specs.Space.{Space, AgreesOutside}
 use Rattle.volume_header.specs.declared.header.VolumeHeader.{VolumeHeader}
-use Rattle.hfs_model.specs.Step.{refuses}
 use Rattle.hfs_model.specs.declared.plain.PlainTree.{PlainTree}
 use Rattle.hfs_volume.specs.Aside.{IsAside}
 use Rattle.hfs_volume.specs.Content.{VolumeState, is_set, volume_of}
 use Rattle.hfs_volume.specs.Forks.{per_block_of}
 use Rattle.hfs_volume.specs.Reclaim.{FillsZeros}
 use Rattle.hfs_volume.specs.TreeOf.{tree_of}
-use Rattle.hfs_volume.specs.Weight.{data_of, most_zeros, needs_cut, weight, zero_blocks}
-use Rattle.hfs_serving.specs.Going.{asked_in}
+use Rattle.hfs_volume.specs.Asked.{asked_needs_cut, asked_weight, asked_zero_blocks, is_refused}
+use Rattle.hfs_volume.specs.Weight.{most_zeros}
 use Rattle.hfs_serving.specs.Serving.{IsRead}
 use Rattle.volume_runs.specs.Rest.{FillsFor}
-use Rattle.volume_runs.specs.Run.{spelled}
-use Rattle.served_volume.specs.Answering.{FillsForLine}
 use Rattle.served_volume.specs.Knowing.{IsAlike}
 use Rattle.served_volume.proofs.Heading.{head_is}
 
@@ -60,14 +58,14 @@ module _ (now next : Content) (a b : Space) (reads : IsRead now a) (reads_next :
   pub fills_alike : FillsZeros now next
   fills_alike = record { volume = same_lists; others = filled_between; keeps = record { sound = two.sound; tree = two.tree ∙ fills.keeps.tree ∙ sym one.tree } }
 
-pub line_filled : (capacity : ℕ) (line : List ℕ) (now next : Content) (a b : Space) → IsRead now a → IsRead next b → IsAlike now a.content → IsAlike next b.content → FillsForLine capacity line a.content b.content → FillsFor capacity (asked_in line) now next
-line_filled capacity line now next a b reads reads_next one two was = record {
-  own = was.asked;
-  is_own = ap spelled was.spelled;
-  no_refusal = ap (λ (t : PlainTree). refuses t (Ok was.asked)) one.tree ∙ was.first.no_refusal;
-  no_surplus = (λ i. needs_cut (one.lists i) (data_of (one.tree i) was.asked)) ∙ was.first.no_surplus;
-  load = was.first.load;
-  affords = (λ i. weight capacity (one.lists i) (one.tree i) was.asked) ∙ was.first.affords;
-  many = subst (λ (k : VolumeState × PlainTree). most_zeros < zero_blocks k.0.head.block_size k.1 was.asked) {x = (volume_of a.content, tree_of a.content)} {y = (volume_of now, tree_of now)} (λ i. (sym one.lists i, sym one.tree i)) was.first.many;
-  fills = fills_alike now next a b reads reads_next one two was.first.fills;
+pub ahead_filled : (capacity : ℕ) (wanted : Option Asked) (asked : Asked) → wanted ≡ Some asked → (now next : Content) (a b : Space) → IsRead now a → IsRead next b → IsAlike now a.content → IsAlike next b.content → FillsFor capacity (Some asked) a.content b.content → FillsFor capacity wanted now next
+ahead_filled capacity wanted asked is now next a b reads reads_next one two was = record {
+  own = was.own;
+  is_own = is ∙ was.is_own;
+  no_refusal = ap (λ (t : PlainTree). is_refused t was.own) one.tree ∙ was.no_refusal;
+  no_surplus = (λ i. asked_needs_cut (one.lists i) (one.tree i) was.own) ∙ was.no_surplus;
+  load = was.load;
+  affords = (λ i. asked_weight capacity (one.lists i) (one.tree i) was.own) ∙ was.affords;
+  many = subst (λ (k : VolumeState × PlainTree). most_zeros < asked_zero_blocks k.0.head.block_size k.1 was.own) {x = (volume_of a.content, tree_of a.content)} {y = (volume_of now, tree_of now)} (λ i. (sym one.lists i, sym one.tree i)) was.many;
+  fills = fills_alike now next a b reads reads_next one two was.fills;
 }

@@ -1,5 +1,5 @@
 -- The volume header stays one of the same volume, and no block of it is spilled.
-use Rattle.std.proofs.Common.{◌≡◌, ◌≢◌, ◌⊎◌, ◌<◌, ◌≤◌, ◌+◌, ◌*◌, ◌/◌, ◌-◌, ◌%◌, ℕ, Bool, true, false, bit_or, not, List, inl, inr, ⊎_elim, length, refl, sym, ◌∙◌, ap, subst, arith}
+use Rattle.std.proofs.Common.{◌≡◌, ◌≢◌, ◌⊎◌, ◌<◌, ◌≤◌, ◌+◌, ◌*◌, ◌/◌, ◌-◌, ◌%◌, ◌^◌, ℕ, Bool, true, false, bit_or, not, List, inl, inr, ⊎_elim, length, refl, sym, ◌∙◌, ap, subst, arith}
 use Rattle.std.specs.Prelude.{Contains, IsTrue, Option, None, Some, nat_lt, ◌==◌, ◌||◌, if◌then◌else◌}
 use Rattle.std.specs.List.{range_with_len}
 use Rattle.std.specs.Int.{bit_at}
@@ -113,7 +113,7 @@ record KeepsBits (old new : ℕ) : Type 0 where
   bit_13 : bit_at new 13 ≡ bit_at old 13
   bit_15 : bit_at new 15 ≡ bit_at old 15
 
-mounted_bits : (n : ℕ) → KeepsBits n (n - (n / 256 % 2) * 256)
+mounted_bits : (n : ℕ) → KeepsBits n ((n - (n / 256 % 2) * 256) % 2 ^ 31)
 mounted_bits n = record { bit_12 = omega arith; bit_13 = omega arith; bit_15 = omega arith }
 
 unmounted_bits : (n : ℕ) → KeepsBits n (bit_or n 256)

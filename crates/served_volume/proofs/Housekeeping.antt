@@ -1,6 +1,7 @@
 -- A step of housekeeping, as serving sees it.
 use Rattle.std.proofs.Common.{◌≡◌, ◌⊎◌, ℕ, List, inl, inr, ⊎_elim, sym, ◌∙◌, ap, subst}
 use Rattle.std.specs.Prelude.{IfOk, Option, None, Some, Result, Ok, Err}
+use Rattle.hfs_volume.specs.Asked.{asked_weight, is_refused}
 use Rattle.hx_bytes.specs.declared.faults.Trouble.{Trouble}
 use Rattle.jnl_format.specs.Recovery.{Content}
 use Rattle.sector_disk.specs.Space.{Space}
@@ -40,7 +41,7 @@ reclaims_alike capacity shrunk now next before after one two was =
 -- and what wants a growth wants it
 wants_alike : (capacity : ℕ) (shrunk : Option ℕ) (now before : Content) (grow : List ℕ) → IsAlike now before → CommandWants capacity before grow ⊎ StepWants capacity shrunk before grow → CommandWants capacity now grow ⊎ StepWants capacity shrunk now grow
 wants_alike capacity shrunk now before grow one (inl was) =
-    inl (record { asked = was.asked; no_refusal = ap (λ (t : PlainTree). refuses t (Ok was.asked)) one.tree ∙ was.no_refusal; load = was.load; affords = (λ i. weight capacity (one.lists i) (one.tree i) was.asked) ∙ was.affords })
+    inl (record { asked = was.asked; no_refusal = ap (λ (t : PlainTree). is_refused t was.asked) one.tree ∙ was.no_refusal; load = was.load; affords = (λ i. asked_weight capacity (one.lists i) (one.tree i) was.asked) ∙ was.affords })
 wants_alike capacity shrunk now before grow one (inr was) =
     inr (record { step = was.step; next = ap (λ (l : VolumeState). next_reclaim l shrunk) one.lists ∙ was.next; load = was.load; affords = ap (λ (l : VolumeState). reclaim_cost capacity l was.step) one.lists ∙ was.affords })
 

@@ -1,25 +1,22 @@
 -- Where a commit is wanted, something stands in the command's way.
-use Rattle.std.proofs.Common.{◌≡◌, ◌≢◌, ◌⊎◌, ◌≤◌, ◌<◌, ℕ, List, Bool, true, false, inl, inr, ⊎_elim, refl, sym, ◌∙◌, ap, subst, le-leb, eq-eqb, arith}
-use Rattle.std.specs.Prelude.{◌==◌, ◌&&◌, not, nat_le, Option, None, Some, slice_index}
+use Rattle.std.proofs.Common.{◌≡◌, ◌≢◌, ◌⊎◌, ◌≤◌, ◌<◌, ℕ, List, Bool, true, false, inl, inr, ⊎_elim, refl, sym, ◌∙◌, ap, le-leb, eq-eqb}
+use Rattle.std.specs.Prelude.{◌&&◌, not, nat_le, Option, None, Some, slice_index}
 use Rattle.std.proofs.lemmas.Bool.{cases_eq, cases_lt}
 use Rattle.sector_disk.specs.Space.{Space}
-use Rattle.alloc_bitmap.specs.Map.{free_of}
 use Rattle.hfs_language.specs.declared.command.Command.{Command}
+use Rattle.hfs_volume.specs.declared.asked.Asked.TheVariants.{Plain}
 use Rattle.hfs_language.specs.declared.refusal.Refusal.{Refusal}
 use Rattle.hfs_model.specs.Step.{only_reads}
 use Rattle.hfs_volume.specs.Content.{volume_of}
-use Rattle.hfs_volume.specs.Cost.{cost_of}
 use Rattle.hfs_volume.specs.TreeOf.{tree_of}
-use Rattle.hfs_volume.specs.Weight.{Data, data_of, most_zeros, needs_cut, room_with, weight, weight_with, zero_blocks}
+use Rattle.hfs_volume.specs.Weight.{Data, data_of, most_zeros, needs_cut, weight, zero_blocks}
 use Rattle.hfs_volume.specs.declared.cost.Cost.{Cost}
 use Rattle.hfs_volume.specs.declared.cost.Cost.TheVariants as cost
-use Rattle.volume_base.specs.DataWeighing.{needs_data}
-use Rattle.volume_base.specs.Fitting.{takable_of}
 use Rattle.volume_base.specs.Room.{capacity_of}
 use Rattle.volume_base.specs.declared.volume.Volume.{Volume}
 use Rattle.volume_space.specs.Spreading.{is_met_extents}
 use Rattle.volume_space.specs.Writing.{is_data_met}
-use Rattle.volume_step.specs.Steps.{FitsNow, FitsReady, HasFewZeros, LacksCutRoom, PutsNow}
+use Rattle.volume_step.specs.Steps.{FitsReady, LacksCutRoom, PutsNow}
 use Rattle.volume_step.specs.declared.outcome.Outcome.{Outcome}
 use Rattle.volume_step.specs.declared.outcome.Outcome.TheVariants as outcome
 use Rattle.volume_space.specs.declared.tidying.Tidying.{Tidying}
@@ -120,12 +117,12 @@ module _ (asked : Command) (volume : Volume) (space : Space) where
     by_cut short true is = inl (record { needs = is; room = short is })
     by_cut short false is = inr (by_data is (data_of (tree_of space.content) asked) refl)
 
-    by_reading : (needs_cut (volume_of space.content) (data_of (tree_of space.content) asked) ≡ true → LacksCutRoom volume space) → (reads : Bool) → only_reads asked ≡ reads → WantsCommit volume space (Some asked)
+    by_reading : (needs_cut (volume_of space.content) (data_of (tree_of space.content) asked) ≡ true → LacksCutRoom volume space) → (reads : Bool) → only_reads asked ≡ reads → WantsCommit volume space (Some (Plain asked))
     by_reading short true is = absurd (not_now (inl is))
     by_reading short false is = (is, by_cut short (needs_cut (volume_of space.content) (data_of (tree_of space.content) asked)) refl)
 
   -- where none of what lets a command go ahead stands, and a cut ahead of it has too little room
-  pub wants_commit : ((only_reads asked ≡ true) ⊎ (FitsReady asked volume space ⊎ PutsNow asked volume space) → ⊥) → (needs_cut (volume_of space.content) (data_of (tree_of space.content) asked) ≡ true → LacksCutRoom volume space) → WantsCommit volume space (Some asked)
+  pub wants_commit : ((only_reads asked ≡ true) ⊎ (FitsReady asked volume space ⊎ PutsNow asked volume space) → ⊥) → (needs_cut (volume_of space.content) (data_of (tree_of space.content) asked) ≡ true → LacksCutRoom volume space) → WantsCommit volume space (Some (Plain asked))
   wants_commit not_now short = by_reading not_now short (only_reads asked) refl
 
 -- a step that comes to wanting a commit wanted one

@@ -1,5 +1,6 @@
 pub mod Answering
 pub mod Knowing
+pub mod Links
 pub mod Marking
 pub mod Tidying
 pub mod Verdicts

@@ -6,6 +6,8 @@ use Rattle.alloc_bitmap.specs.Map.{free_of}
 use Rattle.hfs_language.specs.declared.command.Command.{Command}
 use Rattle.hfs_language.specs.declared.refusal.Refusal.{Refusal}
 use Rattle.hfs_model.specs.Step.{only_reads}
+use Rattle.hfs_volume.specs.declared.asked.Asked.{Asked}
+use Rattle.hfs_volume.specs.declared.asked.Asked.TheVariants.{Kind, Plain}
 use Rattle.hfs_volume.specs.Content.{volume_of}
 use Rattle.hfs_volume.specs.Cost.{cost_of}
 use Rattle.hfs_volume.specs.TreeOf.{tree_of}
@@ -16,6 +18,7 @@ use Rattle.volume_base.specs.DataWeighing.{needs_data}
 use Rattle.volume_base.specs.Fitting.{takable_of}
 use Rattle.volume_base.specs.Room.{capacity_of}
 use Rattle.volume_base.specs.declared.volume.Volume.{Volume}
+use Rattle.volume_links.specs.Wanting.{KindWantsCommit}
 use Rattle.volume_step.specs.Steps.{LacksCutRoom}
 use Rattle.volume_step.specs.Tidying.{LacksRoom}
 use Rattle.served_volume.specs.declared.served.ServedVolume.{ServedVolume}
@@ -56,11 +59,12 @@ pub record HasManyZeros (asked : Command) (volume : Volume) (space : Space) : Ty
   pub put : space.spare < capacity_of volume
 
 -- why a volume wants a commit before a step of this command, which isn't one that only reads, or of housekeeping where there is none
-abbrev pub WantsCommit : Volume → Space → Option Command → Type 0
+abbrev pub WantsCommit : Volume → Space → Option Asked → Type 0
 WantsCommit volume space None = LacksRoom volume space
-WantsCommit volume space (Some asked) =
+WantsCommit volume space (Some (Kind asked)) = KindWantsCommit volume space asked
+WantsCommit volume space (Some (Plain asked)) =
     (only_reads asked ≡ false) × (LacksRoomToCut asked volume space ⊎ LacksRoomForLoad asked volume space ⊎ LacksBlocks asked volume space ⊎ GrowsOtherwise asked volume space ⊎ HasManyZeros asked volume space)
 
 -- the same of a volume that is served
-abbrev pub ServedWants : ServedVolume → Space → Option Command → Type 0
+abbrev pub ServedWants : ServedVolume → Space → Option Asked → Type 0
 ServedWants served space asked = WantsCommit served.volume space asked

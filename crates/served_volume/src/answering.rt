@@ -1,5 +1,5 @@
 //! A command on a volume in service.
-ghost use Rattle.std.specs.Prelude.{◌≡◌, ◌≢◌, ◌⊎◌, ◌<◌, ◌==◌, ℕ, List, true, IsTrue, IfOk, Ok, OnOk, Some};
+ghost use Rattle.std.specs.Prelude.{◌≡◌, ◌≢◌, ◌⊎◌, ◌<◌, ◌==◌, ℕ, List, Option, true, IsTrue, IfOk, Ok, OnOk, Some};
 ghost use Rattle.jnl_format.specs.Recovery.{Content};
 ghost use Rattle.sector_disk.specs.Space.{SameSpace};
 ghost use Rattle.btree_edit.specs.Causes.{HasTroubleCause};
@@ -7,7 +7,10 @@ ghost use Rattle.hfs_language.specs.Language.{command_of};
 ghost use Rattle.hfs_language.specs.Written.{FitsCommand};
 ghost use Rattle.hfs_model.specs.Step.{only_reads};
 ghost use Rattle.hfs_volume.specs.Aside.{IsJournalSector};
+ghost use Rattle.hfs_volume.specs.declared.asked.Asked.{Asked};
+ghost use Rattle.hfs_volume.specs.declared.asked.Asked.TheVariants.{Plain};
 ghost use Rattle.hfs_volume.specs.Sound.{IsSound};
+ghost use Rattle.volume_runs.specs.Run.{wanted_in};
 ghost use Rattle.volume_base.specs.Keeping.{shrunk_of};
 ghost use Rattle.volume_base.specs.Room.{capacity_of};
 ghost use Rattle.volume_base.specs.Service.{IsInService};
@@ -40,7 +43,7 @@ fn refused(alloc: Global, why: Refusal) -> Outcome
 }
 
 /// What a step came to; where it wants a commit, though nothing was put since the last one, memory is missing for its puts.
-fn unless_short(alloc: Global, fresh: bool, outcome: Outcome) -> Outcome
+pub(crate) fn unless_short(alloc: Global, fresh: bool, outcome: Outcome) -> Outcome
     ensures { result ≡ unless_short fresh outcome }
 {
     match outcome {
@@ -68,13 +71,13 @@ pub(crate) fn performed(outcome: Outcome) -> Performed
 }
 
 /// Whether nothing was put since the last commit.
-fn is_fresh<P: Ground>(space: &P) -> bool
+pub(crate) fn is_fresh<P: Ground>(space: &P) -> bool
     ensures { result ≡ (P.taken space.now == 0) }
 {
     space.pending() == 0
 }
 
-/// Does a command of the line with this number. Behind a fault no growth is in hand.
+/// Does a command, of the line with this number or one that stands by itself. Behind a fault no growth is in hand.
 pub(crate) fn do_command<P: Ground>(
     alloc: Global,
     volume: &mut Volume,
@@ -88,7 +91,7 @@ pub(crate) fn do_command<P: Ground>(
     requires sound { IsTrue (P.SectorView.space space.old).tells → IsSound (P.SectorView.space space.old).content }
     requires closed { IsTrue (P.SectorView.space space.old).tells → (at : ℕ) → (P.SectorView.space space.old).closed at → IsJournalSector (P.SectorView.space space.old).content at }
     requires fits { FitsCommand command.now }
-    ensures answered { (line : List ℕ) → command_of line ≡ Ok command.now → IsTrue (P.SectorView.space space.old).tells → IfOk result (λ outcome. AnswersAs outcome (capacity_of volume.old) number line (P.SectorView.space space.old).content (P.SectorView.space space.new).content) }
+    ensures answered { (own : Option Asked) (line : List ℕ) → wanted_in own line ≡ Some (Plain command.now) → IsTrue (P.SectorView.space space.old).tells → IfOk result (λ outcome. AnswersAs outcome (capacity_of volume.old) number own line (P.SectorView.space space.old).content (P.SectorView.space space.new).content) }
     // Where the step is ready for it, or nothing was put since the last commit and nothing is missing for it, neither a commit is wanted nor is
     // memory missing.
     ensures ready { (line : List ℕ) → command_of line ≡ Ok command.now → IsTrue (P.SectorView.space space.old).tells → (only_reads command.now ≡ true) ⊎ (FitsReady command.now volume.old (P.SectorView.space space.old) ⊎ PutsNow command.now volume.old (P.SectorView.space space.old)) → IfOk result (λ outcome. IsDecidedAs outcome (capacity_of volume.old) line (P.SectorView.space space.old).content (P.SectorView.space space.new).content) }
@@ -96,7 +99,7 @@ pub(crate) fn do_command<P: Ground>(
     // Where something was put since the last commit memory isn't missing for it; where nothing was, no commit is wanted.
     ensures pends { (line : List ℕ) → command_of line ≡ Ok command.now → IsTrue (P.SectorView.space space.old).tells → 0 < P.taken space.old → IfOk result (λ outcome. IsDecidedOrWaits outcome (capacity_of volume.old) line (P.SectorView.space space.old).content (P.SectorView.space space.new).content) }
     // One is wanted only where something stands in the command's way: room, the blocks that are held until then, or many zero blocks.
-    ensures waits { IsTrue (P.SectorView.space space.old).tells → IfOk result (λ came. came ≡ outcome.CommitFirst → WantsCommit volume.old (P.SectorView.space space.old) (Some command.now)) }
+    ensures waits { IsTrue (P.SectorView.space space.old).tells → IfOk result (λ came. came ≡ outcome.CommitFirst → WantsCommit volume.old (P.SectorView.space space.old) (Some (Plain command.now))) }
     ensures never { P.taken space.old ≡ 0 → IfOk result (λ it. it ≢ outcome.CommitFirst) }
     ensures place { IsTrue (P.SectorView.space space.old).tells → OnOk result (KeepsJournal (P.SectorView.space space.old).content (P.SectorView.space space.new).content) }
     ensures stands { OnOk result (StandsOver volume.new (P.SectorView.space space.new)) }
@@ -105,7 +108,7 @@ pub(crate) fn do_command<P: Ground>(
     ensures service { IsInService volume.new (P.SectorView.space space.new) }
     ensures holds { (committed : Content) → HoldsOn committed volume.old → OnOk result (HoldsOn committed volume.new) }
     ensures capacity { capacity_of volume.new ≡ capacity_of volume.old }
-    ensures shrunk { (line : List ℕ) → command_of line ≡ Ok command.now → IsTrue (P.SectorView.space space.old).tells → IfOk result (λ outcome. ShrinksBy outcome line (P.SectorView.space space.old).content (shrunk_of volume.old) (shrunk_of volume.new)) }
+    ensures shrunk { (own : Option Asked) (line : List ℕ) → wanted_in own line ≡ Some (Plain command.now) → IsTrue (P.SectorView.space space.old).tells → IfOk result (λ outcome. ShrinksBy outcome own line (P.SectorView.space space.old).content (shrunk_of volume.old) (shrunk_of volume.new)) }
     ensures touches { (committed : Content) → HoldsOn committed volume.old → IsLaidOutAs committed volume.old → Touches committed (OwnOf volume.old volume.new) (P.SectorView.space space.old) (P.SectorView.space space.new) }
     ensures same { SameSpace (P.SectorView.space space.old) (P.SectorView.space space.new) }
     ensures below { P.SectorView.follows space.old space.new }

@@ -2,14 +2,18 @@
 ghost use Rattle.served_volume.specs.Knowing.{Knows};
 ghost use Rattle.served_volume.specs.Wanting.{ServedWants};
 
-use crate::answering::{do_command, performed};
+use crate::answering::performed;
+use crate::asking::do_asked;
+use crate::flags::is_compressed;
+use crate::linking::link_read;
 use crate::renewing::{put_in_place, with_shrunk};
 use crate::served::ServedVolume;
 use crate::tidied::next_of;
-use hfs_language::Command;
+use hfs_language::{Path, Refusal};
+use hfs_model::Sight;
 use hfs_serving::{Ground, Next, Performed, Recalled, Volume};
-use hfs_volume::aside_is_free;
-use hx_bytes::{Bytes, Trouble};
+use hfs_volume::{Asked, aside_is_free};
+use hx_bytes::{Bytes, Trouble, Units};
 use std::alloc::Global;
 use volume_step::tidy;
 
@@ -52,12 +56,12 @@ impl Volume for ServedVolume {
         &mut self,
         base: &mut G,
         number: u64,
-        command: &Command,
+        asked: &Asked,
     ) -> Result<Performed, Trouble> {
         if self.is_elsewhere(base) {
             return Err(Trouble::Memory);
         }
-        let outcome = do_command(self.alloc, &mut self.volume, base, number, command);
+        let outcome = do_asked(self.alloc, &mut self.volume, base, number, asked);
         base.look();
         match outcome {
             Ok(outcome) => Ok(performed(outcome)),
@@ -78,6 +82,42 @@ impl Volume for ServedVolume {
         let read = self.volume.read_id(self.alloc, base, id, from, long);
         base.look();
         read
+    }
+
+    fn look_in<G: Ground>(
+        &mut self,
+        base: &mut G,
+        parent: u32,
+        name: &Units,
+    ) -> Result<Sight, Trouble> {
+        if self.is_elsewhere(base) {
+            return Err(Trouble::Memory);
+        }
+        let seen = self.volume.look(self.alloc, base, parent, name);
+        base.look();
+        seen
+    }
+
+    fn read_link<G: Ground>(
+        &mut self,
+        base: &mut G,
+        path: &Path,
+    ) -> Result<Result<Option<Bytes>, Refusal>, Trouble> {
+        if self.is_elsewhere(base) {
+            return Err(Trouble::Memory);
+        }
+        let read = self.volume.readlink(self.alloc, base, path);
+        base.look();
+        link_read(read)
+    }
+
+    fn is_compressed<G: Ground>(&mut self, base: &mut G, path: &Path) -> Result<bool, Trouble> {
+        if self.is_elsewhere(base) {
+            return Err(Trouble::Memory);
+        }
+        let found = is_compressed(self.alloc, &mut self.volume, base, path);
+        base.look();
+        found
     }
 
     fn recall<G: Ground>(&self, _base: &G) -> Recalled {

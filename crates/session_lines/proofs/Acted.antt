@@ -1,12 +1,9 @@
 -- A line with a command of its own: what its stages and the command come to.
 use Rattle.std.proofs.Common.{◌≡◌, ◌⊎◌, ◌≤◌, ◌++◌, ◌∷◌, [], ℕ, Bool, List, true, false, inl, inr, length, refl, sym, ◌∙◌, ap, subst, arith, ⊎_elim}
-use Rattle.std.specs.Prelude.{◌==◌, IfOk, Option, Some, None, Result, Ok, Err, if◌then◌else◌, nat_lt, codes, bytes_eq}
-use Rattle.std.specs.List.{slice_split}
-use Rattle.std.specs.Str.{is_utf8}
+use Rattle.std.specs.Prelude.{IfOk, Option, Some, None, Result, Ok, Err}
 use Rattle.std.proofs.lemmas.List.{append-nil}
 use Rattle.sector_disk.specs.Space.{Space}
 use Rattle.jnl_format.specs.Recovery.{Content}
-use Rattle.hfs_language.specs.Language.{after, command_of, most_bytes, path_of, number_of}
 use Rattle.hfs_language.specs.Text.{reply_text}
 use Rattle.hfs_language.specs.declared.command.Command.{Command}
 use Rattle.hfs_language.specs.declared.refusal.Refusal.{Refusal}
@@ -14,11 +11,11 @@ use Rattle.hfs_language.specs.declared.refusal.Refusal.TheVariants as refusal
 use Rattle.hfs_language.specs.declared.reply.Change.{Change}
 use Rattle.hfs_language.specs.declared.reply.Reply.{Reply}
 use Rattle.hfs_language.specs.declared.reply.Reply.TheVariants as reply
-use Rattle.hfs_model.specs.Step.{then_}
 use Rattle.hfs_model.specs.declared.plain.PlainTree.{PlainTree}
 use Rattle.hfs_volume.specs.Books.{StepKeepsTrees}
 use Rattle.hfs_volume.specs.TreeOf.{tree_of}
-use Rattle.volume_runs.specs.Run.{Entry, content_after, shrunk_in, spelled, asked_by, tree_after}
+use Rattle.hfs_volume.specs.declared.asked.Asked.TheVariants.{Plain}
+use Rattle.volume_runs.specs.Run.{Entry, content_after, shrunk_in, tree_after, wanted_by}
 use Rattle.hfs_serving.specs.Going.{GoesTidy, Knowing, Stands, StopsOn, line_if}
 use Rattle.hfs_serving.specs.Outside.{Outside}
 use Rattle.hfs_serving.specs.Said.{joined, untold}
@@ -26,15 +23,15 @@ use Rattle.hfs_serving.specs.Serving.{Goes, Stops}
 use Rattle.hfs_serving.specs.Speaking.{SpeaksLine, StopsSpeaking, unspoken}
 use Rattle.hfs_serving.specs.declared.telling.Stop.{Stop}
 use Rattle.hfs_serving.specs.declared.volume.ToTell.{ToTell}
+use Rattle.hfs_serving.proofs.Asking.{asked_plainly}
 use Rattle.hfs_serving.proofs.Batches.{goes_both}
 use Rattle.hfs_serving.proofs.Leading.{tidies_of}
 use Rattle.hfs_serving.proofs.Lists.{shrunk_in-append, shrunk_in-none}
 use Rattle.hfs_serving.proofs.Mounting.{tidied_tree}
 use Rattle.hfs_serving.proofs.Saying.{joined_none}
 use Rattle.hfs_serving.proofs.Speeches.{speaks_none, tells_unspoken}
-use Rattle.open_files.specs.Lines.{act_of, asks_in, asks_of, handle_of, plain_act, read_act, session_text, words_act}
+use Rattle.open_files.specs.Lines.{asks_of, session_text}
 use Rattle.open_files.specs.Machine.{Machine, Turn}
-use Rattle.open_files.specs.Sessions.{Part, session_of}
 use Rattle.open_files.specs.declared.act.Act.{Act}
 use Rattle.open_files.specs.declared.act.Act.TheVariants as act
 use Rattle.open_files.specs.declared.act.OpenFile.{OpenFile}
@@ -48,7 +45,6 @@ use Rattle.session_lines.specs.Doing.{DidOn, OwnDone, StopsGoing, WentOn}
 use Rattle.session_lines.specs.Errands.{IsErrandOf, errand_for}
 use Rattle.session_lines.specs.Following.{Follows}
 use Rattle.session_lines.specs.Said.{text_told, told_if}
-use Rattle.session_lines.specs.Spelling.{HasLine}
 use Rattle.session_lines.specs.Stages.{command_at}
 use Rattle.session_lines.specs.Turns.{AsksFor, BrokenSessions, IsTurn, IsTurnInShort, IsTurnOf, spoke_at}
 use Rattle.session_lines.proofs.Answered.{Turned, cut_short}
@@ -57,84 +53,6 @@ use Rattle.session_lines.proofs.Lines.{Went, goes_as, goes_line}
 use Rattle.session_lines.proofs.Saves.{ended}
 use Rattle.session_lines.proofs.Served.{AreSome, AreTurned, Stays, machine_at, serves_turned, stops_turned}
 use Rattle.session_lines.proofs.Stretches.{stands_went, tree_went, went_stops}
-
--- ---- the command is one that a line spells
-
-abbrev plain_or : Command → Result Act Refusal → Command
-plain_or other (Ok (act.Plain asked)) = asked
-plain_or other _ = other
-
-no_plain : {X : Type 0} (make : X → Act) (r : Result X Refusal) (asked : Command) → ((x : X) → make x ≡ act.Plain asked → ⊥) → after make r ≡ Ok (act.Plain asked) → ⊥
-no_plain make (Ok x) asked other is = other x (ok_act (make x) (act.Plain asked) is)
-  where
-    act_or : Act → Result Act Refusal → Act
-    act_or other (Ok it) = it
-    act_or other (Err why) = other
-
-    ok_act : (a b : Act) → ◌≡◌ {A = Result Act Refusal} (Ok a) (Ok b) → a ≡ b
-    ok_act a b same = ap (act_or a) same
-no_plain make (Err why) asked other is = cc is
-
-plain_spelled : (part : List ℕ) (asked : Command) → plain_act part ≡ Ok (act.Plain asked) → command_of part ≡ Ok asked
-plain_spelled part asked is = by (command_of part) refl is
-  where
-    by : (r : Result Command Refusal) → command_of part ≡ r → after act.Plain r ≡ Ok (act.Plain asked) → command_of part ≡ Ok asked
-    by (Ok it) same made = same ∙ ap (λ (c : Command). Ok c) (ap (plain_or asked) made)
-    by (Err why) same made = absurd (cc made)
-
-no_read : (handle from long : Result ℕ Refusal) (asked : Command) → read_act handle from long ≡ Ok (act.Plain asked) → ⊥
-no_read (Ok h) (Ok at) (Ok n) asked is = cc is
-no_read (Ok h) (Ok at) (Err why) asked is = cc is
-no_read (Ok h) (Err why) long asked is = cc is
-no_read (Err why) from long asked is = cc is
-
-words_spelled : (part : List ℕ) (words : List (List ℕ)) (asked : Command) → words_act part words ≡ Ok (act.Plain asked) → command_of part ≡ Ok asked
-words_spelled part [] asked is = plain_spelled part asked is
-words_spelled part (verb ∷ []) asked is = by (bytes_eq verb (codes "end")) is
-  where
-    by : (b : Bool) → (if b then Ok act.End else plain_act part) ≡ Ok (act.Plain asked) → command_of part ≡ Ok asked
-    by true it = absurd (cc it)
-    by false it = plain_spelled part asked it
-words_spelled part (verb ∷ one ∷ []) asked is = by (bytes_eq verb (codes "open")) (bytes_eq verb (codes "close")) is
-  where
-    by : (a b : Bool) → (if a then after act.Open (path_of one) else if b then after act.Close (handle_of one) else plain_act part) ≡ Ok (act.Plain asked) → command_of part ≡ Ok asked
-    by true b it = absurd (no_plain act.Open (path_of one) asked (λ x same. cc same) it)
-    by false true it = absurd (no_plain act.Close (handle_of one) asked (λ x same. cc same) it)
-    by false false it = plain_spelled part asked it
-words_spelled part (verb ∷ one ∷ two ∷ []) asked is = plain_spelled part asked is
-words_spelled part (verb ∷ one ∷ two ∷ three ∷ []) asked is = by (bytes_eq verb (codes "hread")) is
-  where
-    by : (b : Bool) → (if b then read_act (handle_of one) (number_of two) (number_of three) else plain_act part) ≡ Ok (act.Plain asked) → command_of part ≡ Ok asked
-    by true it = absurd (no_read (handle_of one) (number_of two) (number_of three) asked it)
-    by false it = plain_spelled part asked it
-words_spelled part (verb ∷ one ∷ two ∷ three ∷ four ∷ words) asked is = plain_spelled part asked is
-
-act_spelled : (part : List ℕ) (asked : Command) → act_of part ≡ Ok (act.Plain asked) → command_of part ≡ Ok asked
-act_spelled part asked is = by (is_utf8 part) is
-  where
-    by : (b : Bool) → (if b then words_act part (slice_split (λ c. c == 32) part) else Err refusal.BadCommand) ≡ Ok (act.Plain asked) → command_of part ≡ Ok asked
-    by true it = words_spelled part (slice_split (λ c. c == 32) part) asked it
-    by false it = absurd (cc it)
-
-abbrev line_act : Result SessionLine Refusal → Result Act Refusal
-line_act (Ok asks) = Ok asks.act
-line_act (Err why) = Err why
-
-pub line_spells : (line : List ℕ) (session : ℕ) (asked : Command) → asks_of line ≡ Ok (record { session = session; act = act.Plain asked }) → HasLine asked
-unfolding asks_of
-line_spells line session asked is = by_long (nat_lt most_bytes (length line)) is
-  where
-    by_act : (number : ℕ) (r : Result Act Refusal) → after {Y = SessionLine} (λ what. record { session = number; act = what }) r ≡ Ok (record { session = session; act = act.Plain asked }) → r ≡ Ok (act.Plain asked)
-    by_act number (Ok what) it = ap line_act it
-    by_act number (Err why) it = absurd (cc it)
-
-    by_part : (o : Option Part) → asks_in o ≡ Ok (record { session = session; act = act.Plain asked }) → HasLine asked
-    by_part None it = absurd (cc it)
-    by_part (Some part) it = (part.rest, act_spelled part.rest asked (by_act part.session (act_of part.rest) it))
-
-    by_long : (b : Bool) → (if b then Err refusal.TooLong else asks_in (session_of line)) ≡ Ok (record { session = session; act = act.Plain asked }) → HasLine asked
-    by_long true it = absurd (cc it)
-    by_long false it = by_part (session_of line) it
 
 -- ---- told in short
 
@@ -163,7 +81,7 @@ told_in_short start machine line run why handles its = record {
 
     by : IsTurnOf machine line its.is.replies its.turn → IsTurnOf machine line its.is.replies (record its.turn { says = told.Plain (reply.No refusal.OutOfMemory) })
     by (inl is) = inr (inr ((why, ap (λ (t : Turn). t.says) (sym is) ∙ its.says), ap (λ (t : Turn). record t { says = told.Plain (reply.No refusal.OutOfMemory) }) is))
-    by (inr (inl skips)) = inr (inl (refusal.OutOfMemory, inl refl, ap (λ (t : Turn). record t { says = told.Plain (reply.No refusal.OutOfMemory) }) skips.2))
+    by (inr (inl skips)) = inr (inl (refusal.OutOfMemory, refl, ap (λ (t : Turn). record t { says = told.Plain (reply.No refusal.OutOfMemory) }) skips.2))
     by (inr (inr in_short)) = inr (inr (in_short.0, ap (λ (t : Turn). record t { says = told.Plain (reply.No refusal.OutOfMemory) }) in_short.1))
 
 pub plain_text : (said : Reply) → session_text (told.Plain said) ≡ reply_text said
@@ -175,7 +93,7 @@ plain_text said = refl
 module _ (capacity : ℕ) (shrunk : Option ℕ) (committed now : Content) (old : Outside) (number : ℕ) (line : List ℕ) (handles : List OpenFile) (asked : Command) (here : Stage) (comes : IsErrandOf handles line (errand.Does asked here)) where
   -- the stages came to an end
   went_at : (run : List Entry) (to : Stage) → command_at to ≡ None → Follows handles (tree_of now) here run to → (start : Content) → Stays now handles start → Went start (machine_at now handles) line asked run to
-  went_at run to ends follows start stays = goes_line start (machine_at now handles) line stays.fits stays.own (errand.Does asked here) comes asked here refl run to ends follows
+  went_at run to ends follows start stays = goes_line start (machine_at now handles) line stays.fits stays.own (errand.Does asked here) comes.1 asked here refl run to ends follows
 
   -- or a fault ended them
   some_went : (run : List Entry) (to : Stage) → Follows handles (tree_of now) here run to → AreSome now handles line run
@@ -185,16 +103,16 @@ module _ (capacity : ℕ) (shrunk : Option ℕ) (committed now : Content) (old :
       (it.0, handles, it.1)
 
   pub act_stops : (new : Outside) → StopsGoing capacity committed now shrunk old handles here new → (begun : Bool) × StopsSpeaking capacity committed now shrunk old number (spoke_at handles) BrokenSessions (line_if begun line) new
-  act_stops new stopped = (true, stops_turned capacity shrunk committed now old number line handles stopped.run (some_went stopped.run stopped.to stopped.follows) new stopped.stops)
+  act_stops new stopped = (true, stops_turned capacity shrunk committed now old number line handles comes.0 stopped.run (some_went stopped.run stopped.to stopped.follows) new stopped.stops)
 
   module _ (law : StepKeepsTrees) (law_few : StayFew) (to : Stage) (ends : command_at to ≡ None) (knows : Knowing) (space : Space) (mid : Outside) (went : WentOn capacity knows committed now shrunk old handles here to space mid) where
     -- what the last of them says is told, or that memory is missing for that
     pub act_says : (said : Reply) → to ≡ stage.Says said → (whole : Bool) (before after : ToTell) → after ≡ joined before (text_told (told_if whole (told.Plain said)))
         → SpeaksLine true capacity knows committed now shrunk old number (spoke_at handles) (spoke_at handles) line before after space mid
     act_says said is true before after tells =
-        serves_turned capacity shrunk committed now old number line handles went.run went.goes.leads.run_is law law_few (told.Plain said) handles (λ start stays. (went_at went.run to ends went.follows start stays).answered said is) [] knows went.last went.next space mid before after went.goes went.heads went.known tells
+        serves_turned capacity shrunk committed now old number line handles went.run went.goes.leads.run_is comes.0 law law_few (told.Plain said) handles (λ start stays. (went_at went.run to ends went.follows start stays).answered said is) [] knows went.last went.next space mid before after went.goes went.heads went.known tells
     act_says said is false before after tells =
-        serves_turned capacity shrunk committed now old number line handles went.run went.goes.leads.run_is law law_few (told.Plain (reply.No refusal.OutOfMemory)) handles
+        serves_turned capacity shrunk committed now old number line handles went.run went.goes.leads.run_is comes.0 law law_few (told.Plain (reply.No refusal.OutOfMemory)) handles
         (λ start stays.
         let it = went_at went.run to ends went.follows start stays in
         let why = it.refuses said is in
@@ -202,7 +120,7 @@ module _ (capacity : ℕ) (shrunk : Option ℕ) (committed now : Content) (old :
         [] knows went.last went.next space mid before after went.goes went.heads went.known tells
 
     -- the command was done
-    pub act_does : to ≡ stage.Does → (knows_new : Knowing) (new : Space) (end : Outside) (before after : ToTell) → OwnDone true capacity knows_new went.last went.next (shrunk_in shrunk went.run) mid asked before after new end
+    pub act_does : to ≡ stage.Does → (knows_new : Knowing) (new : Space) (end : Outside) (before after : ToTell) → OwnDone true capacity knows_new went.last went.next (shrunk_in shrunk went.run) mid (Plain asked) before after new end
         → SpeaksLine true capacity knows_new committed now shrunk old number (spoke_at handles) (spoke_at handles) line before after new end
     act_does is knows_new new end before after own =
         let said = own.0 in
@@ -210,19 +128,19 @@ module _ (capacity : ℕ) (shrunk : Option ℕ) (committed now : Content) (old :
         let served = did.goes.leads.run_is.1 in
         let rests = did.goes.leads.run_is.0 in
         let there : tree_of did.entry.before ≡ tree_after now went.run =
-        tidied_tree capacity (shrunk_in shrunk went.run) went.next did.entry.before (tidies_of capacity (shrunk_in shrunk went.run) (spelled (asked_by did.entry)) went.next did.entry.before rests)
+        tidied_tree capacity (shrunk_in shrunk went.run) went.next did.entry.before (tidies_of capacity (shrunk_in shrunk went.run) (wanted_by did.entry) went.next did.entry.before rests)
         ∙ tree_went capacity shrunk committed now old handles here to knows space mid went in
         let all = goes_both capacity shrunk committed now old went.run (did.entry ∷ []) went.last went.next space mid went.goes did.last did.entry.after new end did.goes in
-        serves_turned capacity shrunk committed now old number line handles (went.run ++ did.entry ∷ []) all.leads.run_is law law_few (told.Plain said) handles
+        serves_turned capacity shrunk committed now old number line handles (went.run ++ did.entry ∷ []) all.leads.run_is comes.0 law law_few (told.Plain said) handles
         (λ start stays.
-        let its = (went_at went.run to ends went.follows start stays).own is capacity did.entry did.asked_is (there ∙ sym (same_after start now went.run stays.fits)) served in
+        let its = (went_at went.run to ends went.follows start stays).own is capacity did.entry (asked_plainly did.entry.own did.entry.line asked did.wanted_is) (there ∙ sym (same_after start now went.run stays.fits)) served in
         subst (λ (r : Reply). Turned start (machine_at now handles) line (went.run ++ did.entry ∷ []) (told.Plain r) handles) did.reply_is its)
         own.1 knows_new did.last did.entry.after new end before after all did.heads
         (subst (λ (s : Option ℕ). knows_new did.last did.entry.after s) (sym (shrunk_in-append shrunk went.run (did.entry ∷ []))) did.known)
         (own.2 ∙ ap (λ (t : List ℕ). joined before (record { replies = t; changes = own.1 })) (sym (plain_text said)))
 
     -- it was left, where nothing was to be done ahead
-    pub act_leaves : here ≡ stage.Does → (knows_new : Knowing) (new : Space) (end : Outside) (before after : ToTell) → OwnDone false capacity knows_new went.last went.next (shrunk_in shrunk went.run) mid asked before after new end
+    pub act_leaves : here ≡ stage.Does → (knows_new : Knowing) (new : Space) (end : Outside) (before after : ToTell) → OwnDone false capacity knows_new went.last went.next (shrunk_in shrunk went.run) mid (Plain asked) before after new end
         → SpeaksLine false capacity knows_new committed now shrunk old number (spoke_at handles) (spoke_at handles) line before after new end
     act_leaves at knows_new new end before after own =
         let tidy = own.1 in
@@ -246,7 +164,7 @@ module _ (capacity : ℕ) (shrunk : Option ℕ) (committed now : Content) (old :
           };
         }
 
-    pub act_own : (r : Result Bool Stop) (knows_new : Knowing) (new : Space) (end : Outside) (before after : ToTell) → IfOk r (λ answered. OwnDone answered capacity knows_new went.last went.next (shrunk_in shrunk went.run) mid asked before after new end)
+    pub act_own : (r : Result Bool Stop) (knows_new : Knowing) (new : Space) (end : Outside) (before after : ToTell) → IfOk r (λ answered. OwnDone answered capacity knows_new went.last went.next (shrunk_in shrunk went.run) mid (Plain asked) before after new end)
         → to ≡ stage.Does → IfOk r (λ answered. answered ≡ false → here ≡ stage.Does) → IfOk r (λ answered. SpeaksLine answered capacity knows_new committed now shrunk old number (spoke_at handles) (spoke_at handles) line before after new end)
     act_own (Ok true) knows_new new end before after own is waits = act_does is knows_new new end before after own
     act_own (Ok false) knows_new new end before after own is waits = act_leaves (waits refl) knows_new new end before after own
@@ -257,13 +175,10 @@ module _ (capacity : ℕ) (shrunk : Option ℕ) (committed now : Content) (old :
     own_stops after stopped = act_stops after (went_stops capacity shrunk committed now old handles here to knows space mid went after stopped)
 
 -- which command the line asks for
-pub errand_asks : (handles : List OpenFile) (line : List ℕ) (asked : Command) (here : Stage) → IsErrandOf handles line (errand.Does asked here) → AsksFor line asked
-errand_asks handles line asked here (inr short) = absurd (cc short)
-errand_asks handles line asked here (inl is) = by (asks_of line) refl (sym is)
+pub errand_asks : (handles : List OpenFile) (line : List ℕ) (asked : Command) (here : Stage) → IsErrandOf handles line (errand.Does asked here) → AsksFor line (Plain asked)
+errand_asks handles line asked here (session_line, inr short) = absurd (cc short)
+errand_asks handles line asked here (session_line, inl is) = by (asks_of line) refl (sym is)
   where
-    by : (r : Result SessionLine Refusal) → asks_of line ≡ r → errand_for handles r ≡ errand.Does asked here → AsksFor line asked
+    by : (r : Result SessionLine Refusal) → asks_of line ≡ r → errand_for handles r ≡ errand.Does asked here → AsksFor line (Plain asked)
     by (Ok asks) same its = (asks.session, same ∙ ap (λ (a : Act). Ok (record { session = asks.session; act = a })) (goes_as handles asks.session asks.act asked here its).plain)
     by (Err why) same its = absurd (cc its)
-
-pub errand_spells : (handles : List OpenFile) (line : List ℕ) (asked : Command) (here : Stage) → IsErrandOf handles line (errand.Does asked here) → HasLine asked
-errand_spells handles line asked here comes = let asks = errand_asks handles line asked here comes in line_spells line asks.0 asked asks.1

@@ -33,7 +33,7 @@ use Rattle.session_lines.specs.declared.stages.Stage.TheVariants as stage
 use Rattle.session_lines.specs.Ahead.{IsQuiet}
 use Rattle.session_lines.specs.Errands.{act_errand, ahead_of, close_errand, errand_for, open_errand, own_errand, plain_errand, read_errand, refused}
 use Rattle.session_lines.specs.Following.{Follows, does, skips, stays}
-use Rattle.session_lines.specs.Spelling.{LineSkips}
+use Rattle.session_lines.specs.Skipping.{IsSkipped}
 use Rattle.session_lines.specs.Stages.{command_at, heard_at}
 use Rattle.session_lines.specs.Turns.{IsPart, IsTurn, IsTurnOf, skipped_turn}
 use Rattle.session_lines.proofs.Turning.{skips_line}
@@ -99,7 +99,7 @@ cut_short handles tree from [] to (stays _ _) = by (command_at from) refl
     by (Some asked) asks = record {
       end = heard_at handles from (reply.No refusal.OutOfMemory);
       ends = short_stage handles from;
-      follows = skips tree from [] (heard_at handles from (reply.No refusal.OutOfMemory)) asked refusal.OutOfMemory asks (inl refl) (stays tree (heard_at handles from (reply.No refusal.OutOfMemory)));
+      follows = skips tree from [] (heard_at handles from (reply.No refusal.OutOfMemory)) asked refusal.OutOfMemory asks refl (stays tree (heard_at handles from (reply.No refusal.OutOfMemory)));
     }
 cut_short handles tree from (entry ∷ run) to (does _ _ _ _ _ capacity asked asks is before served rest) =
     let later = cut_short handles (tree_of entry.after) (heard_at handles from entry.reply) run to rest in
@@ -291,9 +291,9 @@ module _ (start : Content) (machine : Machine) (line : List ℕ) (fits : tree_of
 
   -- Memory is missing for what a line is told that only looks: nothing was done for it.
   pub short_line : (run : List Entry) → IsQuiet machine.tree run [] [] machine.tree → Turned start machine line run (told.Plain (reply.No refusal.OutOfMemory)) machine.handles
-  short_line run quiet = record { turn = skipped_turn machine refusal.OutOfMemory; is = skips_line start machine line fits run refusal.OutOfMemory (inl refl) quiet; says = refl; handles_are = refl }
+  short_line run quiet = record { turn = skipped_turn machine refusal.OutOfMemory; is = skips_line start machine line fits run refusal.OutOfMemory refl quiet; says = refl; handles_are = refl }
 
-  pub skipped_line : (run : List Entry) (why : Refusal) → LineSkips (asks_of line) why → IsQuiet machine.tree run [] [] machine.tree → Turned start machine line run (told.Plain (reply.No why)) machine.handles
+  pub skipped_line : (run : List Entry) (why : Refusal) → IsSkipped why → IsQuiet machine.tree run [] [] machine.tree → Turned start machine line run (told.Plain (reply.No why)) machine.handles
   skipped_line run why skipped quiet = record { turn = skipped_turn machine why; is = skips_line start machine line fits run why skipped quiet; says = refl; handles_are = refl }
 
   module _ (result : Errand) (comes : ComesTo machine line result) where

@@ -77,13 +77,13 @@ closed_again old new session id handle opens =
 
 module _ (capacity : ℕ) (shrunk : Option ℕ) (committed now : Content) (old : Outside) (number : ℕ) (line : List ℕ) (handles : List OpenFile) (session : ℕ) (here : Stage) (comes : IsErrandOf handles line (errand.Asks session here)) where
   asked_at : (run : List Entry) (to : Stage) → command_at to ≡ None → Follows handles (tree_of now) here run to → (start : Content) → Stays now handles start → Asked start (machine_at now handles) line session run to
-  asked_at run to ends follows start stays = asks_line start (machine_at now handles) line stays.fits stays.own (errand.Asks session here) comes session here refl run to ends follows
+  asked_at run to ends follows start stays = asks_line start (machine_at now handles) line stays.fits stays.own (errand.Asks session here) comes.1 session here refl run to ends follows
 
   -- a fault ended its stages
   pub asked_stops : (new : Outside) → StopsGoing capacity committed now shrunk old handles here new → (begun : Bool) × StopsSpeaking capacity committed now shrunk old number (spoke_at handles) BrokenSessions (line_if begun line) new
   asked_stops new stopped = (
     true,
-    stops_turned capacity shrunk committed now old number line handles stopped.run
+    stops_turned capacity shrunk committed now old number line handles comes.0 stopped.run
         (λ start stays.
         let cut = cut_short handles (tree_of now) here stopped.run stopped.to stopped.follows in
         (told.Plain (reply.No refusal.OutOfMemory), handles, short_line start (machine_at now handles) line stays.fits stopped.run (asked_at stopped.run cut.end cut.ends cut.follows start stays).quiet)) new stopped.stops,
@@ -98,7 +98,7 @@ module _ (capacity : ℕ) (shrunk : Option ℕ) (committed now : Content) (old :
     pub asked_line : StepKeepsTrees → StayFew → command_at to ≡ None → (said : SessionReply) (new : List OpenFile) → AnswersEnd session handles to said new → (before after : ToTell) → after ≡ joined before (text_told said)
         → SpeaksLine true capacity knows committed now shrunk old number (spoke_at handles) (spoke_at new) line before after space mid
     asked_line law law_few ends said new answers before after tells =
-        serves_turned capacity shrunk committed now old number line handles went.run went.goes.leads.run_is law law_few said new (λ start stays. turned start stays to said new (asked_at went.run to ends went.follows start stays) answers) [] knows went.last went.next space mid before after
+        serves_turned capacity shrunk committed now old number line handles went.run went.goes.leads.run_is comes.0 law law_few said new (λ start stays. turned start stays to said new (asked_at went.run to ends went.follows start stays) answers) [] knows went.last went.next space mid before after
         went.goes went.heads went.known tells
       where
         turned : (start : Content) → Stays now handles start → (to : Stage) (said : SessionReply) (new : List OpenFile) → Asked start (machine_at now handles) line session went.run to → AnswersEnd session handles to said new → Turned start (machine_at now handles) line went.run said new

@@ -43,7 +43,7 @@ use Rattle.session_lines.specs.Doing.{StopsGoing, WentOn}
 use Rattle.session_lines.specs.Following.{Follows, does, skips, stays}
 use Rattle.session_lines.specs.Made.{AreMade, SeesAs, none_made, none_skipped, one_made}
 use Rattle.session_lines.specs.Owning.{HaveEntries, IsOwnTree}
-use Rattle.session_lines.specs.Spelling.{IsSkipped}
+use Rattle.session_lines.specs.Skipping.{IsSkipped}
 use Rattle.session_lines.specs.Stages.{command_at}
 use Rattle.session_lines.specs.Turns.{AreReleased, AreTurns, BrokenSessions, SpokeSessions, machine_on, no_turn, one_turn, part_turn, spoke_with}
 use Rattle.session_lines.proofs.Answered.{cut_short}
@@ -114,7 +114,7 @@ released handles tree id run to ends (skips _ _ _ _ asked why at skipped rest) =
     let last = ended handles tree stage.Rests run to refl rest in
     subst (λ (r : List Entry). Released tree id r) (sym last.0) (record {
       got = reply.No why;
-      made = none_skipped why (release id) [] [] [] (subst (λ (a : Command). IsSkipped a why) (ap (asked_or asked) (sym at)) skipped) none_made;
+      made = none_skipped why (release id) [] [] [] skipped none_made;
       leads = λ start same. same;
       short = omega arith;
     })

@@ -46,7 +46,7 @@ use Rattle.session_lines.specs.Following.{Follows, does, skips, stays}
 use Rattle.session_lines.specs.Made.{AreMade, SeesAs, none_made, none_skipped}
 use Rattle.session_lines.specs.Closings.{AreClosings, IsClosing, none_closed, none_names, one_closed, others_name}
 use Rattle.session_lines.specs.Owning.{HaveEntries, IsOwnTree}
-use Rattle.session_lines.specs.Spelling.{IsSkipped}
+use Rattle.session_lines.specs.Skipping.{IsSkipped}
 use Rattle.session_lines.specs.Stages.{closed, command_at, heard_at}
 use Rattle.session_lines.proofs.Answered.{Turned}
 use Rattle.session_lines.proofs.Kept.{StayFew}
@@ -280,7 +280,7 @@ module _ (handles : List OpenFile) (tree : PlainTree) (is : IsOwnTree tree) (sma
   }
 
   -- the release isn't done at all
-  skipped_release : (run : List Entry) (why : Refusal) → IsSkipped (release id) why → IsQuiet tree run [] [] tree → Released tree id run
+  skipped_release : (run : List Entry) (why : Refusal) → IsSkipped why → IsQuiet tree run [] [] tree → Released tree id run
   skipped_release run why skipped quiet = by (wants_release tree id) refl
     where
       by : (b : Bool) → wants_release tree id ≡ b → Released tree id run
@@ -342,7 +342,7 @@ module _ (handles : List OpenFile) (tree : PlainTree) (is : IsOwnTree tree) (sma
         subst (λ (r : List Entry). Released tree id (entry ∷ r)) (sym last.0) (done_release entry capacity its before served)
     releasing run to ends (skips _ _ _ _ one why asked skipped rest) =
         let last = ended handles tree stage.Rests run to refl rest in
-        skipped_release run why (subst (λ (a : Command). IsSkipped a why) (ap (asked_or one) (sym asked)) skipped) (subst (λ (r : List Entry). IsQuiet tree r [] [] tree) (sym last.0) (quiet_none tree))
+        skipped_release run why skipped (subst (λ (r : List Entry). IsQuiet tree r [] [] tree) (sym last.0) (quiet_none tree))
 
   -- What the stages of a file that nobody has open any more come to.
   pub closing : (run : List Entry) (to : Stage) → command_at to ≡ None → Follows handles tree (stage.Closing id) run to → Released tree id run
@@ -388,7 +388,7 @@ module _ (handles : List OpenFile) (tree : PlainTree) (is : IsOwnTree tree) (sma
               by_links kept_it kept_is (said ∙ (links_told tree is id few kept_it).1) (names_of tree id == 1) refl
           looked_up said false not_kept = none_released run (ap (λ b. b && (names_of tree id == 1)) not_kept) (quiet_rest (ap (closed id) (said ∙ not_kept_told tree is id not_kept)))
 
-          told : (looked.said ≡ look tree (kept_path id)) ⊎ ((why : Refusal) × IsSkipped (command.Stat (kept_path id)) why × (looked.said ≡ reply.No why)) → Released tree id run
+          told : (looked.said ≡ look tree (kept_path id)) ⊎ ((why : Refusal) × IsSkipped why × (looked.said ≡ reply.No why)) → Released tree id run
           told (inr skip) = skipped_release run skip.0 skip.1 (quiet_rest (ap (closed id) skip.2))
           told (inl same) = looked_up same (is_kept tree id) refl
 
@@ -481,7 +481,7 @@ skips_all (asked ∷ rest) = reply.No refusal.OutOfMemory ∷ skips_all rest
 
 made_skips : (rest : List Command) → AreMade [] rest (skips_all rest)
 made_skips [] = none_made
-made_skips (asked ∷ rest) = none_skipped refusal.OutOfMemory asked [] rest (skips_all rest) (inl refl) (made_skips rest)
+made_skips (asked ∷ rest) = none_skipped refusal.OutOfMemory asked [] rest (skips_all rest) refl (made_skips rest)
 
 tree_skips : (tree : PlainTree) (rest : List Command) → trees_by tree rest (skips_all rest) ≡ tree
 tree_skips tree [] = refl

@@ -1,6 +1,6 @@
 -- Ids stay few: a step draws as many as its weight counts, and a command for which there are too few is refused.
 use Rattle.std.proofs.Common.{◌≡◌, ◌≤◌, ◌<◌, ◌+◌, ◌*◌, ◌^◌, ℕ, Bool, true, false, List, [], ◌∷◌, refl, sym, ◌∙◌, ap, subst, arith, eq-eqb, ⊎_elim}
-use Rattle.std.specs.Prelude.{Contains, ◌==◌, ◌&&◌, ◌||◌, is_some, nat_lt, not, slice_index, Option, Some, None, Result, Ok, Err, if◌then◌else◌}
+use Rattle.std.specs.Prelude.{Contains, IsTrue, drop, take, length, ◌==◌, ◌&&◌, ◌||◌, is_some, nat_lt, not, slice_index, Option, Some, None, Result, Ok, Err, if◌then◌else◌}
 use Rattle.std.specs.Option.{ok_or}
 use Rattle.std.proofs.lemmas.Bool.{eqb-true, ltb-false, true≢false}
 use Rattle.cat_records.specs.declared.record.CatRecord.{CatRecord}
@@ -12,10 +12,15 @@ use Rattle.hfs_language.specs.declared.refusal.Refusal.{Refusal}
 use Rattle.hfs_language.specs.declared.refusal.Refusal.TheVariants as refusal
 use Rattle.hfs_language.specs.declared.reply.Reply.TheVariants as reply
 use Rattle.hfs_model.specs.Plain.{is_at, is_node, names_of, node_at, without_entry, without_node}
-use Rattle.hfs_model.specs.Step.{Place, Step, is_private, is_root, is_same_file, link_ids, linked, made, marked, moved, moved_over, on, only_reads, place, reached, refuses, removed, removed_folder, resized, root_entry, step, step_line, then_, to_attribute, to_folder, to_link, to_ln, to_make, to_mv, to_node, to_read, to_rm, to_rmdir, to_set, to_trunc, to_value, to_write, unless, unnamed, vacated, with_private, written}
+use Rattle.hfs_model.specs.Step.{Place, Step, is_private, is_private_path, is_root, is_same_file, link_ids, linked, made, marked, moved, moved_over, on, only_reads, place, reached, refuses, removed, removed_folder, resized, root_entry, step, step_line, then_, to_attribute, to_folder, to_link, to_ln, to_make, to_mv, to_node, to_read, to_rm, to_rmdir, to_set, to_trunc, to_value, to_write, unless, unnamed, vacated, with_private, written}
+use Rattle.hfs_model.specs.Kinds.{kind_refuses, kind_step, kind_told, made_link, path_of_edit, resource_written, to_symlink}
+use Rattle.hfs_model.specs.declared.kinds.KindEdit.{KindEdit}
+use Rattle.hfs_model.specs.declared.kinds.KindEdit.TheVariants as kinds
 use Rattle.hfs_model.specs.declared.plain.PlainEntry.{PlainEntry}
 use Rattle.hfs_model.specs.declared.plain.PlainNode.{PlainNode}
 use Rattle.hfs_model.specs.declared.plain.PlainTree.{PlainTree}
+use Rattle.hfs_volume.specs.declared.asked.Asked.{Asked}
+use Rattle.hfs_volume.specs.declared.asked.Asked.TheVariants.{Kind, Plain}
 use Rattle.hfs_volume.specs.Books.{IsGivenTree}
 use Rattle.hfs_volume.specs.Content.{VolumeState, attributes_of, records_of, volume_of}
 use Rattle.hfs_volume.specs.Sound.{IsSound}
@@ -24,8 +29,9 @@ use Rattle.hfs_volume.specs.declared.cost.Room.{Room}
 use Rattle.hfs_volume.specs.declared.cost.ValueChange.{ValueChange}
 use Rattle.hfs_volume.specs.Cost.{cost_of, cost_or, first_refusal, load_of, plan_of, resource_refusal, where_}
 use Rattle.hfs_volume.specs.Records.{Attribute, Placed}
-use Rattle.hfs_volume.specs.TreeOf.{bytes_in, is_linked, is_plain_file, is_plain_folder, node_in, plain_node, tree_in, tree_of, valued}
-use Rattle.hfs_volume.specs.Weight.{Data, Edits, changes_nothing, data_of, edits, cut_cost, edits_of, folders_made, free_blocks, lacks_tree, ln_edits, mv_edits, over_edits, place_edits, rm_edits, rm_edits_at, rmdir_edits, needs_cut, needs_for, room_with, values_of, weight, weight_with, with_values}
+use Rattle.hfs_volume.specs.TreeOf.{bytes_in, empty_forks, is_linked, is_plain_file, is_plain_folder, node_in, plain_node, tree_in, tree_of, valued}
+use Rattle.hfs_volume.specs.Weight.{Data, Edits, changes_nothing, data_of, edits, cut_cost, edits_of, folders_made, free_blocks, lacks_tree, ln_edits, mv_edits, over_edits, place_edits, rm_edits, rm_edits_at, rmdir_edits, needs_cut, needs_cut_in, needs_for, needs_in, room_with, values_of, weight, weight_with, with_values}
+use Rattle.hfs_volume.specs.KindWeight.{fork_of_edit, kind_data_of, kind_edits_of, kind_only_reads, kind_weight, kind_weight_with}
 use Rattle.hfs_volume.specs.Links.{private_id}
 use Rattle.hfs_volume.specs.declared.cost.Cost.TheVariants as cost
 use Rattle.hfs_volume.proofs.Flat.{found_some}
@@ -34,7 +40,7 @@ use Rattle.hfs_volume.proofs.NodesOf.{nodes_from}
 use Rattle.hfs_volume.proofs.Reaching.{found_ok, ok_same, then_ok, unless_ok}
 use Rattle.hfs_volume.proofs.Sharing.{linked_is, shared_is}
 use Rattle.hfs_volume.proofs.Telling.{has_private_is, next_is, nodes_are}
-use Rattle.volume_runs.specs.Run.{DoesLine, Entry, IsAnswered, IsDone, IsServed, asked_by}
+use Rattle.volume_runs.specs.Run.{DoesLine, Entry, IsAnswered, IsDone, IsKindAnswered, IsKindDone, IsPlainServed, IsServed, IsServedBy, asked_by, puts_nothing}
 use Rattle.session_lines.proofs.Owned.{mv_pair, pair_place}
 use Rattle.session_lines.proofs.Places.{counted, placed, walked_to}
 use Rattle.session_lines.proofs.Remains.{count_parts, few_at}
@@ -178,8 +184,8 @@ linked_private content one there is =
     of_value : (e : Placed) (v : CatRecord) → Contains (node_in (valued (bytes_in content) (attributes_of (volume_of content))) (records_of (volume_of content)) (bytes_in content) e v) one → (tree_in (volume_of content) (bytes_in content)).has_private ≡ true
     of_value e (Folder f) has = by (is_plain_folder (records_of (volume_of content)) e) has
       where
-        by : (b : Bool) → Contains (if b then plain_node (valued (bytes_in content) (attributes_of (volume_of content))) f.fields true [] false ∷ [] else []) one → (tree_in (volume_of content) (bytes_in content)).has_private ≡ true
-        by true its = absurd (true≢false (sym is ∙ ap (λ (n : PlainNode). n.linked) (in_one (plain_node (valued (bytes_in content) (attributes_of (volume_of content))) f.fields true [] false) one its)))
+        by : (b : Bool) → Contains (if b then plain_node (valued (bytes_in content) (attributes_of (volume_of content))) f.fields true empty_forks false ∷ [] else []) one → (tree_in (volume_of content) (bytes_in content)).has_private ≡ true
+        by true its = absurd (true≢false (sym is ∙ ap (λ (n : PlainNode). n.linked) (in_one (plain_node (valued (bytes_in content) (attributes_of (volume_of content))) f.fields true empty_forks false) one its)))
         by false none = absurd (omega (arith, none.1))
     of_value e (File f) has = by (is_plain_file (records_of (volume_of content)) e) has
       where
@@ -234,6 +240,41 @@ module _ (capacity : ℕ) (volume : VolumeState) (tree : PlainTree) (asked : Com
   unfolding weight_with
   few_of_weight n grow is no_cut changes = few_of_need n grow (lacks_tree volume asked) (sym (λ i. if changes i then cost.Load 0 (0 ∷ 0 ∷ 0 ∷ []) else if no_cut i then cut_cost (room_with capacity (free_blocks volume) volume) else if lacks_tree volume asked then cost.Refused refusal.NoTree else cost_of needs_here room_here) ∙ is)
 
+-- ---- commands on links and resource forks
+
+kind_needs_ids : (kind : ℕ) (free : List Bool) (volume : VolumeState) (many : Edits) (has : Option Data) → (needs_in kind free volume many has).ids ≡ many.ids
+kind_needs_ids kind free volume many None = refl
+kind_needs_ids kind free volume many (Some has) = refl
+
+few_of_kind : (capacity : ℕ) (volume : VolumeState) (tree : PlainTree) (asked : KindEdit) (n : ℕ) (grow : List ℕ) → kind_weight capacity volume tree asked ≡ cost.Load n grow → needs_cut_in (fork_of_edit asked) volume (kind_data_of tree asked) ≡ false
+    → kind_only_reads asked ≡ false → volume.head.next_catalog_id + (kind_edits_of asked).ids ≤ 4294967295
+unfolding kind_weight_with
+few_of_kind capacity volume tree asked n grow is no_cut changes =
+    let needs = needs_in (fork_of_edit asked) (free_blocks volume) volume (kind_edits_of asked) (kind_data_of tree asked) in
+    let room = room_with capacity (free_blocks volume) volume in
+    let afforded : cost_of needs room ≡ cost.Load n grow = sym (λ i. if changes i then cost.Load 0 (0 ∷ 0 ∷ 0 ∷ []) else if no_cut i then cut_cost room else cost_of needs room) ∙ is in
+    omega (arith, few_of_cost needs room n grow afforded, room_next capacity (free_blocks volume) volume, kind_needs_ids (fork_of_edit asked) (free_blocks volume) volume (kind_edits_of asked) (kind_data_of tree asked))
+
+on_ids : {X : Type 0} (tree : PlainTree) (more : ℕ) (r : Result X Refusal) (next : X → Step) → ((x : X) → (next x).1.next_id ≤ tree.next_id + more) → (on tree r next).1.next_id ≤ tree.next_id + more
+on_ids tree more (Ok x) next has = has x
+on_ids tree more (Err why) next has = omega arith
+
+written_ids : (tree : PlainTree) (file : PlainNode) (from : ℕ) (value : List ℕ) → (resource_written file from value tree).next_id ≤ tree.next_id + 0
+written_ids tree file from [] = omega arith
+written_ids tree file from (byte ∷ value) = omega arith
+
+step_ids : (tree : PlainTree) (asked : KindEdit) → (kind_step tree asked).1.next_id ≤ tree.next_id + (kind_edits_of asked).ids
+step_ids tree (kinds.Symlink path value) = on_ids tree 1 (to_symlink tree path value) (λ at. (reply.Ok, made_link at value tree)) (λ at. omega arith)
+step_ids tree (kinds.ResourceWrite path from value) = on_ids tree 0 (to_write tree path from value) (λ file. (reply.Ok, resource_written file from value tree)) (λ file. written_ids tree file from value)
+step_ids tree (kinds.ResourceRead path from long) = on_ids tree 0 (to_read tree path long) (λ (file : PlainNode). (reply.Content (take long (drop from file.resource)), tree)) (λ file. omega arith)
+
+kind_within : (tree : PlainTree) (asked : KindEdit) → (kind_told tree asked).1.next_id ≤ tree.next_id + (kind_edits_of asked).ids
+kind_within tree asked = by (is_private_path (path_of_edit asked))
+  where
+    by : (b : Bool) → (if b then (reply.No refusal.Private, tree) else kind_step tree asked).1.next_id ≤ tree.next_id + (kind_edits_of asked).ids
+    by true = omega arith
+    by false = step_ids tree asked
+
 -- ---- an entry
 
 module _ (given_of : (content : Content) → IsSound content → IsGivenTree (tree_of content)) where
@@ -252,9 +293,7 @@ module _ (given_of : (content : Content) → IsSound content → IsGivenTree (tr
       by false = step_within (tree_of old) (given_of old sound) (linked_private old) asked
 
   pub few_behind : (capacity : ℕ) (entry : Entry) → IsServed capacity entry → (tree_of entry.before).next_id < 2 ^ 32 → (tree_of entry.after).next_id < 2 ^ 32
-  few_behind capacity entry served low =
-      ⊎_elim (λ (answered : IsAnswered capacity entry). of_line (asked_by entry) answered.tree answered.does)
-      (λ lacks. ⊎_elim (λ lacks_one. same_few entry.before entry.after lacks_one.same low) (λ short. same_few entry.before entry.after short.same low) lacks) served.is
+  few_behind capacity entry served low = of_own entry.own served.is
     where
       done : (asked : Command) → tree_of entry.after ≡ (step_line (tree_of entry.before) (Ok asked)).1 → IsDone capacity asked entry.before entry.after → (b : Bool) → (only_reads asked || changes_nothing (tree_of entry.before) asked) ≡ b → (tree_of entry.after).next_id < 2 ^ 32
       done asked tree_is is true reads = same_few entry.before entry.after (is.reads reads) low
@@ -268,3 +307,27 @@ module _ (given_of : (content : Content) → IsSound content → IsGivenTree (tr
           by : (b : Bool) → refuses (tree_of entry.before) (Ok asked) ≡ b → (tree_of entry.after).next_id < 2 ^ 32
           by true is = same_few entry.before entry.after (does.0 is) low
           by false is = done asked tree_is (does.1 is) (only_reads asked || changes_nothing (tree_of entry.before) asked) refl
+
+      kind_done : (asked : KindEdit) → tree_of entry.after ≡ (kind_told (tree_of entry.before) asked).1 → IsKindDone capacity asked entry.before entry.after → (b : Bool) → kind_only_reads asked ≡ b → (tree_of entry.after).next_id < 2 ^ 32
+      kind_done asked tree_is is true reads = same_few entry.before entry.after (is.reads (subst (λ (b : Bool). IsTrue (b || puts_nothing asked)) (sym reads) refl)) low
+      kind_done asked tree_is is false changes =
+          omega (arith, few_of_kind capacity (volume_of entry.before) (tree_of entry.before) asked is.load (0 ∷ 0 ∷ 0 ∷ []) is.affords is.no_surplus changes, next_of_tree entry.before, kind_within (tree_of entry.before) asked, ap (λ (t : PlainTree). t.next_id) tree_is)
+
+      of_kind : (asked : KindEdit) → IsKindAnswered capacity asked entry → (tree_of entry.after).next_id < 2 ^ 32
+      of_kind asked answered = by (kind_refuses (tree_of entry.before) asked) refl
+        where
+          by : (b : Bool) → kind_refuses (tree_of entry.before) asked ≡ b → (tree_of entry.after).next_id < 2 ^ 32
+          by true is = same_few entry.before entry.after (answered.refused is) low
+          by false is = kind_done asked answered.tree (answered.does is) (kind_only_reads asked) refl
+
+      of_plain : IsPlainServed capacity entry → (tree_of entry.after).next_id < 2 ^ 32
+      of_plain is =
+          ⊎_elim (λ (answered : IsAnswered capacity entry). of_line (asked_by entry) answered.tree answered.does)
+          (λ lacks. ⊎_elim (λ lacks_one. same_few entry.before entry.after lacks_one.same low) (λ short. same_few entry.before entry.after short.same low) lacks) is
+
+      of_own : (own : Option Asked) → IsServedBy capacity own entry → (tree_of entry.after).next_id < 2 ^ 32
+      of_own None is = of_plain is
+      of_own (Some (Plain asked)) is = of_plain is
+      of_own (Some (Kind asked)) is =
+          ⊎_elim (λ (answered : IsKindAnswered capacity asked entry). of_kind asked answered)
+          (λ lacks. ⊎_elim (λ lacks_one. same_few entry.before entry.after lacks_one.same low) (λ short. same_few entry.before entry.after short.same low) lacks) is

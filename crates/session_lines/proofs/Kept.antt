@@ -25,7 +25,7 @@ use Rattle.hfs_volume.specs.TreeOf.{tree_of}
 use Rattle.hfs_volume.proofs.Flat.{found_some}
 use Rattle.hfs_volume.proofs.Members.{at_front, behind, first_or_later, in_one, kept_cases, kept_stands, map_cases}
 use Rattle.hfs_volume.proofs.Reaching.{found_ok, ok_same, then_ok, unless_ok}
-use Rattle.volume_runs.specs.Run.{Entry, IsAnswered, IsRunFrom, IsServed, LacksMemory, LacksResource, asked_by, content_after, reply_to, shrunk_after, spelled, tree_after}
+use Rattle.volume_runs.specs.Run.{Entry, IsAnswered, IsRunFrom, IsServed, LacksMemory, LacksResource, asked_by, content_after, reply_to, shrunk_after, tree_after, wanted_by}
 use Rattle.hfs_serving.proofs.Leading.{tidies_of}
 use Rattle.hfs_serving.proofs.Mounting.{tidied_tree}
 use Rattle.open_files.specs.Handles.{file_of, files_of, free_handle, is_handle, is_held, with_handle, without_handle, without_session}
@@ -50,6 +50,7 @@ use Rattle.session_lines.proofs.Sorting.{put_cases}
 use Rattle.session_lines.proofs.Spared.{IsLinked, IsReal, Reaches, SavesAs, link_done, linked_spares, links, made_aside, makes, nothing, saves_as, taken_reaches}
 use Rattle.session_lines.proofs.Alike.{taken_same}
 use Rattle.session_lines.proofs.Trees.{looked_same, served_tree}
+use Rattle.session_lines.proofs.Plains.{served_plainly}
 
 -- ---- ids stay few
 
@@ -59,7 +60,7 @@ StayFew = (capacity : ℕ) (entry : Entry) → IsServed capacity entry → (tree
 
 -- where entries of a run begin, the tree is as it was
 begins_at : (capacity : ℕ) (shrunk : Option ℕ) (now : Content) (entry : Entry) (run : List Entry) → IsRunFrom capacity shrunk now (entry ∷ run) → tree_of entry.before ≡ tree_of now
-begins_at capacity shrunk now entry run are = tidied_tree capacity shrunk now entry.before (tidies_of capacity shrunk (spelled (asked_by entry)) now entry.before are.0)
+begins_at capacity shrunk now entry run are = tidied_tree capacity shrunk now entry.before (tidies_of capacity shrunk (wanted_by entry) now entry.before are.0)
 
 -- and behind a run
 pub run_few : StayFew → (capacity : ℕ) (shrunk : Option ℕ) (now : Content) (run : List Entry) → IsRunFrom capacity shrunk now run → (tree_of now).next_id < 2 ^ 32 → (tree_after now run).next_id < 2 ^ 32
@@ -108,7 +109,7 @@ refused_told capacity content command.Df is = absurd (true≢false (sym is))
 refused_told capacity content command.Sync is = is
 
 real_entry : (capacity : ℕ) (entry : Entry) (asked : Command) → asked_by entry ≡ Ok asked → IsServed capacity entry → IsReal (tree_of entry.before) asked entry.reply
-real_entry capacity entry asked asks served done = by served.is
+real_entry capacity entry asked asks served done = by (served_plainly capacity entry asked asks served)
   where
     refusal_of : (why : Refusal) → entry.reply ≡ reply.No why → ⊥
     refusal_of why is = true≢false (sym (ap is_refusal is) ∙ done)

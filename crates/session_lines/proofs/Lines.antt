@@ -41,14 +41,14 @@ use Rattle.session_lines.specs.Errands.{act_errand, ahead_of, close_errand, erra
 use Rattle.session_lines.specs.Following.{Follows}
 use Rattle.session_lines.specs.Made.{none_made, none_skipped}
 use Rattle.session_lines.specs.Owning.{IsOwnTree}
-use Rattle.session_lines.specs.Spelling.{IsSkipped, LineSkips, LookSkips, act_paths, looks_at}
+use Rattle.session_lines.specs.Skipping.{IsSkipped}
 use Rattle.session_lines.specs.Stages.{command_at, found_to_open}
 use Rattle.session_lines.specs.Turns.{IsTurn}
 use Rattle.session_lines.proofs.Answered.{ComesTo, OwnErrand, Turned, asks_for, goes, is_says, lists, only_turned, own_is, skipped_line, tells}
 use Rattle.session_lines.proofs.Looks.{look}
 use Rattle.session_lines.proofs.Moving.{Comes, moving}
 use Rattle.session_lines.proofs.Opening.{LooksLast, opened_at, opening, opens_as}
-use Rattle.session_lines.proofs.Saves.{ended, if_same, look_skips, taking}
+use Rattle.session_lines.proofs.Saves.{ended, if_same, taking}
 use Rattle.session_lines.proofs.Telling.{Told, listing_line, reaches_of, stating_line}
 use Rattle.session_lines.proofs.Turning.{does_line, drops_line, own_turn, refuses_line}
 use Rattle.session_lines.proofs.Unseen.{quiet_none}
@@ -89,7 +89,7 @@ pub record Went (start : Content) (machine : Machine) (line : List ℕ) (asked :
   -- its own command is done
   pub own : to ≡ stage.Does → (capacity : ℕ) (entry : Entry) → asked_by entry ≡ Ok asked → tree_of entry.before ≡ tree_after start run → IsServed capacity entry → Turned start machine line (run ++ entry ∷ []) (told.Plain entry.reply) machine.handles
   -- or it isn't done at all
-  pub dropped : to ≡ stage.Does → (why : Refusal) → IsSkipped asked why → Turned start machine line run (told.Plain (reply.No why)) machine.handles
+  pub dropped : to ≡ stage.Does → (why : Refusal) → IsSkipped why → Turned start machine line run (told.Plain (reply.No why)) machine.handles
   -- what it says is a refusal
   pub refuses : (said : Reply) → to ≡ stage.Says said → (why : Refusal) × (said ≡ reply.No why)
   -- whatever comes behind them, these are entries of a turn
@@ -301,10 +301,6 @@ module _ (start : Content) (machine : Machine) (line : List ℕ) (fits : tree_of
   no_saves : (asked : Command) → taken_by tree asked ≡ None → saves_for machine asked ≡ []
   no_saves asked none = ap (λ o. if refuses tree (Ok asked) then [] else saves_taken machine o) none ∙ if_same (refuses tree (Ok asked)) []
 
-  -- a look of it isn't done
-  line_skips : (session : ℕ) (what : Act) → asks_of line ≡ Ok (line_of session what) → (why : Refusal) → LookSkips (act_paths what) why → LineSkips (asks_of line) why
-  line_skips session what asks why skips = subst (λ (a : Result SessionLine Refusal). LineSkips a why) (sym asks) skips
-
   -- a line that shows what its own command read
   told_turned : (session : ℕ) (asked : Command) → asks_of line ≡ Ok (line_of session (act.Plain asked)) → names_keeping asked ≡ false → taken_by tree asked ≡ None → (run : List Entry) (to : Stage) (it : Told tree asked run to)
       → Turned start machine line run (told.Plain (shows tree asked it.got)) machine.handles
@@ -328,7 +324,7 @@ module _ (start : Content) (machine : Machine) (line : List ℕ) (fits : tree_of
   no_opens : {said : Reply} (to : Stage) (id : ℕ) → to ≡ stage.Says said → to ≡ stage.Opens id → ⊥
   no_opens to id says opens = cc (sym says ∙ opens)
 
-  reads_asked : (session : ℕ) (asked : Command) → asks_of line ≡ Ok (line_of session (act.Plain asked)) → names_keeping asked ≡ false → taken_by tree asked ≡ None → (run : List Entry) (to : Stage) → Told tree asked run to ⊎ NotLooked (paths_of asked) tree run to
+  reads_asked : (session : ℕ) (asked : Command) → asks_of line ≡ Ok (line_of session (act.Plain asked)) → names_keeping asked ≡ false → taken_by tree asked ≡ None → (run : List Entry) (to : Stage) → Told tree asked run to ⊎ NotLooked tree run to
       → Asked start machine line session run to
   reads_asked session asked asks other none run to (inl it) = record {
     quiet = it.quiet;
@@ -338,7 +334,7 @@ module _ (start : Content) (machine : Machine) (line : List ℕ) (fits : tree_of
   }
   reads_asked session asked asks other none run to (inr it) = record {
     quiet = it.quiet;
-    answered = λ said is. subst (λ (r : Reply). Turned start machine line run (told.Plain r) machine.handles) (ap (said_at said) (sym it.says ∙ is)) (skipped_line start machine line fits run it.why (line_skips session (act.Plain asked) asks it.why it.skipped) it.quiet);
+    answered = λ said is. subst (λ (r : Reply). Turned start machine line run (told.Plain r) machine.handles) (ap (said_at said) (sym it.says ∙ is)) (skipped_line start machine line fits run it.why it.skipped it.quiet);
     opens = λ id is. absurd (no_opens to id it.says is);
     file = λ id is. absurd (no_opens to id it.says is);
   }
@@ -404,13 +400,13 @@ module _ (start : Content) (machine : Machine) (line : List ℕ) (fits : tree_of
         last : LooksLast tree path found_to_open run to
         last = opening machine.handles tree path run to ends follows
 
-        by : (last.said ≡ look tree path) ⊎ ((why : Refusal) × IsSkipped (command.Stat path) why × (last.said ≡ reply.No why)) → Asked start machine line session run to
+        by : (last.said ≡ look tree path) ⊎ ((why : Refusal) × IsSkipped why × (last.said ≡ reply.No why)) → Asked start machine line session run to
         by (inl same) = opens_by last (last.last ∙ ap found_to_open same ∙ opens_as tree path other) (to_open tree path) refl
         by (inr skip) =
             let says : to ≡ stage.Says (reply.No skip.0) = last.last ∙ ap found_to_open skip.2 in
             record {
               quiet = last.quiet;
-              answered = λ said is. subst (λ (r : Reply). Turned start machine line run (told.Plain r) machine.handles) (ap (said_at said) (sym says ∙ is)) (skipped_line start machine line fits run skip.0 (line_skips session (act.Open path) asks skip.0 (look_skips (path ∷ []) (command.Stat path) skip.0 (looks_at path (at_front path [])) skip.1)) last.quiet);
+              answered = λ said is. subst (λ (r : Reply). Turned start machine line run (told.Plain r) machine.handles) (ap (said_at said) (sym says ∙ is)) (skipped_line start machine line fits run skip.0 skip.1 last.quiet);
               opens = λ id is. absurd (no_opens to id says is);
               file = λ id is. absurd (no_opens to id says is);
             }
@@ -427,14 +423,14 @@ module _ (start : Content) (machine : Machine) (line : List ℕ) (fits : tree_of
 
   -- ---- a line with a command of its own
 
-  plain_ahead : (asked : Command) → taken_by tree asked ≡ None → (run : List Entry) (to : Stage) → Follows machine.handles tree stage.Does run to → Comes (paths_of asked) machine asked run to
+  plain_ahead : (asked : Command) → taken_by tree asked ≡ None → (run : List Entry) (to : Stage) → Follows machine.handles tree stage.Does run to → Comes machine asked run to
   plain_ahead asked none run to follows =
       let last = ended machine.handles tree stage.Does run to refl follows in
       inl (subst (λ (l : List Command). Ahead tree run l to) (sym (no_saves asked none))
       (subst (λ (s : Stage). Ahead tree run [] s) (sym last.1) (subst (λ (r : List Entry). Ahead tree r [] stage.Does) (sym last.0) (all_done [] [] tt (quiet_none tree)))))
 
   -- the stages ahead of each command
-  ahead_comes : (asked : Command) (run : List Entry) (to : Stage) → command_at to ≡ None → Follows machine.handles tree (ahead_of asked) run to → Comes (paths_of asked) machine asked run to
+  ahead_comes : (asked : Command) (run : List Entry) (to : Stage) → command_at to ≡ None → Follows machine.handles tree (ahead_of asked) run to → Comes machine asked run to
   ahead_comes (command.Rm path) run to ends follows = taking machine own_tree path run to ends follows
   ahead_comes (command.Mv from goal) run to ends follows = moving machine own_tree from goal run to ends follows
   ahead_comes (command.Mkdir path) run to ends follows = plain_ahead (command.Mkdir path) refl run to follows
@@ -483,7 +479,7 @@ module _ (start : Content) (machine : Machine) (line : List ℕ) (fits : tree_of
             told.Plain (shows (trees_by tree (saves_for machine asked) replies) asked (reply.No refusal.OutOfMemory)),
             record {
               turn = own_turn start machine line fits session asked asks other replies (reply.No refusal.OutOfMemory);
-              is = drops_line start machine line fits session asked asks other run replies are here refusal.OutOfMemory (inl refl);
+              is = drops_line start machine line fits session asked asks other run replies are here refusal.OutOfMemory refl;
               says = refl;
               handles_are = refl;
             },
@@ -511,9 +507,9 @@ module _ (start : Content) (machine : Machine) (line : List ℕ) (fits : tree_of
           handles_are = refl;
         })
 
-    went_comes : (to : Stage) → Comes (paths_of asked) machine asked run to → Went start machine line asked run to
+    went_comes : (to : Stage) → Comes machine asked run to → Went start machine line asked run to
     went_comes to (inl ahead) = went_ahead (saves_for machine asked) refl to ahead
-    went_comes to (inr not) = went_says not.why to not.says (skipped_line start machine line fits run not.why (line_skips session (act.Plain asked) asks not.why not.skipped) not.quiet)
+    went_comes to (inr not) = went_says not.why to not.says (skipped_line start machine line fits run not.why not.skipped not.quiet)
 
   -- ---- by the errand
 

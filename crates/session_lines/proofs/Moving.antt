@@ -27,7 +27,7 @@ use Rattle.session_lines.specs.declared.stages.Stage.TheVariants as stage
 use Rattle.session_lines.specs.Ahead.{Ahead, NotLooked}
 use Rattle.session_lines.specs.Following.{Follows}
 use Rattle.session_lines.specs.Owning.{IsOwnTree}
-use Rattle.session_lines.specs.Spelling.{IsLookOf, IsSkipped, looks_at}
+use Rattle.session_lines.specs.Skipping.{IsSkipped}
 use Rattle.session_lines.specs.Stages.{command_at, heard_at, takes}
 use Rattle.session_lines.proofs.Looks.{look, look_is}
 use Rattle.session_lines.proofs.Moves.{found_there, not_inside, reached_there}
@@ -35,24 +35,24 @@ use Rattle.session_lines.proofs.Saves.{ahead_looked, and_true, if_same, later_lo
 use Rattle.session_lines.proofs.Unseen.{Looked, looked_at}
 
 -- what stages come to ahead of this command, or a look isn't done
-abbrev pub Comes : List (List (List ℕ)) → Machine → Command → List Entry → Stage → Type 0
-Comes paths machine asked run to = Ahead machine.tree run (saves_for machine asked) to ⊎ NotLooked paths machine.tree run to
+abbrev pub Comes : Machine → Command → List Entry → Stage → Type 0
+Comes machine asked run to = Ahead machine.tree run (saves_for machine asked) to ⊎ NotLooked machine.tree run to
 
 -- ---- behind a look
 
-module _ (machine : Machine) (is : IsOwnTree machine.tree) (paths : List (List (List ℕ))) (asked : Command) (here : Stage) (path : List (List ℕ)) (run : List Entry) (to : Stage) (ends : command_at to ≡ None) (looked : Looked machine.handles machine.tree here path run to) where
+module _ (machine : Machine) (is : IsOwnTree machine.tree) (asked : Command) (here : Stage) (path : List (List ℕ)) (run : List Entry) (to : Stage) (ends : command_at to ≡ None) (looked : Looked machine.handles machine.tree here path run to) where
   -- nothing is to be done ahead
-  pub nothing_more : saves_for machine asked ≡ [] → heard_at machine.handles here looked.said ≡ stage.Does → Comes paths machine asked run to
+  pub nothing_more : saves_for machine asked ≡ [] → heard_at machine.handles here looked.said ≡ stage.Does → Comes machine asked run to
   nothing_more none does_it = inl (subst (λ (l : List Command). Ahead machine.tree run l to) (sym none) (nothing_ahead machine.handles machine.tree here path run to looked does_it))
 
   -- the look isn't done
-  pub skipped_here : IsLookOf paths (command.Stat path) → (why : Refusal) → IsSkipped (command.Stat path) why → looked.said ≡ reply.No why → heard_at machine.handles here (reply.No why) ≡ stage.Says (reply.No why) → Comes paths machine asked run to
-  skipped_here look why skipped said hears = inr (not_looked machine.handles machine.tree here path run to looked paths look why skipped said hears)
+  pub skipped_here : (why : Refusal) → IsSkipped why → looked.said ≡ reply.No why → heard_at machine.handles here (reply.No why) ≡ stage.Says (reply.No why) → Comes machine asked run to
+  skipped_here why skipped said hears = inr (not_looked machine.handles machine.tree here path run to looked why skipped said hears)
 
   -- what comes behind the look
-  pub comes_behind : Comes paths machine asked looked.rest to → Comes paths machine asked run to
+  pub comes_behind : Comes machine asked looked.rest to → Comes machine asked run to
   comes_behind (inl ahead) = inl (ahead_looked machine.handles machine.tree here path run to looked (saves_for machine asked) ahead)
-  comes_behind (inr later) = inr (later_looked machine.handles machine.tree here path run to looked paths later)
+  comes_behind (inr later) = inr (later_looked machine.handles machine.tree here path run to looked later)
 
   -- a file loses the name that was looked at
   module _ (target : List (List ℕ)) (id : ℕ) (node : PlainNode) (there : node_at machine.tree id ≡ Some node) (kind : node.folder ≡ false)
@@ -71,10 +71,10 @@ module _ (machine : Machine) (is : IsOwnTree machine.tree) (paths : List (List (
       abbrev wanted : Bool → List Command
       wanted b = if (seen_names machine.tree id == 1) && b then saves machine.tree target id else []
 
-      pub loses : Comes paths machine asked run to
+      pub loses : Comes machine asked run to
       loses = by_held (is_held machine.handles id) refl
         where
-          by_held : (held : Bool) → is_held machine.handles id ≡ held → Comes paths machine asked run to
+          by_held : (held : Bool) → is_held machine.handles id ≡ held → Comes machine asked run to
           by_held false held = nothing_more (want ∙ ap wanted held ∙ ap (λ b. if b then saves machine.tree target id else []) (and_false (seen_names machine.tree id == 1))) (hears_by ∙ ap by held)
           by_held true held =
               let next : Follows machine.handles machine.tree (stage.Losing target (facts_of machine.tree node)) looked.rest to =
@@ -83,7 +83,7 @@ module _ (machine : Machine) (is : IsOwnTree machine.tree) (paths : List (List (
               (λ i. if (seen_names machine.tree (number i) == 1) then saves machine.tree target (number i) else []) ∙ ap (λ b. if b then saves machine.tree target id else []) (sym (and_true machine is target (seen_names machine.tree id == 1)))
               ∙ sym (want ∙ ap wanted held) in
               ⊎_elim (λ ahead. comes_behind (inl (subst (λ (l : List Command). Ahead machine.tree looked.rest l to) these ahead))) (λ later. comes_behind (inr later))
-              (losing paths machine.handles machine.tree is target node (ap (λ n. node_at machine.tree n) number ∙ there) kind looked.rest to ends next)
+              (losing machine.handles machine.tree is target node (ap (λ n. node_at machine.tree n) number ∙ there) kind looked.rest to ends next)
 
 -- ---- a move
 
@@ -93,15 +93,6 @@ module _ (machine : Machine) (is : IsOwnTree machine.tree) (from target : List (
 
   abbrev asked : Command
   asked = command.Mv from target
-
-  abbrev paths : List (List (List ℕ))
-  paths = from ∷ target ∷ []
-
-  look_from : IsLookOf paths (command.Stat from)
-  look_from = looks_at from (members.at_front from (target ∷ []))
-
-  look_target : IsLookOf paths (command.Stat target)
-  look_target = looks_at target (members.behind from target (target ∷ []) (members.at_front target []))
 
   private_root : (p : List (List ℕ)) (at : PlainEntry) → reached tree p ≡ Ok at → at.folder ≡ false → is_root p ≡ false
   private_root [] at found kind = absurd (true≢false (ap (λ (e : PlainEntry). e.folder) (ok_same root_entry at found) ∙ kind))
@@ -259,17 +250,17 @@ module _ (machine : Machine) (is : IsOwnTree machine.tree) (from target : List (
     abbrev here : Stage
     here = stage.Replacing at.id target
 
-    replacing : (run : List Entry) (to : Stage) → command_at to ≡ None → Follows machine.handles tree here run to → Comes paths machine asked run to
+    replacing : (run : List Entry) (to : Stage) → command_at to ≡ None → Follows machine.handles tree here run to → Comes machine asked run to
     replacing run to ends follows = by (looked_at machine.handles tree here target run to refl ends follows)
       where
-        by : Looked machine.handles tree here target run to → Comes paths machine asked run to
+        by : Looked machine.handles tree here target run to → Comes machine asked run to
         by looked = told looked.says
           where
             hears : Reply → Stage
             hears said = heard_at machine.handles here said
 
-            nothing : saves_for machine asked ≡ [] → hears looked.said ≡ stage.Does → Comes paths machine asked run to
-            nothing none does_it = nothing_more machine is paths asked here target run to ends looked none does_it
+            nothing : saves_for machine asked ≡ [] → hears looked.said ≡ stage.Does → Comes machine asked run to
+            nothing none does_it = nothing_more machine is asked here target run to ends looked none does_it
 
             facts_told : (other : PlainEntry) → reached tree target ≡ Ok other → looked.said ≡ (on tree (to_node tree target) (λ node. (reply.Facts (facts_of tree node), tree))).0 → (node : PlainNode) → node_at tree other.id ≡ Some node → looked.said ≡ reply.Facts (facts_of tree node)
             facts_told other reaches said node there =
@@ -277,7 +268,7 @@ module _ (machine : Machine) (is : IsOwnTree machine.tree) (from target : List (
                 ∙ ap (λ (o : Option PlainNode). (on tree (ok_or o refusal.NotFound) (λ node. (reply.Facts (facts_of tree node), tree))).0) there
 
             -- what stands there, by its node
-            stands : (other : PlainEntry) → reached tree target ≡ Ok other → is_private_path target ≡ false → (node : PlainNode) → node_at tree other.id ≡ Some node → node.folder ≡ other.folder → looked.said ≡ reply.Facts (facts_of tree node) → Comes paths machine asked run to
+            stands : (other : PlainEntry) → reached tree target ≡ Ok other → is_private_path target ≡ false → (node : PlainNode) → node_at tree other.id ≡ Some node → node.folder ≡ other.folder → looked.said ≡ reply.Facts (facts_of tree node) → Comes machine asked run to
             stands other reaches own_too node there kinds said = by_kind other.folder refl
               where
                 number : node.id ≡ other.id
@@ -293,21 +284,21 @@ module _ (machine : Machine) (is : IsOwnTree machine.tree) (from target : List (
                 folder_here true = refl
                 folder_here false = refl
 
-                by_same : (same : Bool) → (other.id == at.id) ≡ same → other.folder ≡ false → (root : is_root target ≡ false) → Comes paths machine asked run to
+                by_same : (same : Bool) → (other.id == at.id) ≡ same → other.folder ≡ false → (root : is_root target ≡ false) → Comes machine asked run to
                 by_same true same file root = nothing (no_name (same_there at found kind other reaches root file same)) (heard ∙ ap (λ b. behind b node.folder) (ap (λ n. n == at.id) number ∙ same))
                 by_same false same file root =
-                    loses machine is paths asked here target run to ends looked target other.id node there (kinds ∙ file) (heard ∙ ap (λ b. behind b node.folder) (ap (λ n. n == at.id) number ∙ same))
+                    loses machine is asked here target run to ends looked target other.id node there (kinds ∙ file) (heard ∙ ap (λ b. behind b node.folder) (ap (λ n. n == at.id) number ∙ same))
                     (wanted_is at found kind other reaches root file own own_too same)
 
-                by_root : (b : Bool) → is_root target ≡ b → other.folder ≡ true → Comes paths machine asked run to
+                by_root : (b : Bool) → is_root target ≡ b → other.folder ≡ true → Comes machine asked run to
                 by_root true root folder = nothing (no_name (root_goal root)) (heard ∙ ap (λ b. behind (node.id == at.id) b) (kinds ∙ folder) ∙ folder_here (node.id == at.id))
                 by_root false root folder = nothing (no_name (folder_there at found kind other reaches root folder)) (heard ∙ ap (λ b. behind (node.id == at.id) b) (kinds ∙ folder) ∙ folder_here (node.id == at.id))
 
-                by_kind : (b : Bool) → other.folder ≡ b → Comes paths machine asked run to
+                by_kind : (b : Bool) → other.folder ≡ b → Comes machine asked run to
                 by_kind true folder = by_root (is_root target) refl folder
                 by_kind false file = by_same (other.id == at.id) refl file (private_root target other reaches file)
 
-            entry : is_private_path target ≡ false → looked.said ≡ (on tree (to_node tree target) (λ node. (reply.Facts (facts_of tree node), tree))).0 → (r : Result PlainEntry Refusal) → reached tree target ≡ r → Comes paths machine asked run to
+            entry : is_private_path target ≡ false → looked.said ≡ (on tree (to_node tree target) (λ node. (reply.Facts (facts_of tree node), tree))).0 → (r : Result PlainEntry Refusal) → reached tree target ≡ r → Comes machine asked run to
             entry own_too said (Err why) reaches =
                 nothing (no_name (none_there at found kind why reaches))
                 (ap hears (said ∙ ap (λ (r : Result PlainEntry Refusal). (on tree (then_ r (λ at. ok_or (node_at tree at.id) refusal.NotFound)) (λ node. (reply.Facts (facts_of tree node), tree))).0) reaches)
@@ -316,33 +307,33 @@ module _ (machine : Machine) (is : IsOwnTree machine.tree) (from target : List (
                 let its = node_of machine is target other reaches in
                 stands other reaches own_too its.0 its.1 its.2 (facts_told other reaches said its.0 its.1)
 
-            own_path : (b : Bool) → is_private_path target ≡ b → looked.said ≡ look tree target → Comes paths machine asked run to
+            own_path : (b : Bool) → is_private_path target ≡ b → looked.said ≡ look tree target → Comes machine asked run to
             own_path true private said =
                 nothing
                 ((λ i. if is_refusal (if own i || (private i || false) then (reply.No refusal.Private, tree) else step tree asked).0 then [] else saves_taken machine (taken_by tree asked)))
                 (ap hears (said ∙ ap (λ b. (if b || false then (reply.No refusal.Private, tree) else step tree (command.Stat target)).0) private))
             own_path false own_too said = entry own_too (said ∙ look_is tree target own_too) (reached tree target) refl
 
-            told : (looked.said ≡ look tree target) ⊎ ((why : Refusal) × IsSkipped (command.Stat target) why × (looked.said ≡ reply.No why)) → Comes paths machine asked run to
-            told (inr skip) = skipped_here machine is paths asked here target run to ends looked look_target skip.0 skip.1 skip.2 (ap (λ b. if b then stage.Says (reply.No skip.0) else stage.Does) (skip_is (command.Stat target) skip.0 skip.1))
+            told : (looked.said ≡ look tree target) ⊎ ((why : Refusal) × IsSkipped why × (looked.said ≡ reply.No why)) → Comes machine asked run to
+            told (inr skip) = skipped_here machine is asked here target run to ends looked skip.0 skip.1 skip.2 (ap (λ b. if b then stage.Says (reply.No skip.0) else stage.Does) (skip_is skip.0 skip.1))
             told (inl same) = own_path (is_private_path target) refl same
 
   -- ---- the look at what is moved
 
   -- What the looks at both paths of a move come to is what the machine does ahead of it.
-  pub moving : (run : List Entry) (to : Stage) → command_at to ≡ None → Follows machine.handles tree (stage.Moving from target) run to → Comes paths machine asked run to
+  pub moving : (run : List Entry) (to : Stage) → command_at to ≡ None → Follows machine.handles tree (stage.Moving from target) run to → Comes machine asked run to
   moving run to ends follows = by (looked_at machine.handles tree (stage.Moving from target) from run to refl ends follows)
     where
-      by : Looked machine.handles tree (stage.Moving from target) from run to → Comes paths machine asked run to
+      by : Looked machine.handles tree (stage.Moving from target) from run to → Comes machine asked run to
       by looked = told looked.says
         where
           hears : Reply → Stage
           hears said = heard_at machine.handles (stage.Moving from target) said
 
-          nothing : saves_for machine asked ≡ [] → hears looked.said ≡ stage.Does → Comes paths machine asked run to
-          nothing none does_it = nothing_more machine is paths asked (stage.Moving from target) from run to ends looked none does_it
+          nothing : saves_for machine asked ≡ [] → hears looked.said ≡ stage.Does → Comes machine asked run to
+          nothing none does_it = nothing_more machine is asked (stage.Moving from target) from run to ends looked none does_it
 
-          entry : is_private_path from ≡ false → looked.said ≡ (on tree (to_node tree from) (λ node. (reply.Facts (facts_of tree node), tree))).0 → (r : Result PlainEntry Refusal) → reached tree from ≡ r → Comes paths machine asked run to
+          entry : is_private_path from ≡ false → looked.said ≡ (on tree (to_node tree from) (λ node. (reply.Facts (facts_of tree node), tree))).0 → (r : Result PlainEntry Refusal) → reached tree from ≡ r → Comes machine asked run to
           entry own said (Err why) found =
               nothing (no_name (none_moved why found))
               (ap hears (said ∙ ap (λ (r : Result PlainEntry Refusal). (on tree (then_ r (λ at. ok_or (node_at tree at.id) refusal.NotFound)) (λ node. (reply.Facts (facts_of tree node), tree))).0) found)
@@ -363,18 +354,18 @@ module _ (machine : Machine) (is : IsOwnTree machine.tree) (from target : List (
               behind : Bool → ℕ → Stage
               behind folder id = if folder then stage.Does else stage.Replacing id target
 
-              kinds : (b : Bool) → at.folder ≡ b → Comes paths machine asked run to
+              kinds : (b : Bool) → at.folder ≡ b → Comes machine asked run to
               kinds true folder = nothing (no_name (folder_moved at found folder)) (ap hears facts ∙ ap (λ b. behind b its.0.id) (its.2 ∙ folder))
               kinds false file =
-                  comes_behind machine is paths asked (stage.Moving from target) from run to ends looked
+                  comes_behind machine is asked (stage.Moving from target) from run to ends looked
                   (replacing at found file own looked.rest to ends (subst (λ (s : Stage). Follows machine.handles tree s looked.rest to) (ap hears facts ∙ (λ i. behind ((its.2 ∙ file) i) (number i))) looked.follows))
 
-          own_path : (b : Bool) → is_private_path from ≡ b → looked.said ≡ look tree from → Comes paths machine asked run to
+          own_path : (b : Bool) → is_private_path from ≡ b → looked.said ≡ look tree from → Comes machine asked run to
           own_path true private said =
               nothing (ap (λ b. if is_refusal (if b || (is_private_path target || false) then (reply.No refusal.Private, tree) else step tree asked).0 then [] else saves_taken machine (taken_by tree asked)) private)
               (ap hears (said ∙ ap (λ b. (if b || false then (reply.No refusal.Private, tree) else step tree (command.Stat from)).0) private))
           own_path false own said = entry own (said ∙ look_is tree from own) (reached tree from) refl
 
-          told : (looked.said ≡ look tree from) ⊎ ((why : Refusal) × IsSkipped (command.Stat from) why × (looked.said ≡ reply.No why)) → Comes paths machine asked run to
-          told (inr skip) = skipped_here machine is paths asked (stage.Moving from target) from run to ends looked look_from skip.0 skip.1 skip.2 (ap (λ b. if b then stage.Says (reply.No skip.0) else stage.Does) (skip_is (command.Stat from) skip.0 skip.1))
+          told : (looked.said ≡ look tree from) ⊎ ((why : Refusal) × IsSkipped why × (looked.said ≡ reply.No why)) → Comes machine asked run to
+          told (inr skip) = skipped_here machine is asked (stage.Moving from target) from run to ends looked skip.0 skip.1 skip.2 (ap (λ b. if b then stage.Says (reply.No skip.0) else stage.Does) (skip_is skip.0 skip.1))
           told (inl same) = own_path (is_private_path from) refl same

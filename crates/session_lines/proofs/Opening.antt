@@ -18,7 +18,7 @@ use Rattle.session_lines.specs.declared.stages.Stage.{Stage}
 use Rattle.session_lines.specs.declared.stages.Stage.TheVariants as stage
 use Rattle.session_lines.specs.Ahead.{IsQuiet}
 use Rattle.session_lines.specs.Following.{Follows}
-use Rattle.session_lines.specs.Spelling.{IsSkipped}
+use Rattle.session_lines.specs.Skipping.{IsSkipped}
 use Rattle.session_lines.specs.Stages.{command_at, found_to_open, heard_at}
 use Rattle.session_lines.proofs.Looks.{look, look_is}
 use Rattle.session_lines.proofs.Unseen.{Looked, looked_at, quiet_none}
@@ -27,7 +27,7 @@ use Rattle.session_lines.proofs.Saves.{ended}
 -- what the last look of a line says, or why it isn't done
 pub record LooksLast (tree : PlainTree) (path : List (List ℕ)) (next : Reply → Stage) (run : List Entry) (to : Stage) : Type 0 where
   pub said : Reply
-  pub says : (said ≡ look tree path) ⊎ ((why : Refusal) × IsSkipped (command.Stat path) why × (said ≡ reply.No why))
+  pub says : (said ≡ look tree path) ⊎ ((why : Refusal) × IsSkipped why × (said ≡ reply.No why))
   pub last : to ≡ next said
   pub quiet : IsQuiet tree run [] [] tree
 

@@ -42,16 +42,16 @@ abbrev pub AllCame : PlainTree → List (List (List ℕ)) → PlainTree → Type
 AllCame tree paths new = (entry : PlainEntry) → Contains new.entries entry → Came tree paths entry
 
 -- a step that is refused changes nothing
-on_came : {X : Type 0} (tree : PlainTree) (paths : List (List (List ℕ))) (r : Result X Refusal) (next : X → Step) → ((x : X) → r ≡ Ok x → AllCame tree paths (next x).1) → AllCame tree paths (on tree r next).1
+pub on_came : {X : Type 0} (tree : PlainTree) (paths : List (List (List ℕ))) (r : Result X Refusal) (next : X → Step) → ((x : X) → r ≡ Ok x → AllCame tree paths (next x).1) → AllCame tree paths (on tree r next).1
 on_came tree paths (Ok x) next came = came x refl
 on_came tree paths (Err why) next came = λ entry stands. inl stands
 
-same_came : (tree : PlainTree) (paths : List (List (List ℕ))) (new : PlainTree) → new.entries ≡ tree.entries → AllCame tree paths new
+pub same_came : (tree : PlainTree) (paths : List (List (List ℕ))) (new : PlainTree) → new.entries ≡ tree.entries → AllCame tree paths new
 same_came tree paths new same entry stands = inl (subst (λ (l : List PlainEntry). Contains l entry) same stands)
 
 module _ (tree : PlainTree) where
   -- one more at the place of a path
-  put_came : (path : List (List ℕ)) (paths : List (List (List ℕ))) → Contains paths path → is_root path ≡ false → (goal : Place) → IsPlaced tree path goal.folder goal.name → (item : PlainEntry) → item.parent ≡ goal.folder → item.name ≡ goal.name
+  pub put_came : (path : List (List ℕ)) (paths : List (List (List ℕ))) → Contains paths path → is_root path ≡ false → (goal : Place) → IsPlaced tree path goal.folder goal.name → (item : PlainEntry) → item.parent ≡ goal.folder → item.name ≡ goal.name
       → (entries : List PlainEntry) → ((entry : PlainEntry) → Contains entries entry → Contains tree.entries entry) → (entry : PlainEntry) → Contains (put_before entry_before item entries) entry → Came tree paths entry
   put_came path paths has named goal at item there its_name entries old entry stands = ⊎_elim
       (λ (same : entry ≡ item). inr (

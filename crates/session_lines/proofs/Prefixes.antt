@@ -14,7 +14,8 @@ use Rattle.open_files.specs.Machine.{Machine, Turn}
 use Rattle.open_files.specs.Lines.{session_text}
 use Rattle.session_lines.specs.Owning.{HaveEntries}
 use Rattle.session_lines.specs.Sessions.{SeesFirst, by_lines}
-use Rattle.session_lines.specs.Turns.{AreTurns, IsTurn, IsPart, no_turn, part_turn, one_turn}
+use Rattle.session_lines.specs.Turns.{AreTurns, IsLinePart, IsLineTurn, no_turn, part_turn, one_turn}
+use Rattle.session_lines.proofs.LineTurns.{line_between, line_tree}
 
 -- past a list, what is taken of two is taken of the second
 pub take_past : (run more : List Entry) (count : ℕ) → length run ≤ count → take count (run ++ more) ≡ run ++ take (count - length run) more
@@ -47,8 +48,8 @@ none_done start machine before (line ∷ lines) tree sees = record { some = omeg
 
 module _ (start : Content) (machine : Machine) (before : ℕ) (line : List ℕ) (own : List Entry) (turn : Turn) where
   -- within a line that a fault ended
-  part_cut : (part : IsPart start machine line own turn) (count : ℕ) → count ≤ length own → IsCut start machine before (line ∷ []) own [] count
-  part_cut part count some = elim (part.between count some) [
+  part_cut : (part : IsLinePart start machine line own turn) (count : ℕ) → count ≤ length own → IsCut start machine before (line ∷ []) own [] count
+  part_cut part count some = elim (part.1.between count some) [
     | inl old ↦ record { lines_done = 0; first = none_done start machine before (line ∷ []) (tree_after start (take count own)) old; answered = λ told text numbered each. tt }
     | inr new ↦ record {
       lines_done = 1;
@@ -57,7 +58,7 @@ module _ (start : Content) (machine : Machine) (before : ℕ) (line : List ℕ) 
     }
   ]
 
-  module _ (is : IsTurn start machine line own turn) (have : HaveEntries turn.next.tree turn.next.handles) (lines : List (List ℕ)) (run : List Entry) (answers : List Answer) where
+  module _ (is : IsLineTurn start machine line own turn) (have : HaveEntries turn.next.tree turn.next.handles) (lines : List (List ℕ)) (run : List Entry) (answers : List Answer) where
     abbrev all_answers : List Answer
     all_answers = record { text = session_text turn.says; upto = before + length own } ∷ answers
 
@@ -71,7 +72,7 @@ module _ (start : Content) (machine : Machine) (before : ℕ) (line : List ℕ) 
     within_cut count less =
         let same : take count (own ++ run) ≡ take count own = take-append-le count own run (omega (arith, less)) in
         let tree_is : tree_after start (take count (own ++ run)) ≡ tree_after start (take count own) = ap (λ (r : List Entry). tree_after start r) same in
-        elim (is.between count (omega (arith, less))) [
+        elim (line_between start machine line own turn is count (omega (arith, less))) [
           | inl old ↦ record {
             lines_done = 0;
             first = none_done start machine before (line ∷ lines) (tree_after start (take count (own ++ run))) (ap (λ t. seen t) tree_is ∙ old);
@@ -130,7 +131,7 @@ cut_turns start machine before lines run answers last (one_turn _ _ _ line own t
     elim (cases_lt count (length own)) [
       | inl less ↦ within_cut start machine before line own turn is have rest more others count less
       | inr past ↦ past_cut start machine before line own turn is have rest more others count past
-          (cut_turns (content_after start own) turn.next (before + length own) rest more others last turns is.tree (count - length own) (omega (arith, some, past, length-append own more)))
+          (cut_turns (content_after start own) turn.next (before + length own) rest more others last turns (line_tree start machine line own turn is) (count - length own) (omega (arith, some, past, length-append own more)))
     ]
 
 -- Before the first line's entries none of the lines was answered.

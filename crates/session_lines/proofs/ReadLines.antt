@@ -36,14 +36,14 @@ use Rattle.session_lines.specs.Said.{text_told, told_if}
 use Rattle.session_lines.specs.Turns.{BrokenSessions, spoke_at}
 use Rattle.session_lines.proofs.Answered.{Turned, act_reads, reads_line, says_line}
 use Rattle.session_lines.proofs.Closing.{named_stands}
-use Rattle.session_lines.proofs.ClosedLines.{only_told, short_turned, told_short}
+use Rattle.session_lines.proofs.ClosedLines.{only_told, short_turned, stops_nothing, told_short}
 use Rattle.session_lines.proofs.Kept.{StayFew}
-use Rattle.session_lines.proofs.Served.{AreTurned, machine_at, serves_turned, stops_turned}
+use Rattle.session_lines.proofs.Served.{AreTurned, machine_at, serves_turned}
 
 -- a line reads no more bytes than one command does
 pub reads_few : (handles : List OpenFile) (line : List ℕ) (id from long : ℕ) → IsErrandOf handles line (errand.Reads id from long) → long ≤ 65536
-reads_few handles line id from long (inr short) = absurd (cc short)
-reads_few handles line id from long (inl is) = by (asks_of line) (sym is)
+reads_few handles line id from long (session_line, inr short) = absurd (cc short)
+reads_few handles line id from long (session_line, inl is) = by (asks_of line) (sym is)
   where
     by : (asks : Result SessionLine Refusal) → errand_for handles asks ≡ errand.Reads id from long → long ≤ 65536
     by (Err why) it = absurd (cc it)
@@ -88,7 +88,7 @@ module _ (capacity : ℕ) (shrunk : Option ℕ) (committed now : Content) (old :
           by : (said ≡ reply.No refusal.OutOfMemory) ⊎ ((file : PlainNode) → node_at (tree_of now) id ≡ Some file → file.folder ≡ false → said ≡ reply.Content (take long (drop from file.bytes))) → Turned start (machine_at now handles) line [] (told.Plain said) handles
           by (inl short) = subst (λ (r : Reply). Turned start (machine_at now handles) line [] (told.Plain r) handles) (sym short) (short_turned capacity shrunk committed now old number line handles start stays)
           by (inr its) =
-              let reads = reads_line start (machine_at now handles) line stays.fits (errand.Reads id from long) comes id from long refl in
+              let reads = reads_line start (machine_at now handles) line stays.fits (errand.Reads id from long) comes.1 id from long refl in
               let opened = named_stands handles reads.session reads.handle id reads.file in
               let entry = stays.have opened.0 opened.1 in
               let node = (stays.own.plain.named entry.0 entry.1).named in
@@ -99,21 +99,17 @@ module _ (capacity : ℕ) (shrunk : Option ℕ) (committed now : Content) (old :
   pub read_line : StepKeepsTrees → StayFew → (id from long : ℕ) → IsErrandOf handles line (errand.Reads id from long) → (knows : Knowing) (space : Space) (new : Outside) (said : Reply) → HasRead id from long capacity knows committed now shrunk old space new said
       → (whole : Bool) (before after : ToTell) → after ≡ joined before (text_told (told_if whole (told.Plain said))) → SpeaksLine true capacity knows committed now shrunk old number (spoke_at handles) (spoke_at handles) line before after space new
   read_line law law_few id from long comes knows space new said read true before after tells =
-      serves_turned capacity shrunk committed now old number line handles [] tt law law_few (told.Plain said) handles (read_at id from long comes said read.bytes) [] knows committed now space new before after read.goes read.heads read.known tells
+      serves_turned capacity shrunk committed now old number line handles [] tt comes.0 law law_few (told.Plain said) handles (read_at id from long comes said read.bytes) [] knows committed now space new before after read.goes read.heads read.known tells
   read_line law law_few id from long comes knows space new said read false before after tells =
-      serves_turned capacity shrunk committed now old number line handles [] tt law law_few (told.Plain (reply.No refusal.OutOfMemory)) handles (short_turned capacity shrunk committed now old number line handles) [] knows committed now space new before after read.goes read.heads read.known tells
-
-  -- it stops where nothing was done
-  pub stops_nothing : (new : Outside) → Stops capacity shrunk committed now old [] new → (begun : Bool) × StopsSpeaking capacity committed now shrunk old number (spoke_at handles) BrokenSessions (line_if begun line) new
-  stops_nothing new stops = (true, stops_turned capacity shrunk committed now old number line handles [] (λ start stays. (told.Plain (reply.No refusal.OutOfMemory), handles, short_turned capacity shrunk committed now old number line handles start stays)) new stops)
+      serves_turned capacity shrunk committed now old number line handles [] tt comes.0 law law_few (told.Plain (reply.No refusal.OutOfMemory)) handles (short_turned capacity shrunk committed now old number line handles) [] knows committed now space new before after read.goes read.heads read.known tells
 
   -- A line that is told something at once.
   pub says_told : StepKeepsTrees → StayFew → (said : SessionReply) → IsErrandOf handles line (errand.Says said) → (knows : Knowing) (space : Space) → Stands knows committed now shrunk space old → (whole : Bool) (before after : ToTell)
       → after ≡ joined before (text_told (told_if whole said)) → SpeaksLine true capacity knows committed now shrunk old number (spoke_at handles) (spoke_at handles) line before after space old
   says_told law law_few said comes knows space stands true before after tells =
-      only_told capacity shrunk committed now old number line handles knows space stands law law_few said handles (λ start stays. says_line start (machine_at now handles) line stays.fits (errand.Says said) comes said refl) before after tells
-  says_told law law_few said comes knows space stands false before after tells = told_short capacity shrunk committed now old number line handles knows space stands law law_few before after tells
+      only_told capacity shrunk committed now old number line handles knows space stands comes.0 law law_few said handles (λ start stays. says_line start (machine_at now handles) line stays.fits (errand.Says said) comes.1 said refl) before after tells
+  says_told law law_few said comes knows space stands false before after tells = told_short capacity shrunk committed now old number line handles knows space stands comes.0 law law_few before after tells
 
   pub read_untold : (id from long : ℕ) (knows : Knowing) (space : Space) (new : Outside) (said : Reply) → HasRead id from long capacity knows committed now shrunk old space new said
       → (begun : Bool) × StopsSpeaking capacity committed now shrunk old number (spoke_at handles) BrokenSessions (line_if begun line) new
-  read_untold id from long knows space new said read = stops_nothing new (stops_there capacity shrunk committed now old [] committed now space new read.goes)
+  read_untold id from long knows space new said read = stops_nothing capacity shrunk committed now old number line handles new (stops_there capacity shrunk committed now old [] committed now space new read.goes)

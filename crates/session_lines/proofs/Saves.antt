@@ -31,7 +31,7 @@ use Rattle.session_lines.specs.declared.stages.Stage.TheVariants as stage
 use Rattle.session_lines.specs.Ahead.{Ahead, AreDone, IsQuiet, NotLooked, all_done, one_refused, trees_by}
 use Rattle.session_lines.specs.Following.{Follows, does, skips, stays}
 use Rattle.session_lines.specs.Owning.{IsOwnTree}
-use Rattle.session_lines.specs.Spelling.{IsLookOf, IsSkipped, LookSkips, looks_at, looks_at_folder, looks_at_kept}
+use Rattle.session_lines.specs.Skipping.{IsSkipped}
 use Rattle.session_lines.specs.Stages.{command_at, heard_at, is_skip, unless_refused}
 use Rattle.session_lines.proofs.Keeping.{folder_kind, keeps, link_unseen, made_keeps, make_done, make_unseen, new_folder}
 use Rattle.session_lines.proofs.Looks.{absent_told, kept_told, look, look_is, names_seen, none_there, not_kept_told, there_told}
@@ -44,14 +44,8 @@ ended handles tree from [] to none (stays _ _) = (refl, refl)
 ended handles tree from (entry ∷ run) to none (does _ _ _ _ _ capacity asked is asks before served rest) = absurd (cc (sym is ∙ none))
 ended handles tree from run to none (skips _ _ _ _ asked why is skipped rest) = absurd (cc (sym is ∙ none))
 
-pub skip_is : (asked : Command) (why : Refusal) → IsSkipped asked why → is_skip why ≡ true
-skip_is asked why (inl short) = ap is_skip short
-skip_is asked why (inr long) = ap is_skip long.0
-
--- a look of a line that isn't done
-pub look_skips : (paths : List (List (List ℕ))) (asked : Command) (why : Refusal) → IsLookOf paths asked → IsSkipped asked why → LookSkips paths why
-look_skips paths asked why look (inl short) = inl short
-look_skips paths asked why look (inr long) = inr (long.0, (asked, look, long.1))
+pub skip_is : (why : Refusal) → IsSkipped why → is_skip why ≡ true
+skip_is why short = ap is_skip short
 
 -- ---- a command of Save
 
@@ -100,7 +94,7 @@ module _ (handles : List OpenFile) (tree : PlainTree) (here next : Stage) (first
         let last = ended handles tree (stage.Says (reply.No why)) run to refl (subst (λ (s : Stage). Follows handles tree s run to) (hears (reply.No why)) rest) in
         subst (λ (s : Stage). Ahead tree run (first ∷ asked) s) (sym last.1)
         (subst (λ (r : List Entry). Ahead tree r (first ∷ asked) (stage.Says (reply.No why))) (sym last.0)
-        (one_refused [] asked [] first why tt (quiet_skip tree why first [] [] [] tree (subst (λ (a : Command). IsSkipped a why) (ap (asked_or one) (sym is ∙ asks)) skipped) (quiet_none tree))))
+        (one_refused [] asked [] first why tt (quiet_skip tree why first [] [] [] tree skipped (quiet_none tree))))
     saves_on (entry ∷ run) to ends (does _ _ _ _ _ capacity one is one_asks before served rest) behind = by (is_refusal entry.reply) refl
       where
         its : asked_by entry ≡ Ok first
@@ -133,15 +127,15 @@ module _ (handles : List OpenFile) (tree : PlainTree) (here : Stage) (path : Lis
   pub ahead_looked : (asked : List Command) → Ahead tree looked.rest asked to → Ahead tree run asked to
   ahead_looked asked ahead = ahead_quiet tree run looked.rest looked.quiet asked to ahead
 
-  pub later_looked : (paths : List (List (List ℕ))) → NotLooked paths tree looked.rest to → NotLooked paths tree run to
-  later_looked paths later = record { why = later.why; skipped = later.skipped; says = later.says; quiet = looked.quiet [] [] tree later.quiet }
+  pub later_looked : NotLooked tree looked.rest to → NotLooked tree run to
+  later_looked later = record { why = later.why; skipped = later.skipped; says = later.says; quiet = looked.quiet [] [] tree later.quiet }
 
-  pub not_looked : (paths : List (List (List ℕ))) → IsLookOf paths (command.Stat path) → (why : Refusal) → IsSkipped (command.Stat path) why → looked.said ≡ reply.No why → heard_at handles here (reply.No why) ≡ stage.Says (reply.No why) → NotLooked paths tree run to
-  not_looked paths look why skipped said hears =
+  pub not_looked : (why : Refusal) → IsSkipped why → looked.said ≡ reply.No why → heard_at handles here (reply.No why) ≡ stage.Says (reply.No why) → NotLooked tree run to
+  not_looked why skipped said hears =
       let last = ended handles tree (stage.Says (reply.No why)) looked.rest to refl (subst (λ (s : Stage). Follows handles tree s looked.rest to) (ap (heard_at handles here) said ∙ hears) looked.follows) in
       record {
         why = why;
-        skipped = look_skips paths (command.Stat path) why look skipped;
+        skipped = skipped;
         says = last.1;
         quiet = looked.quiet [] [] tree (subst (λ (r : List Entry). IsQuiet tree r [] [] tree) (sym last.0) (quiet_none tree));
       }
@@ -154,7 +148,7 @@ module _ (handles : List OpenFile) (tree : PlainTree) (here : Stage) (path : Lis
 
 -- ---- the stages of Save
 
-module _ (paths : List (List (List ℕ))) (handles : List OpenFile) (path : List (List ℕ)) (id : ℕ) where
+module _ (handles : List OpenFile) (path : List (List ℕ)) (id : ℕ) where
   -- the file gets a name in the keeping folder
   pub linking : (tree : PlainTree) (folder : PlainEntry) → Keeps tree folder → (run : List Entry) (to : Stage) → command_at to ≡ None → Follows handles tree (stage.Linking path id) run to → Ahead tree run (command.Ln path (kept_path id) ∷ []) to
   linking tree folder keeps_it run to ends follows =
@@ -172,20 +166,20 @@ module _ (paths : List (List (List ℕ))) (handles : List OpenFile) (path : List
       linking (tree_of entry.after) (new_folder tree is absent) (subst (λ (t : PlainTree). Keeps t (new_folder tree is absent)) (sym (same ∙ ap (λ s. s.1) (make_done tree is absent))) (made_keeps tree is absent)) rest to ends later)
 
   -- by whether the folder is there
-  pub saving : (tree : PlainTree) → IsOwnTree tree → is_kept tree id ≡ false → (run : List Entry) (to : Stage) → command_at to ≡ None → Follows handles tree (stage.Saving path id) run to → Ahead tree run (saves tree path id) to ⊎ NotLooked paths tree run to
+  pub saving : (tree : PlainTree) → IsOwnTree tree → is_kept tree id ≡ false → (run : List Entry) (to : Stage) → command_at to ≡ None → Follows handles tree (stage.Saving path id) run to → Ahead tree run (saves tree path id) to ⊎ NotLooked tree run to
   saving tree is not_kept run to ends follows = by (looked_at handles tree (stage.Saving path id) keeping_path run to refl ends follows)
     where
-      by : Looked handles tree (stage.Saving path id) keeping_path run to → Ahead tree run (saves tree path id) to ⊎ NotLooked paths tree run to
+      by : Looked handles tree (stage.Saving path id) keeping_path run to → Ahead tree run (saves tree path id) to ⊎ NotLooked tree run to
       by looked = told looked.says
         where
           these : (there : Bool) → is_some (keeping_entry tree) ≡ there → saves tree path id ≡ saves_by there false path id
           these there is_there = (λ i. saves_by (is_there i) (not_kept i) path id)
 
-          told : (looked.said ≡ look tree keeping_path) ⊎ ((why : Refusal) × IsSkipped (command.Stat keeping_path) why × (looked.said ≡ reply.No why)) → Ahead tree run (saves tree path id) to ⊎ NotLooked paths tree run to
-          told (inr skip) = inr (not_looked handles tree (stage.Saving path id) keeping_path run to looked paths looks_at_folder skip.0 skip.1 skip.2 (ap (λ b. if b then stage.Says (reply.No skip.0) else stage.Making path id) (skip_is (command.Stat keeping_path) skip.0 skip.1)))
+          told : (looked.said ≡ look tree keeping_path) ⊎ ((why : Refusal) × IsSkipped why × (looked.said ≡ reply.No why)) → Ahead tree run (saves tree path id) to ⊎ NotLooked tree run to
+          told (inr skip) = inr (not_looked handles tree (stage.Saving path id) keeping_path run to looked skip.0 skip.1 skip.2 (ap (λ b. if b then stage.Says (reply.No skip.0) else stage.Making path id) (skip_is skip.0 skip.1)))
           told (inl same) = there (keeping_entry tree) refl
             where
-              there : (o : Option PlainEntry) → keeping_entry tree ≡ o → Ahead tree run (saves tree path id) to ⊎ NotLooked paths tree run to
+              there : (o : Option PlainEntry) → keeping_entry tree ≡ o → Ahead tree run (saves tree path id) to ⊎ NotLooked tree run to
               there (Some folder) found =
                   let facts = there_told tree is folder found in
                   let next : Follows handles tree (stage.Linking path id) looked.rest to = subst (λ (r : Reply). Follows handles tree (heard_at handles (stage.Saving path id) r) looked.rest to) (same ∙ facts.1) looked.follows in
@@ -202,7 +196,7 @@ pub if_same : {X : Type 0} (b : Bool) (x : X) → (if b then x else x) ≡ x
 if_same true x = refl
 if_same false x = refl
 
-module _ (paths : List (List (List ℕ))) (handles : List OpenFile) (tree : PlainTree) (is : IsOwnTree tree) (path : List (List ℕ)) (node : PlainNode) (here : node_at tree node.id ≡ Some node) (kind : node.folder ≡ false) where
+module _ (handles : List OpenFile) (tree : PlainTree) (is : IsOwnTree tree) (path : List (List ℕ)) (node : PlainNode) (here : node_at tree node.id ≡ Some node) (kind : node.folder ≡ false) where
   abbrev wanted : Bool → List Command
   wanted last = if last then saves tree path node.id else []
 
@@ -217,27 +211,27 @@ module _ (paths : List (List (List ℕ))) (handles : List OpenFile) (tree : Plai
       by None none = absurd (true≢false (sym kept_is ∙ none_there tree is node.id none))
       by (Some folder) found = λ i. saves_by (is_some (found i)) (kept_is i) path node.id
 
-  pub losing : (run : List Entry) (to : Stage) → command_at to ≡ None → Follows handles tree (stage.Losing path (facts_of tree node)) run to → Ahead tree run (wanted (seen_names tree node.id == 1)) to ⊎ NotLooked paths tree run to
+  pub losing : (run : List Entry) (to : Stage) → command_at to ≡ None → Follows handles tree (stage.Losing path (facts_of tree node)) run to → Ahead tree run (wanted (seen_names tree node.id == 1)) to ⊎ NotLooked tree run to
   losing run to ends follows = by (looked_at handles tree (stage.Losing path (facts_of tree node)) (kept_path node.id) run to refl ends follows)
     where
-      by : Looked handles tree (stage.Losing path (facts_of tree node)) (kept_path node.id) run to → Ahead tree run (wanted (seen_names tree node.id == 1)) to ⊎ NotLooked paths tree run to
+      by : Looked handles tree (stage.Losing path (facts_of tree node)) (kept_path node.id) run to → Ahead tree run (wanted (seen_names tree node.id == 1)) to ⊎ NotLooked tree run to
       by looked = told looked.says
         where
           hears : Reply → Stage
           hears said = heard_at handles (stage.Losing path (facts_of tree node)) said
 
-          lonely : (b : Bool) → (seen_names tree node.id == 1) ≡ b → is_kept tree node.id ≡ false → looked.said ≡ reply.No refusal.NotFound → Ahead tree run (wanted b) to ⊎ NotLooked paths tree run to
+          lonely : (b : Bool) → (seen_names tree node.id == 1) ≡ b → is_kept tree node.id ≡ false → looked.said ≡ reply.No refusal.NotFound → Ahead tree run (wanted b) to ⊎ NotLooked tree run to
           lonely true one not_kept said =
               let links : ((facts_of tree node).links == 1) ≡ true = ap (λ n. n == 1) (links_are ∙ sym (names_seen tree is node.id node here kind not_kept)) ∙ one in
               let next : Follows handles tree (stage.Saving path node.id) looked.rest to =
               subst (λ (s : Stage). Follows handles tree s looked.rest to) (ap hears said ∙ ap (λ b. if b then stage.Saving path node.id else stage.Does) links) looked.follows in
               ⊎_elim (λ ahead. inl (ahead_looked handles tree (stage.Losing path (facts_of tree node)) (kept_path node.id) run to looked (saves tree path node.id) ahead))
-              (λ not. inr (later_looked handles tree (stage.Losing path (facts_of tree node)) (kept_path node.id) run to looked paths not)) (saving paths handles path node.id tree is not_kept looked.rest to ends next)
+              (λ not. inr (later_looked handles tree (stage.Losing path (facts_of tree node)) (kept_path node.id) run to looked not)) (saving handles path node.id tree is not_kept looked.rest to ends next)
           lonely false others not_kept said =
               let links : ((facts_of tree node).links == 1) ≡ false = ap (λ n. n == 1) (links_are ∙ sym (names_seen tree is node.id node here kind not_kept)) ∙ others in
               inl (nothing_ahead handles tree (stage.Losing path (facts_of tree node)) (kept_path node.id) run to looked (ap hears said ∙ ap (λ b. if b then stage.Saving path node.id else stage.Does) links))
 
-          looked_up : (b : Bool) → is_kept tree node.id ≡ b → looked.said ≡ look tree (kept_path node.id) → Ahead tree run (wanted (seen_names tree node.id == 1)) to ⊎ NotLooked paths tree run to
+          looked_up : (b : Bool) → is_kept tree node.id ≡ b → looked.said ≡ look tree (kept_path node.id) → Ahead tree run (wanted (seen_names tree node.id == 1)) to ⊎ NotLooked tree run to
           looked_up true kept_is same =
               let none : wanted (seen_names tree node.id == 1) ≡ [] = ap (λ (l : List Command). if (seen_names tree node.id == 1) then l else []) (kept_saves kept_is) ∙ if_same (seen_names tree node.id == 1) [] in
               let facts = kept_told tree is node.id kept_is in
@@ -245,10 +239,10 @@ module _ (paths : List (List (List ℕ))) (handles : List OpenFile) (tree : Plai
               (nothing_ahead handles tree (stage.Losing path (facts_of tree node)) (kept_path node.id) run to looked (ap hears (same ∙ facts.1))))
           looked_up false not_kept same = lonely (seen_names tree node.id == 1) refl not_kept (same ∙ not_kept_told tree is node.id not_kept)
 
-          told : (looked.said ≡ look tree (kept_path node.id)) ⊎ ((why : Refusal) × IsSkipped (command.Stat (kept_path node.id)) why × (looked.said ≡ reply.No why)) → Ahead tree run (wanted (seen_names tree node.id == 1)) to ⊎ NotLooked paths tree run to
+          told : (looked.said ≡ look tree (kept_path node.id)) ⊎ ((why : Refusal) × IsSkipped why × (looked.said ≡ reply.No why)) → Ahead tree run (wanted (seen_names tree node.id == 1)) to ⊎ NotLooked tree run to
           told (inr skip) =
-              inr (not_looked handles tree (stage.Losing path (facts_of tree node)) (kept_path node.id) run to looked paths (looks_at_kept node.id) skip.0 skip.1 skip.2
-              (ap (λ b. if b then stage.Says (reply.No skip.0) else (if (facts_of tree node).links == 1 then stage.Saving path node.id else stage.Does)) (skip_is (command.Stat (kept_path node.id)) skip.0 skip.1)))
+              inr (not_looked handles tree (stage.Losing path (facts_of tree node)) (kept_path node.id) run to looked skip.0 skip.1 skip.2
+              (ap (λ b. if b then stage.Says (reply.No skip.0) else (if (facts_of tree node).links == 1 then stage.Saving path node.id else stage.Does)) (skip_is skip.0 skip.1)))
           told (inl same) = looked_up (is_kept tree node.id) refl same
 
 -- ---- `rm`
@@ -322,20 +316,20 @@ module _ (machine : Machine) (is : IsOwnTree machine.tree) (path : List (List �
       ∙ ap (λ b. if (seen_names tree at.id == 1) && b then saves tree path at.id else []) is_held_is
 
   -- What the looks at a name that `rm` takes come to is what the machine does ahead of it.
-  pub taking : (run : List Entry) (to : Stage) → command_at to ≡ None → Follows machine.handles tree (stage.Taking path) run to → Ahead tree run (saves_for machine (command.Rm path)) to ⊎ NotLooked (path ∷ []) tree run to
+  pub taking : (run : List Entry) (to : Stage) → command_at to ≡ None → Follows machine.handles tree (stage.Taking path) run to → Ahead tree run (saves_for machine (command.Rm path)) to ⊎ NotLooked tree run to
   taking run to ends follows = by (looked_at machine.handles tree (stage.Taking path) path run to refl ends follows)
     where
-      by : Looked machine.handles tree (stage.Taking path) path run to → Ahead tree run (saves_for machine (command.Rm path)) to ⊎ NotLooked (path ∷ []) tree run to
+      by : Looked machine.handles tree (stage.Taking path) path run to → Ahead tree run (saves_for machine (command.Rm path)) to ⊎ NotLooked tree run to
       by looked = told looked.says
         where
           hears : Reply → Stage
           hears said = heard_at machine.handles (stage.Taking path) said
 
-          nothing : saves_for machine (command.Rm path) ≡ [] → hears looked.said ≡ stage.Does → Ahead tree run (saves_for machine (command.Rm path)) to ⊎ NotLooked (path ∷ []) tree run to
+          nothing : saves_for machine (command.Rm path) ≡ [] → hears looked.said ≡ stage.Does → Ahead tree run (saves_for machine (command.Rm path)) to ⊎ NotLooked tree run to
           nothing none does_it = inl (subst (λ (l : List Command). Ahead tree run l to) (sym none) (nothing_ahead machine.handles tree (stage.Taking path) path run to looked does_it))
 
           file : (at : PlainEntry) (node : PlainNode) → is_private_path path ≡ false → reached tree path ≡ Ok at → node_at tree at.id ≡ Some node → node.folder ≡ at.folder → at.folder ≡ false → looked.said ≡ reply.Facts (facts_of tree node) → (held : Bool)
-              → is_held machine.handles at.id ≡ held → Ahead tree run (saves_for machine (command.Rm path)) to ⊎ NotLooked (path ∷ []) tree run to
+              → is_held machine.handles at.id ≡ held → Ahead tree run (saves_for machine (command.Rm path)) to ⊎ NotLooked tree run to
           file at node own found here kinds kind said false held =
               let number : node.id ≡ at.id = eqb-true node.id at.id (found_some (is_node at.id) tree.nodes node here).1 in
               nothing (wanted_is at own found kind false held ∙ ap (λ b. if b then saves tree path at.id else []) (and_false (seen_names tree at.id == 1)))
@@ -350,10 +344,10 @@ module _ (machine : Machine) (is : IsOwnTree machine.tree) (path : List (List �
               ⊎_elim
               (λ ahead. inl (subst (λ (l : List Command). Ahead tree run l to) want
               (ahead_looked machine.handles tree (stage.Taking path) path run to looked (if (seen_names tree node.id == 1) then saves tree path node.id else []) ahead)))
-              (λ not. inr (later_looked machine.handles tree (stage.Taking path) path run to looked (path ∷ []) not))
-              (losing (path ∷ []) machine.handles tree is path node (ap (λ n. node_at tree n) number ∙ here) (kinds ∙ kind) looked.rest to ends next)
+              (λ not. inr (later_looked machine.handles tree (stage.Taking path) path run to looked not))
+              (losing machine.handles tree is path node (ap (λ n. node_at tree n) number ∙ here) (kinds ∙ kind) looked.rest to ends next)
 
-          entry : is_private_path path ≡ false → looked.said ≡ (on tree (to_node tree path) (λ node. (reply.Facts (facts_of tree node), tree))).0 → (r : Result PlainEntry Refusal) → reached tree path ≡ r → Ahead tree run (saves_for machine (command.Rm path)) to ⊎ NotLooked (path ∷ []) tree run to
+          entry : is_private_path path ≡ false → looked.said ≡ (on tree (to_node tree path) (λ node. (reply.Facts (facts_of tree node), tree))).0 → (r : Result PlainEntry Refusal) → reached tree path ≡ r → Ahead tree run (saves_for machine (command.Rm path)) to ⊎ NotLooked tree run to
           entry own said (Err why) found =
               nothing (none_wanted (ap (taken_entry path) found))
               (ap hears (said ∙ ap (λ (r : Result PlainEntry Refusal). (on tree (then_ r (λ at. ok_or (node_at tree at.id) refusal.NotFound)) (λ node. (reply.Facts (facts_of tree node), tree))).0) found)
@@ -368,19 +362,19 @@ module _ (machine : Machine) (is : IsOwnTree machine.tree) (path : List (List �
                   said ∙ ap (λ (r : Result PlainEntry Refusal). (on tree (then_ r (λ at. ok_or (node_at tree at.id) refusal.NotFound)) (λ node. (reply.Facts (facts_of tree node), tree))).0) found
                   ∙ ap (λ (o : Option PlainNode). (on tree (ok_or o refusal.NotFound) (λ node. (reply.Facts (facts_of tree node), tree))).0) its.1
 
-              kinds : (b : Bool) → at.folder ≡ b → Ahead tree run (saves_for machine (command.Rm path)) to ⊎ NotLooked (path ∷ []) tree run to
+              kinds : (b : Bool) → at.folder ≡ b → Ahead tree run (saves_for machine (command.Rm path)) to ⊎ NotLooked tree run to
               kinds true folder =
                   nothing (none_wanted (taken_is at found ∙ ap (λ b. if b then None else Some (taken_here at)) folder))
                   (ap hears facts ∙ ap (λ b. if not b && is_held machine.handles its.0.id then stage.Losing path (facts_of tree its.0) else stage.Does) (its.2 ∙ folder))
               kinds false kind = file at its.0 own found its.1 its.2 kind facts (is_held machine.handles at.id) refl
 
-          own_path : (b : Bool) → is_private_path path ≡ b → looked.said ≡ look tree path → Ahead tree run (saves_for machine (command.Rm path)) to ⊎ NotLooked (path ∷ []) tree run to
+          own_path : (b : Bool) → is_private_path path ≡ b → looked.said ≡ look tree path → Ahead tree run (saves_for machine (command.Rm path)) to ⊎ NotLooked tree run to
           own_path true private said =
               nothing (ap (λ b. if is_refusal (if b || false then (reply.No refusal.Private, tree) else step tree (command.Rm path)).0 then [] else saves_taken machine (taken_by tree (command.Rm path))) private)
               (ap hears (said ∙ ap (λ b. (if b || false then (reply.No refusal.Private, tree) else step tree (command.Stat path)).0) private))
           own_path false own said = entry own (said ∙ look_is tree path own) (reached tree path) refl
 
-          told : (looked.said ≡ look tree path) ⊎ ((why : Refusal) × IsSkipped (command.Stat path) why × (looked.said ≡ reply.No why)) → Ahead tree run (saves_for machine (command.Rm path)) to ⊎ NotLooked (path ∷ []) tree run to
+          told : (looked.said ≡ look tree path) ⊎ ((why : Refusal) × IsSkipped why × (looked.said ≡ reply.No why)) → Ahead tree run (saves_for machine (command.Rm path)) to ⊎ NotLooked tree run to
           told (inr skip) =
-              inr (not_looked machine.handles tree (stage.Taking path) path run to looked (path ∷ []) (looks_at path (at_front path [])) skip.0 skip.1 skip.2 (ap (λ b. if b then stage.Says (reply.No skip.0) else stage.Does) (skip_is (command.Stat path) skip.0 skip.1)))
+              inr (not_looked machine.handles tree (stage.Taking path) path run to looked skip.0 skip.1 skip.2 (ap (λ b. if b then stage.Says (reply.No skip.0) else stage.Does) (skip_is skip.0 skip.1)))
           told (inl same) = own_path (is_private_path path) refl same

@@ -1,5 +1,5 @@
 -- A line that was served, or that a fault cut short, as a stretch that a speaker speaks.
-use Rattle.std.proofs.Common.{◌≡◌, ◌<◌, ◌++◌, ◌∷◌, [], ℕ, List, true, length, refl, sym, ◌∙◌, ap, subst, arith}
+use Rattle.std.proofs.Common.{◌≡◌, ◌<◌, ◌++◌, ◌∷◌, [], ℕ, List, false, true, inl, length, refl, sym, ◌∙◌, ap, subst, arith}
 use Rattle.std.specs.Prelude.{◌^◌, Option, None}
 use Rattle.std.proofs.lemmas.List.{append-nil}
 use Rattle.sector_disk.specs.Space.{Space}
@@ -18,13 +18,15 @@ use Rattle.hfs_serving.specs.Serving.{Goes, Stops}
 use Rattle.hfs_serving.specs.Speaking.{Speaks, SpeaksLine, Speech, StopsSpeaking, spoken_on}
 use Rattle.hfs_serving.specs.declared.volume.ToTell.{ToTell}
 use Rattle.open_files.specs.Lines.{session_text}
-use Rattle.open_files.specs.Machine.{Machine}
+use Rattle.link_kinds.specs.Lines.{is_kind_line}
+use Rattle.open_files.specs.Machine.{Machine, Turn}
 use Rattle.open_files.specs.declared.act.OpenFile.{OpenFile}
 use Rattle.open_files.specs.declared.act.SessionReply.{SessionReply}
 use Rattle.session_lines.specs.Owning.{HaveEntries, IsOwnTree}
-use Rattle.session_lines.specs.Turns.{BrokenSessions, IsTurn, SpokeSessions, spoke_at}
+use Rattle.session_lines.specs.Turns.{BrokenSessions, IsLineTurn, IsTurn, SpokeSessions, spoke_at}
 use Rattle.session_lines.proofs.Answered.{Turned, part_of}
-use Rattle.session_lines.proofs.Kept.{StayFew, real_made, run_few, same_after, turn_keeps}
+use Rattle.session_lines.proofs.Kept.{Keeps, StayFew, real_made, run_few, same_after, turn_keeps}
+use Rattle.session_lines.proofs.LineTurns.{line_tree}
 use Rattle.session_lines.proofs.Spoken.{broke_line, spoke_line}
 use Rattle.session_lines.proofs.Texts.{some_text, text_alone}
 
@@ -42,6 +44,17 @@ pub record Stays (now : Content) (handles : List OpenFile) (start : Content) : T
 -- entries from a content on are a turn of a line there, which is told this
 abbrev pub AreTurned : Content → List OpenFile → List ℕ → List Entry → SessionReply → List OpenFile → Type 0
 AreTurned now handles line run said behind = (start : Content) → Stays now handles start → Turned start (machine_at now handles) line run said behind
+
+-- the same of any line, which keeps the keeping folder the sessions' own and an entry of each file that is open
+pub record LineTurned (start : Content) (machine : Machine) (line : List ℕ) (run : List Entry) (said : SessionReply) (handles : List OpenFile) : Type 0 where
+  pub turn : Turn
+  pub is : IsLineTurn start machine line run turn
+  pub says : turn.says ≡ said
+  pub handles_are : turn.next.handles ≡ handles
+  pub keeps : Keeps turn.next.tree turn.next.handles
+
+abbrev pub AreLineTurned : Content → List OpenFile → List ℕ → List Entry → SessionReply → List OpenFile → Type 0
+AreLineTurned now handles line run said behind = (start : Content) → Stays now handles start → LineTurned start (machine_at now handles) line run said behind
 
 -- whatever it is told
 abbrev pub AreSome : Content → List OpenFile → List ℕ → List Entry → Type 0
@@ -61,7 +74,8 @@ module _ (capacity : ℕ) (shrunk : Option ℕ) (committed now : Content) (old :
   }
 
   module _ (run : List Entry) (are : IsRunFrom capacity shrunk now run) where
-    module _ (law : StepKeepsTrees) (law_few : StayFew) (said : SessionReply) (behind : List OpenFile) (turned : AreTurned now handles line run said behind) (changes : List Change) where
+    -- It is one of sessions, or one on a link or a resource fork.
+    module _ (law_few : StayFew) (said : SessionReply) (behind : List OpenFile) (turned : AreLineTurned now handles line run said behind) (changes : List Change) where
       abbrev speech : Speech
       speech = record { lines = line ∷ []; run = run; answers = record { text = session_text said; upto = length run } ∷ []; changes = changes }
 
@@ -69,18 +83,17 @@ module _ (capacity : ℕ) (shrunk : Option ℕ) (committed now : Content) (old :
       speaks_line start past numbered at spoke =
           let stays = stays_here start past at spoke in
           let its = turned (content_after start past.run) stays in
-          let is : IsTurn (content_after start past.run) spoke.spoken.last line run its.turn = subst (λ (m : Machine). IsTurn (content_after start past.run) m line run its.turn) (sym (here_is start past at spoke)) its.is in
+          let is : IsLineTurn (content_after start past.run) spoke.spoken.last line run its.turn = subst (λ (m : Machine). IsLineTurn (content_after start past.run) m line run its.turn) (sym (here_is start past at spoke)) its.is in
           let few : its.turn.next.tree.next_id < 2 ^ 32 =
-          subst (λ (t : PlainTree). t.next_id < 2 ^ 32) (sym (same_after (content_after start past.run) now run at) ∙ its.is.tree) (run_few law_few capacity shrunk now run are stays.few) in
-          let kept = turn_keeps law (content_after start past.run) (machine_at now handles) line run its.turn its.is (stays.own, stays.have) (real_made law_few capacity shrunk now run its.turn.did its.is.replies its.is.made are stays.few) in
-          let whole = spoke_line start past handles [] spoke line run its.turn changes refl kept.0 few kept.1 is in
+          subst (λ (t : PlainTree). t.next_id < 2 ^ 32) (sym (same_after (content_after start past.run) now run at) ∙ line_tree (content_after start past.run) (machine_at now handles) line run its.turn its.is) (run_few law_few capacity shrunk now run are stays.few) in
+          let whole = spoke_line start past handles [] spoke line run its.turn changes refl its.keeps.0 few its.keeps.1 is in
           subst (λ (r : SessionReply). SpokeSessions start (spoken_on past (record { lines = line ∷ []; run = run; answers = record { text = session_text r; upto = length run } ∷ []; changes = changes })) behind []) its.says
           (subst (λ (h : List OpenFile). SpokeSessions start (spoken_on past (record { lines = line ∷ []; run = run; answers = record { text = session_text its.turn.says; upto = length run } ∷ []; changes = changes })) h []) its.handles_are whole)
 
       -- It was served.
-      pub serves_turned : (knows : Knowing) (last next : Content) (space : Space) (new : Outside) (before after : ToTell) → Goes capacity shrunk None committed now old run last next space new → KeepsHeading space → knows last next (shrunk_in shrunk run)
+      pub serves_line : (knows : Knowing) (last next : Content) (space : Space) (new : Outside) (before after : ToTell) → Goes capacity shrunk None committed now old run last next space new → KeepsHeading space → knows last next (shrunk_in shrunk run)
           → after ≡ joined before (record { replies = session_text said; changes = changes }) → SpeaksLine true capacity knows committed now shrunk old number (spoke_at handles) (spoke_at behind) line before after space new
-      serves_turned knows last next space new before after goes heads known tells = record {
+      serves_line knows last next space new before after goes heads known tells = record {
         said = record { replies = session_text said; changes = changes };
         told = tells;
         goes = record {
@@ -97,9 +110,25 @@ module _ (capacity : ℕ) (shrunk : Option ℕ) (committed now : Content) (old :
         };
       }
 
+    -- It is one of sessions.
+    module _ (session_line : is_kind_line line ≡ false) (law : StepKeepsTrees) (law_few : StayFew) (said : SessionReply) (behind : List OpenFile) (turned : AreTurned now handles line run said behind) (changes : List Change) where
+      are_turned : AreLineTurned now handles line run said behind
+      are_turned start stays =
+          let its = turned start stays in record {
+            turn = its.turn;
+            is = inl (session_line, its.is);
+            says = its.says;
+            handles_are = its.handles_are;
+            keeps = turn_keeps law start (machine_at now handles) line run its.turn its.is (stays.own, stays.have) (real_made law_few capacity shrunk now run its.turn.did its.is.replies its.is.made are stays.few);
+          }
+
+      pub serves_turned : (knows : Knowing) (last next : Content) (space : Space) (new : Outside) (before after : ToTell) → Goes capacity shrunk None committed now old run last next space new → KeepsHeading space → knows last next (shrunk_in shrunk run)
+          → after ≡ joined before (record { replies = session_text said; changes = changes }) → SpeaksLine true capacity knows committed now shrunk old number (spoke_at handles) (spoke_at behind) line before after space new
+      serves_turned knows last next space new before after goes heads known tells = serves_line law_few said behind are_turned changes knows last next space new before after goes heads known tells
+
   -- A fault ended it in the line: nothing of it is told.
-  pub stops_turned : (run : List Entry) → AreSome now handles line run → (new : Outside) → Stops capacity shrunk committed now old run new → StopsSpeaking capacity committed now shrunk old number (spoke_at handles) BrokenSessions (line ∷ []) new
-  stops_turned run turned new stops = record {
+  pub stops_turned : is_kind_line line ≡ false → (run : List Entry) → AreSome now handles line run → (new : Outside) → Stops capacity shrunk committed now old run new → StopsSpeaking capacity committed now shrunk old number (spoke_at handles) BrokenSessions (line ∷ []) new
+  stops_turned session_line run turned new stops = record {
     speech = record { lines = line ∷ []; run = run; answers = []; changes = [] };
     asked = refl;
     are = tt;
@@ -107,6 +136,6 @@ module _ (capacity : ℕ) (shrunk : Option ℕ) (committed now : Content) (old :
         let its = (turned (content_after start past.run) (stays_here start past at spoke)).2 in
         let is : IsTurn (content_after start past.run) spoke.spoken.last line run its.turn = subst (λ (m : Machine). IsTurn (content_after start past.run) m line run its.turn) (sym (here_is start past at spoke)) its.is in
         subst (λ (l : List Answer). BrokenSessions start (record { lines = past.lines ++ line ∷ []; run = past.run ++ run; answers = l; changes = past.changes ++ [] })) (sym (append-nil past.answers))
-        (broke_line start past handles [] spoke line run its.turn [] refl (part_of (content_after start past.run) spoke.spoken.last line run its.turn is));
+        (broke_line start past handles [] spoke line run its.turn [] refl (session_line, part_of (content_after start past.run) spoke.spoken.last line run its.turn is));
     stops = stops;
   }

@@ -3,16 +3,17 @@ use Rattle.std.proofs.Common.{◌≡◌, ◌⊎◌, inl, inr, ◌++◌, ◌∷�
 use Rattle.std.specs.Prelude.{Bool, true, false, Option, Some, None, Result}
 use Rattle.sector_disk.specs.Space.{Space}
 use Rattle.jnl_format.specs.Recovery.{Content}
-use Rattle.hfs_language.specs.Language.{command_of}
 use Rattle.hfs_language.specs.declared.command.Command.{Command}
 use Rattle.hfs_language.specs.declared.refusal.Refusal.{Refusal}
 use Rattle.hfs_language.specs.declared.reply.Change.{Change}
 use Rattle.hfs_language.specs.declared.reply.Reply.{Reply}
 use Rattle.hfs_language.specs.declared.reply.Reply.TheVariants as reply
 use Rattle.hfs_model.specs.declared.plain.PlainTree.{PlainTree}
+use Rattle.hfs_volume.specs.declared.asked.Asked.{Asked}
+use Rattle.hfs_volume.specs.declared.asked.Asked.TheVariants.{Plain}
 use Rattle.hfs_volume.specs.TreeOf.{tree_of}
 use Rattle.std.proofs.lemmas.List.{append-nil}
-use Rattle.volume_runs.specs.Run.{Entry, IsServed, asked_by, content_after, lines_of, shrunk_in, spelled, tree_after}
+use Rattle.volume_runs.specs.Run.{Entry, IsServed, asked_by, content_after, lines_of, shrunk_in, tree_after, wanted_by, wanted_in}
 use Rattle.hfs_serving.specs.Going.{DoesOn, GoesTidy, Hearing, Knowing, ServesCommand, Stands, StopsOn}
 use Rattle.hfs_language.specs.Text.{reply_text}
 use Rattle.hfs_serving.specs.Outside.{Outside}
@@ -20,6 +21,7 @@ use Rattle.hfs_serving.specs.Said.{joined}
 use Rattle.hfs_serving.specs.declared.volume.ToTell.{ToTell}
 use Rattle.hfs_serving.specs.Runs.{Leads}
 use Rattle.hfs_serving.specs.Serving.{Goes, Stops}
+use Rattle.hfs_serving.proofs.Asking.{asked_plainly}
 use Rattle.hfs_serving.proofs.Batches.{goes_both, goes_none, goes_stops, stops_there}
 use Rattle.hfs_serving.proofs.Leading.{tidies_of}
 use Rattle.hfs_serving.proofs.Lists.{content_after-none, shrunk_in-append, shrunk_in-none}
@@ -29,7 +31,7 @@ use Rattle.open_files.specs.declared.act.OpenFile.{OpenFile}
 use Rattle.session_lines.specs.declared.stages.Stage.{Stage}
 use Rattle.session_lines.specs.Doing.{DidOn, OwnDone, StopsGoing, WentOn, WentOnce}
 use Rattle.session_lines.specs.Following.{Follows, does, skips, stays}
-use Rattle.session_lines.specs.Spelling.{IsSkipped}
+use Rattle.session_lines.specs.Skipping.{IsSkipped}
 use Rattle.session_lines.specs.Stages.{command_at, heard_at}
 
 -- what is there is one thing
@@ -46,35 +48,35 @@ none_some x same = cc same
 -- ---- one command
 
 module _ (capacity : ℕ) (shrunk : Option ℕ) (committed now : Content) (old : Outside) where
-  pub did_command : (knows : Knowing) (number : ℕ) (line : List ℕ) (asked : Command) (said : Reply) (changes : List Change) (space : Space) (mid : Outside) → command_of line ≡ Ok asked → DoesOn capacity knows committed now shrunk old number line said changes space mid
+  pub did_command : (knows : Knowing) (number : ℕ) (own : Option Asked) (line : List ℕ) (asked : Asked) (said : Reply) (changes : List Change) (space : Space) (mid : Outside) → wanted_in own line ≡ Some asked → DoesOn capacity knows committed now shrunk old number own line said changes space mid
       → DidOn capacity knows committed now shrunk old asked said space mid
-  did_command knows number line asked said changes space mid spells made = record {
+  did_command knows number own line asked said changes space mid spells made = record {
     entry = made.entry;
     last = made.last;
     goes = made.goes;
     heads = made.heads;
     known = made.known;
-    asked_is = ap command_of made.line_is ∙ spells;
+    wanted_is = (λ i. wanted_in (made.own_is i) (made.line_is i)) ∙ spells;
     reply_is = made.reply;
   }
 
   -- it was left, or it was answered
-  module _ (knows : Knowing) (number : ℕ) (line : List ℕ) (hears : Hearing) (same : Type 0) (space : Space) (new : Outside) where
-    pub left_command : (answered : Bool) → answered ≡ false → ServesCommand answered capacity knows committed now shrunk old number line hears same space new → GoesTidy capacity None knows committed now shrunk old space new
+  module _ (knows : Knowing) (number : ℕ) (own : Option Asked) (line : List ℕ) (hears : Hearing) (same : Type 0) (space : Space) (new : Outside) where
+    pub left_command : (answered : Bool) → answered ≡ false → ServesCommand answered capacity knows committed now shrunk old number own line hears same space new → GoesTidy capacity None knows committed now shrunk old space new
     left_command true is serves = absurd (cc is)
     left_command false is serves = serves.1
 
-    pub answered_command : (answered : Bool) → answered ≡ true → ServesCommand answered capacity knows committed now shrunk old number line hears same space new
-        → (said : Reply) × (changes : List Change) × hears said changes × DoesOn capacity knows committed now shrunk old number line said changes space new
+    pub answered_command : (answered : Bool) → answered ≡ true → ServesCommand answered capacity knows committed now shrunk old number own line hears same space new
+        → (said : Reply) × (changes : List Change) × hears said changes × DoesOn capacity knows committed now shrunk old number own line said changes space new
     answered_command true is serves = serves
     answered_command false is serves = absurd (cc is)
 
 module _ (capacity : ℕ) (shrunk : Option ℕ) (committed now : Content) (old : Outside) where
   -- a line's own command, whose reply is to be told
-  pub own_command : (knows : Knowing) (number : ℕ) (line : List ℕ) (asked : Command) (before after : ToTell) (space : Space) (mid : Outside) → command_of line ≡ Ok asked → (answered : Bool)
-      → ServesCommand answered capacity knows committed now shrunk old number line (λ said changes. after ≡ joined before (record { replies = reply_text said; changes = changes })) (after ≡ before) space mid → OwnDone answered capacity knows committed now shrunk old asked before after space mid
-  own_command knows number line asked before after space mid spells true serves = (serves.0, serves.1, serves.2, did_command capacity shrunk committed now old knows number line asked serves.0 serves.1 space mid spells serves.3)
-  own_command knows number line asked before after space mid spells false serves = serves
+  pub own_command : (knows : Knowing) (number : ℕ) (own : Option Asked) (line : List ℕ) (asked : Asked) (before after : ToTell) (space : Space) (mid : Outside) → wanted_in own line ≡ Some asked → (answered : Bool)
+      → ServesCommand answered capacity knows committed now shrunk old number own line (λ said changes. after ≡ joined before (record { replies = reply_text said; changes = changes })) (after ≡ before) space mid → OwnDone answered capacity knows committed now shrunk old asked before after space mid
+  own_command knows number own line asked before after space mid spells true serves = (serves.0, serves.1, serves.2, did_command capacity shrunk committed now old knows number own line asked serves.0 serves.1 space mid spells serves.3)
+  own_command knows number own line asked before after space mid spells false serves = serves
 
 -- ---- stages
 
@@ -92,7 +94,7 @@ follows_entry handles tree from run to (skips _ _ _ _ one_asked why one_at skipp
     skips tree from (run ++ entry ∷ []) (heard_at handles to entry.reply) one_asked why one_at skipped (follows_entry handles tree (heard_at handles from (reply.No why)) run to rest start same capacity entry asked at asks before served)
 
 -- or one isn't done at all
-pub follows_skip : (handles : List OpenFile) (tree : PlainTree) (from : Stage) (run : List Entry) (to : Stage) → Follows handles tree from run to → (asked : Command) (why : Refusal) → command_at to ≡ Some asked → IsSkipped asked why
+pub follows_skip : (handles : List OpenFile) (tree : PlainTree) (from : Stage) (run : List Entry) (to : Stage) → Follows handles tree from run to → (asked : Command) (why : Refusal) → command_at to ≡ Some asked → IsSkipped why
     → Follows handles tree from run (heard_at handles to (reply.No why))
 follows_skip handles tree from [] to (stays _ _) asked why at skipped = skips tree from [] (heard_at handles to (reply.No why)) asked why at skipped (stays tree (heard_at handles to (reply.No why)))
 follows_skip handles tree from (one ∷ run) to (does _ _ _ _ _ one_capacity one_asked one_at one_asks one_before one_served rest) asked why at skipped =
@@ -123,13 +125,13 @@ module _ (capacity : ℕ) (shrunk : Option ℕ) (committed now : Content) (old :
 
     module _ (asked : Command) (at : command_at to ≡ Some asked) where
       -- one command more
-      pub went_command : (knows_new : Knowing) (said : Reply) (new : Space) (after : Outside) → DidOn capacity knows_new went.last went.next (shrunk_in shrunk went.run) mid asked said new after
+      pub went_command : (knows_new : Knowing) (said : Reply) (new : Space) (after : Outside) → DidOn capacity knows_new went.last went.next (shrunk_in shrunk went.run) mid (Plain asked) said new after
           → WentOn capacity knows_new committed now shrunk old handles from (heard_at handles to said) new after
       went_command knows_new said new after did =
           let served = did.goes.leads.run_is.1 in
           let rests = did.goes.leads.run_is.0 in
           let before : tree_of did.entry.before ≡ tree_after now went.run =
-          tidied_tree capacity (shrunk_in shrunk went.run) went.next did.entry.before (tidies_of capacity (shrunk_in shrunk went.run) (spelled (asked_by did.entry)) went.next did.entry.before rests) ∙ tree_went in
+          tidied_tree capacity (shrunk_in shrunk went.run) went.next did.entry.before (tidies_of capacity (shrunk_in shrunk went.run) (wanted_by did.entry) went.next did.entry.before rests) ∙ tree_went in
           record {
             run = went.run ++ did.entry ∷ [];
             last = did.last;
@@ -139,11 +141,11 @@ module _ (capacity : ℕ) (shrunk : Option ℕ) (committed now : Content) (old :
             known = subst (λ (s : Option ℕ). knows_new did.last did.entry.after s) (sym (shrunk_in-append shrunk went.run (did.entry ∷ []))) did.known;
             follows =
                 subst (λ (r : Reply). Follows handles (tree_of now) from (went.run ++ did.entry ∷ []) (heard_at handles to r)) did.reply_is
-                (follows_entry handles (tree_of now) from went.run to went.follows now refl capacity did.entry asked at did.asked_is before served);
+                (follows_entry handles (tree_of now) from went.run to went.follows now refl capacity did.entry asked at (asked_plainly did.entry.own did.entry.line asked did.wanted_is) before served);
           }
 
       -- or one that isn't done at all
-      pub went_skip : (why : Refusal) → IsSkipped asked why → WentOn capacity knows committed now shrunk old handles from (heard_at handles to (reply.No why)) space mid
+      pub went_skip : (why : Refusal) → IsSkipped why → WentOn capacity knows committed now shrunk old handles from (heard_at handles to (reply.No why)) space mid
       went_skip why skipped = record {
         run = went.run;
         last = went.last;

@@ -37,12 +37,12 @@ use Rattle.session_lines.specs.Ahead.{IsQuiet, NotLooked}
 use Rattle.session_lines.specs.Following.{Follows, does, skips, stays}
 use Rattle.session_lines.specs.Made.{AreMade, one_made}
 use Rattle.session_lines.specs.Owning.{IsOwnTree}
-use Rattle.session_lines.specs.Spelling.{IsLookOf, IsSkipped, lists_at, looks_at, looks_at_folder, looks_at_kept}
+use Rattle.session_lines.specs.Skipping.{IsSkipped}
 use Rattle.session_lines.specs.Stages.{command_at, found_to_tell, heard_at, is_root, listed, one_less, told_without, without_keeping}
 use Rattle.session_lines.proofs.Keeping.{filtered}
 use Rattle.session_lines.proofs.Opening.{LooksLast, looks_last}
 use Rattle.session_lines.proofs.Looks.{absent_told, kept_found, kept_told, look, look_is, names_seen, none_there, not_kept_told, there_told}
-use Rattle.session_lines.proofs.Saves.{ended, look_skips, skip_is}
+use Rattle.session_lines.proofs.Saves.{ended, skip_is}
 use Rattle.session_lines.proofs.Shown.{both, none_filtered, root_outside, stands_inside, digits_tell, inside_of, kept_both, kept_parts, kept_length, one_at_place, one_there, reached_outside, root_count, root_nameless, shown_entries, shown_node}
 use Rattle.session_lines.proofs.Trees.{looked_same, served_tree}
 use Rattle.session_lines.proofs.Unseen.{Looked, list_told, look_told, looked_at, quiet_look, quiet_none}
@@ -68,7 +68,7 @@ pub record DidFirst (handles : List OpenFile) (tree : PlainTree) (here : Stage) 
 -- It isn't done at all.
 pub record SkippedFirst (handles : List OpenFile) (tree : PlainTree) (here : Stage) (asked : Command) (run : List Entry) (to : Stage) : Type 0 where
   pub why : Refusal
-  pub skipped : IsSkipped asked why
+  pub skipped : IsSkipped why
   pub follows : Follows handles tree (heard_at handles here (reply.No why)) run to
 
 pub did_first_of : (handles : List OpenFile) (tree : PlainTree) (here : Stage) (asked : Command) → IsTrue (only_reads asked) → (run : List Entry) (to : Stage) → command_at here ≡ Some asked → command_at to ≡ None → Follows handles tree here run to
@@ -88,7 +88,7 @@ did_first_of handles tree here asked reads (entry ∷ run) to at ends (does _ _ 
       after = after;
       follows = subst (λ (t : PlainTree). Follows handles t (heard_at handles here entry.reply) run to) after rest;
     })
-did_first_of handles tree here asked reads run to at ends (skips _ _ _ _ one why is skipped rest) = inr (record { why = why; skipped = subst (λ (a : Command). IsSkipped a why) (ap (asked_or one) (sym is ∙ at)) skipped; follows = rest })
+did_first_of handles tree here asked reads run to at ends (skips _ _ _ _ one why is skipped rest) = inr (record { why = why; skipped = skipped; follows = rest })
 
 -- What a line that only reads comes to: its own command was done, and it is told what the machine shows.
 pub record Told (tree : PlainTree) (asked : Command) (run : List Entry) (to : Stage) : Type 0 where
@@ -100,10 +100,10 @@ pub record Told (tree : PlainTree) (asked : Command) (run : List Entry) (to : St
 
 module _ (handles : List OpenFile) (tree : PlainTree) (here : Stage) (asked : Command) (reads : IsTrue (only_reads asked)) (run : List Entry) (to : Stage) where
   -- it isn't done at all
-  pub skipped_own : (paths : List (List (List ℕ))) → IsLookOf paths asked → (skip : SkippedFirst handles tree here asked run to) → heard_at handles here (reply.No skip.why) ≡ stage.Says (reply.No skip.why) → NotLooked paths tree run to
-  skipped_own paths look skip hears =
+  pub skipped_own : (skip : SkippedFirst handles tree here asked run to) → heard_at handles here (reply.No skip.why) ≡ stage.Says (reply.No skip.why) → NotLooked tree run to
+  skipped_own skip hears =
       let last = ended handles tree (stage.Says (reply.No skip.why)) run to refl (subst (λ (s : Stage). Follows handles tree s run to) hears skip.follows) in
-      record { why = skip.why; skipped = look_skips paths asked skip.why look skip.skipped; says = last.1; quiet = subst (λ (r : List Entry). IsQuiet tree r [] [] tree) (sym last.0) (quiet_none tree) }
+      record { why = skip.why; skipped = skip.skipped; says = last.1; quiet = subst (λ (r : List Entry). IsQuiet tree r [] [] tree) (sym last.0) (quiet_none tree) }
 
   module _ (did : DidFirst handles tree here asked run to) where
     -- behind it are looks
@@ -434,14 +434,14 @@ module _ (tree : PlainTree) (is : IsOwnTree tree) (path : List (List ℕ)) (own 
 
   module _ (handles : List OpenFile) (run : List Entry) (to : Stage) (ends : command_at to ≡ None) where
     abbrev Comes : Command → Type 0
-    Comes asked = Told tree asked run to ⊎ NotLooked (path ∷ []) tree run to
+    Comes asked = Told tree asked run to ⊎ NotLooked tree run to
 
     -- A line that lists a folder.
     pub listing_line : Follows handles tree (stage.Listing path) run to → Comes (command.Ls path)
     listing_line follows = by (did_first_of handles tree (stage.Listing path) (command.Ls path) refl run to refl ends follows)
       where
         by : DidFirst handles tree (stage.Listing path) (command.Ls path) run to ⊎ SkippedFirst handles tree (stage.Listing path) (command.Ls path) run to → Comes (command.Ls path)
-        by (inr skip) = inr (skipped_own handles tree (stage.Listing path) (command.Ls path) refl run to (path ∷ []) (lists_at path (at_front path [])) skip refl)
+        by (inr skip) = inr (skipped_own handles tree (stage.Listing path) (command.Ls path) refl run to skip refl)
         by (inl did) = inl (told_behind handles tree (stage.Listing path) (command.Ls path) refl run to did
             (subst (λ (r : List Entry). IsQuiet tree r [] [] tree) (sym last.0) (quiet_none tree)) (last.1 ∙ ap stage.Says (same (list_told did.capacity did.entry path did.asks did.served))))
           where
@@ -480,20 +480,20 @@ module _ (tree : PlainTree) (is : IsOwnTree tree) (path : List (List ℕ)) (own 
         next s is_it = subst (λ (s : Stage). Follows handles tree s did.rest to) (ap (found_to_tell path) said ∙ is_it) did.follows
 
         -- a look behind it says what is shown
-        second : (here : Stage) (goal : List (List ℕ)) → IsLookOf (path ∷ []) (command.Stat goal) → ((got : Reply) → heard_at handles here got ≡ stage.Says (told_without (facts_of tree node) got)) → command_at here ≡ Some (command.Stat goal) → Follows handles tree here did.rest to
+        second : (here : Stage) (goal : List (List ℕ)) → ((got : Reply) → heard_at handles here got ≡ stage.Says (told_without (facts_of tree node) got)) → command_at here ≡ Some (command.Stat goal) → Follows handles tree here did.rest to
             → told_without (facts_of tree node) (look tree goal) ≡ reply.Facts (facts_of (shown_tree tree) node) → Comes looks
-        second here goal look_is_its hears asks follows shows_it = by last.says
+        second here goal hears asks follows shows_it = by last.says
           where
             last : LooksLast tree goal (λ got. stage.Says (told_without (facts_of tree node) got)) did.rest to
             last = looks_last handles tree here goal (λ got. stage.Says (told_without (facts_of tree node) got)) hears (λ got. refl) did.rest to asks ends follows
 
-            by : (last.said ≡ look tree goal) ⊎ ((why : Refusal) × IsSkipped (command.Stat goal) why × (last.said ≡ reply.No why)) → Comes looks
+            by : (last.said ≡ look tree goal) ⊎ ((why : Refusal) × IsSkipped why × (last.said ≡ reply.No why)) → Comes looks
             by (inl same) =
                 inl (told_behind handles tree (stage.Stating path) looks refl run to did last.quiet (last.last ∙ ap (λ (r : Reply). stage.Says (told_without (facts_of tree node) r)) same ∙ ap stage.Says (shows_it ∙ sym wanted)))
             by (inr skip) = inr (record {
               why = skip.0;
-              skipped = look_skips (path ∷ []) (command.Stat goal) skip.0 look_is_its skip.1;
-              says = last.last ∙ ap (λ (r : Reply). stage.Says (told_without (facts_of tree node) r)) skip.2 ∙ ap (λ b. stage.Says (if b then reply.No skip.0 else reply.Facts (facts_of tree node))) (skip_is (command.Stat goal) skip.0 skip.1);
+              skipped = skip.1;
+              says = last.last ∙ ap (λ (r : Reply). stage.Says (told_without (facts_of tree node) r)) skip.2 ∙ ap (λ b. stage.Says (if b then reply.No skip.0 else reply.Facts (facts_of tree node))) (skip_is skip.0 skip.1);
               quiet = quiet_behind handles tree (stage.Stating path) looks refl run to did last.quiet;
             })
 
@@ -502,7 +502,7 @@ module _ (tree : PlainTree) (is : IsOwnTree tree) (path : List (List ℕ)) (own 
 
         by_kind : (b : Bool) → node.folder ≡ b → Comes looks
         by_kind false file =
-            second (stage.StatingFile (facts_of tree node)) (kept_path node.id) (looks_at_kept node.id) (λ got. refl) refl (next (stage.StatingFile (facts_of tree node)) (ap (λ b. step_to b (is_root path)) file)) (by_kept (is_kept tree node.id) refl)
+            second (stage.StatingFile (facts_of tree node)) (kept_path node.id) (λ got. refl) refl (next (stage.StatingFile (facts_of tree node)) (ap (λ b. step_to b (is_root path)) file)) (by_kept (is_kept tree node.id) refl)
           where
             here : node_at tree node.id ≡ Some node
             here = ap (node_at tree) there.number ∙ there.here
@@ -517,7 +517,7 @@ module _ (tree : PlainTree) (is : IsOwnTree tree) (path : List (List ℕ)) (own 
           where
             by_root : (b : Bool) → is_root path ≡ b → Comes looks
             by_root true root =
-                second (stage.StatingRoot (facts_of tree node)) keeping_path looks_at_folder (λ got. refl) refl (next (stage.StatingRoot (facts_of tree node)) (λ i. step_to (folder i) (root i))) (by_there (keeping_entry tree) refl)
+                second (stage.StatingRoot (facts_of tree node)) keeping_path (λ got. refl) refl (next (stage.StatingRoot (facts_of tree node)) (λ i. step_to (folder i) (root i))) (by_there (keeping_entry tree) refl)
               where
                 number : node.id ≡ 2
                 number = node_root tree is path own node there root
@@ -536,7 +536,7 @@ module _ (tree : PlainTree) (is : IsOwnTree tree) (path : List (List ℕ)) (own 
     stating_line follows = by (did_first_of handles tree (stage.Stating path) looks refl run to refl ends follows)
       where
         by : DidFirst handles tree (stage.Stating path) looks run to ⊎ SkippedFirst handles tree (stage.Stating path) looks run to → Comes looks
-        by (inr skip) = inr (skipped_own handles tree (stage.Stating path) looks refl run to (path ∷ []) (looks_at path (at_front path [])) skip refl)
+        by (inr skip) = inr (skipped_own handles tree (stage.Stating path) looks refl run to skip refl)
         by (inl did) = by_told (look_told did.capacity did.entry path did.asks did.served)
           where
             by_node : is_private_path path ≡ false → did.entry.reply ≡ (on tree (to_node tree path) (λ node. (reply.Facts (facts_of tree node), tree))).0 → (r : Result PlainNode Refusal) → to_node tree path ≡ r → Comes looks

@@ -4,6 +4,7 @@ use Rattle.std.specs.Prelude.{codes}
 use Rattle.std.proofs.lemmas.List.{append-nil}
 use Rattle.hfs_serving.specs.Runs.{texts_of}
 use Rattle.hfs_language.specs.Text.{body_text, field, reply_text}
+use Rattle.hfs_language.specs.Written.{path_text}
 use Rattle.open_files.specs.Lines.{session_text}
 use Rattle.open_files.specs.declared.act.SessionReply.{SessionReply}
 use Rattle.open_files.specs.declared.act.SessionReply.TheVariants as told
@@ -20,3 +21,7 @@ some_text (told.Plain said) = omega (arith, length-append (body_text said) (10 �
 some_text (told.Opened handle) = omega (arith, length-append (codes "ok") (field handle ++ 10 ∷ []), length-append (field handle) (10 ∷ []))
 some_text told.TooManyOpen = omega (arith, length-append (codes "no TooManyOpen 256") (10 ∷ []))
 some_text (told.NoHandle handle) = omega (arith, length-append (codes "no NoHandle") (field handle ++ 10 ∷ []), length-append (field handle) (10 ∷ []))
+some_text (told.Followed path) = omega (arith, length-append (codes "ok ") (path_text path ++ 10 ∷ []), length-append (path_text path) (10 ∷ []))
+some_text (told.TooManySteps most) = omega (arith, length-append (codes "no TooManySteps") (field most ++ 10 ∷ []), length-append (field most) (10 ∷ []))
+some_text told.NotLink = omega (arith, length-append (codes "no NotLink") (10 ∷ []))
+some_text told.Compressed = omega (arith, length-append (codes "no Compressed") (10 ∷ []))

@@ -14,6 +14,7 @@ use Rattle.hfs_volume.specs.TreeOf.{tree_of}
 use Rattle.hfs_volume.specs.Weight.{changes_nothing}
 use Rattle.open_files.specs.Machine.{tree_by}
 use Rattle.volume_runs.specs.Run.{DoesLine, Entry, IsAnswered, IsServed, LacksMemory, LacksResource, asked_by, reply_to}
+use Rattle.session_lines.proofs.Plains.{served_plainly}
 
 -- a reply that refuses is the step's
 step_refuses : (capacity : ℕ) (content : Content) (asked : Command) → is_refusal (reply_to capacity content (Ok asked)) ≡ true → refuses (tree_of content) (Ok asked) ≡ true
@@ -57,7 +58,7 @@ module _ (capacity : ℕ) (entry : Entry) (asked : Command) (spells : asked_by e
 
   -- what is missing for a command leaves the tree as it was, and so does what refuses it
   pub served_tree : IsServed capacity entry → tree_of entry.after ≡ tree_by (tree_of entry.before) asked entry.reply
-  served_tree served = go served.is
+  served_tree served = go (served_plainly capacity entry asked spells served)
     where
       go : IsAnswered capacity entry ⊎ (LacksResource capacity entry ⊎ LacksMemory capacity entry) → tree_of entry.after ≡ tree_by (tree_of entry.before) asked entry.reply
       go (inl answered) = answered_tree answered
@@ -81,7 +82,7 @@ module _ (capacity : ℕ) (entry : Entry) (asked : Command) (spells : asked_by e
 
   -- a command that only reads leaves the content as it was
   pub looked_same : IsTrue (only_reads asked) → IsServed capacity entry → entry.after ≡ entry.before
-  looked_same reads served = go served.is
+  looked_same reads served = go (served_plainly capacity entry asked spells served)
     where
       go : IsAnswered capacity entry ⊎ (LacksResource capacity entry ⊎ LacksMemory capacity entry) → entry.after ≡ entry.before
       go (inl answered) = looked reads answered

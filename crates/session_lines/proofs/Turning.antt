@@ -24,7 +24,7 @@ use Rattle.open_files.specs.declared.act.SessionLine.{SessionLine}
 use Rattle.open_files.specs.Machine.{Machine, Plan, Turn, did_first, do_ahead, do_own, plan_of, plan_plain, refused, saves_for, shows, tree_by, turn_of}
 use Rattle.session_lines.specs.Ahead.{AreDone, IsQuiet, trees_by}
 use Rattle.session_lines.specs.Made.{AreMade, SeesAs, look_made, none_made, none_skipped, one_made}
-use Rattle.session_lines.specs.Spelling.{IsSkipped, LineSkips}
+use Rattle.session_lines.specs.Skipping.{IsSkipped}
 use Rattle.session_lines.specs.Turns.{IsTurn, IsTurnOf, skipped_turn}
 use Rattle.session_lines.proofs.Trees.{served_tree}
 
@@ -77,7 +77,7 @@ module _ (handles : List OpenFile) (plan : Plan) where
 
 module _ (start : Content) (machine : Machine) (line : List ℕ) (fits : tree_of start ≡ machine.tree) where
   -- a look isn't done
-  pub skips_line : (run : List Entry) (why : Refusal) → LineSkips (asks_of line) why → IsQuiet machine.tree run [] [] machine.tree → IsTurn start machine line run (skipped_turn machine why)
+  pub skips_line : (run : List Entry) (why : Refusal) → IsSkipped why → IsQuiet machine.tree run [] [] machine.tree → IsTurn start machine line run (skipped_turn machine why)
   skips_line run why skipped quiet = record {
     replies = [];
     is = inr (inl (why, skipped, refl));
@@ -140,7 +140,7 @@ module _ (start : Content) (machine : Machine) (line : List ℕ) (fits : tree_of
         }
 
     -- the commands ahead are done, and its own isn't done at all
-    pub drops_line : (run : List Entry) (replies : List Reply) → AreDone replies → IsQuiet machine.tree run (saves_for machine asked) replies (trees_by machine.tree (saves_for machine asked) replies) → (why : Refusal) → IsSkipped asked why
+    pub drops_line : (run : List Entry) (replies : List Reply) → AreDone replies → IsQuiet machine.tree run (saves_for machine asked) replies (trees_by machine.tree (saves_for machine asked) replies) → (why : Refusal) → IsSkipped why
         → IsTurn start machine line run (own_turn replies (reply.No why))
     drops_line run replies are quiet why skipped =
         let ahead = saves_for machine asked in

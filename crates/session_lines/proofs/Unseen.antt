@@ -23,11 +23,12 @@ use Rattle.open_files.specs.declared.act.OpenFile.{OpenFile}
 use Rattle.session_lines.specs.declared.stages.Stage.{Stage}
 use Rattle.session_lines.specs.Ahead.{IsQuiet}
 use Rattle.session_lines.specs.Following.{Follows, does, skips, stays}
-use Rattle.session_lines.specs.Spelling.{IsSkipped}
+use Rattle.session_lines.specs.Skipping.{IsSkipped}
 use Rattle.session_lines.specs.Stages.{command_at, heard_at}
 use Rattle.session_lines.specs.Made.{AreMade, SeesAs, look_made, none_made, none_skipped, one_made}
 use Rattle.session_lines.proofs.Looks.{look}
 use Rattle.session_lines.proofs.Trees.{looked_same, served_tree}
+use Rattle.session_lines.proofs.Plains.{served_plainly}
 
 -- ---- one behind the other
 
@@ -68,7 +69,7 @@ module _ (tree : PlainTree) (entry : Entry) (asked : Command) (run : List Entry)
   }
 
 -- or one that isn't done at all
-pub quiet_skip : (tree : PlainTree) (why : Refusal) (asked : Command) (run : List Entry) (did : List Command) (replies : List Reply) (to : PlainTree) → IsSkipped asked why → IsQuiet tree run did replies to → IsQuiet tree run (asked ∷ did) (reply.No why ∷ replies) to
+pub quiet_skip : (tree : PlainTree) (why : Refusal) (asked : Command) (run : List Entry) (did : List Command) (replies : List Reply) (to : PlainTree) → IsSkipped why → IsQuiet tree run did replies to → IsQuiet tree run (asked ∷ did) (reply.No why ∷ replies) to
 quiet_skip tree why asked run did replies to skipped quiet = record { made = none_skipped why asked run did replies skipped quiet.made; leads = quiet.leads; unseen = quiet.unseen }
 
 -- ---- a look
@@ -82,7 +83,7 @@ module _ (capacity : ℕ) (entry : Entry) (own : Command) (asks : asked_by entry
 
     -- a command for which nothing but memory is ever missing is told its step's reply, or that memory is missing
     pub free_told : (entry.reply ≡ reply_to capacity entry.before (Ok own)) ⊎ (entry.reply ≡ reply.No refusal.OutOfMemory)
-    free_told = by served.is
+    free_told = by (served_plainly capacity entry own asks served)
       where
         by : IsAnswered capacity entry ⊎ (LacksResource capacity entry ⊎ LacksMemory capacity entry) → (entry.reply ≡ reply_to capacity entry.before (Ok own)) ⊎ (entry.reply ≡ reply.No refusal.OutOfMemory)
         by (inl answered) = inl (subst (λ (a : Result Command Refusal). entry.reply ≡ reply_to capacity entry.before a) asks answered.reply_is)
@@ -118,7 +119,7 @@ module _ (capacity : ℕ) (entry : Entry) (path : List (List ℕ)) (asks : asked
 pub record Looked (handles : List OpenFile) (tree : PlainTree) (stage : Stage) (path : List (List ℕ)) (run : List Entry) (to : Stage) : Type 0 where
   pub said : Reply
   pub rest : List Entry
-  pub says : (said ≡ look tree path) ⊎ ((why : Refusal) × IsSkipped (command.Stat path) why × (said ≡ reply.No why))
+  pub says : (said ≡ look tree path) ⊎ ((why : Refusal) × IsSkipped why × (said ≡ reply.No why))
   pub follows : Follows handles tree (heard_at handles stage said) rest to
   pub quiet : (did : List Command) (replies : List Reply) (last : PlainTree) → IsQuiet tree rest did replies last → IsQuiet tree run did replies last
 
@@ -140,8 +141,8 @@ looked_at handles tree stage path (entry ∷ run) to at ends (does _ _ _ _ _ cap
       quiet = λ did replies last quiet. quiet_look tree entry (command.Stat path) run did replies last look_asks refl after quiet;
     }
   where
-    told : (entry.reply ≡ look (tree_of entry.before) path) ⊎ (entry.reply ≡ reply.No refusal.OutOfMemory) → (entry.reply ≡ look tree path) ⊎ ((why : Refusal) × IsSkipped (command.Stat path) why × (entry.reply ≡ reply.No why))
+    told : (entry.reply ≡ look (tree_of entry.before) path) ⊎ (entry.reply ≡ reply.No refusal.OutOfMemory) → (entry.reply ≡ look tree path) ⊎ ((why : Refusal) × IsSkipped why × (entry.reply ≡ reply.No why))
     told (inl is) = inl (is ∙ ap (λ (t : PlainTree). look t path) before)
-    told (inr short) = inr (refusal.OutOfMemory, inl refl, short)
+    told (inr short) = inr (refusal.OutOfMemory, refl, short)
 looked_at handles tree stage path run to at ends (skips _ _ _ _ asked why is skipped rest) =
-    record { said = reply.No why; rest = run; says = inr (why, subst (λ (a : Command). IsSkipped a why) (ap (asked_or asked) (sym is ∙ at)) skipped, refl); follows = rest; quiet = λ did replies last quiet. quiet }
+    record { said = reply.No why; rest = run; says = inr (why, skipped, refl); follows = rest; quiet = λ did replies last quiet. quiet }

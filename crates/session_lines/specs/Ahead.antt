@@ -13,7 +13,7 @@ use Rattle.volume_runs.specs.Run.{Entry, tree_after}
 use Rattle.open_files.specs.Machine.{tree_by}
 use Rattle.session_lines.specs.declared.stages.Stage.{Stage}
 use Rattle.session_lines.specs.declared.stages.Stage.TheVariants as stage
-use Rattle.session_lines.specs.Spelling.{LookSkips}
+use Rattle.session_lines.specs.Skipping.{IsSkipped}
 use Rattle.session_lines.specs.Made.{AreMade, SeesAs}
 
 -- the tree after these commands, which got these replies
@@ -40,9 +40,9 @@ pub data Ahead (tree : PlainTree) (run : List Entry) : List Command → Stage �
   one_refused : (asked rest : List Command) (replies : List Reply) (last : Command) (why : Refusal) → AreDone replies → IsQuiet tree run (asked ++ last ∷ []) (replies ++ reply.No why ∷ []) (trees_by tree asked replies)
       → Ahead tree run (asked ++ last ∷ rest) (stage.Says (reply.No why))
 
--- A look at one of these paths, or at what is kept, isn't done: the line is told why, and nothing else is done for it.
-pub record NotLooked (paths : List (List (List ℕ))) (tree : PlainTree) (run : List Entry) (to : Stage) : Type 0 where
+-- A look isn't done: the line is told why, and nothing else is done for it.
+pub record NotLooked (tree : PlainTree) (run : List Entry) (to : Stage) : Type 0 where
   pub why : Refusal
-  pub skipped : LookSkips paths why
+  pub skipped : IsSkipped why
   pub says : to ≡ stage.Says (reply.No why)
   pub quiet : IsQuiet tree run [] [] tree

@@ -1,11 +1,20 @@
 -- What a line of a session comes to, by what it asks for and by the files that are open.
-use Rattle.std.specs.Prelude.{◌≡◌, ◌⊎◌, ℕ, nat_lt, List, Option, Some, None, Result, Ok, Err, if◌then◌else◌}
+use Rattle.std.specs.Prelude.{◌≡◌, ◌⊎◌, ℕ, true, false, nat_lt, List, Option, Some, None, Result, Ok, Err, if◌then◌else◌}
 use Rattle.hfs_language.specs.declared.command.Command.{Command}
 use Rattle.hfs_language.specs.declared.command.Command.TheVariants as command
 use Rattle.hfs_language.specs.declared.refusal.Refusal.{Refusal}
 use Rattle.hfs_language.specs.declared.refusal.Refusal.TheVariants as refusal
 use Rattle.hfs_language.specs.declared.reply.Reply.TheVariants as reply
+use Rattle.hfs_language.specs.Written.{FitsCommand, FitsPath}
+use Rattle.hfs_model.specs.declared.kinds.KindEdit.{KindEdit}
+use Rattle.hfs_model.specs.Kinds.{path_of_edit}
 use Rattle.hfs_model.specs.Step.{most_bytes}
+use Rattle.volume_runs.specs.Fits.{FitsEdit}
+use Rattle.link_kinds.specs.Lines.{is_kind_line, kind_line_of}
+use Rattle.link_kinds.specs.declared.kinds.KindCommand.{KindCommand}
+use Rattle.link_kinds.specs.declared.kinds.KindCommand.TheVariants as kind
+use Rattle.link_kinds.specs.declared.kinds.KindLine.{KindLine}
+use Rattle.hfs_serving.specs.Parts.{HasNames, HasParts}
 use Rattle.open_files.specs.declared.act.Act.{Act}
 use Rattle.open_files.specs.declared.act.Act.TheVariants as act
 use Rattle.open_files.specs.declared.act.OpenFile.{OpenFile}
@@ -16,8 +25,11 @@ use Rattle.open_files.specs.Keeping.{is_keeping_path, names_keeping}
 use Rattle.open_files.specs.Lines.{asks_of}
 use Rattle.session_lines.specs.declared.errands.Errand.{Errand}
 use Rattle.session_lines.specs.declared.errands.Errand.TheVariants as errand
+use Rattle.session_lines.specs.declared.errands.Look.{Look}
+use Rattle.session_lines.specs.declared.errands.Look.TheVariants as look
 use Rattle.session_lines.specs.declared.stages.Stage.{Stage}
 use Rattle.session_lines.specs.declared.stages.Stage.TheVariants as stage
+use Rattle.session_lines.specs.Stages.{FitsStage}
 
 abbrev pub refused : Refusal → Errand
 refused why = errand.Says (told.Plain (reply.No why))
@@ -60,6 +72,59 @@ abbrev pub errand_for : List OpenFile → Result SessionLine Refusal → Errand
 errand_for handles (Ok asks) = act_errand handles asks.session asks.act
 errand_for handles (Err why) = refused why
 
--- this is to be done for a line, where these handles are open: what it asks for, or it is told that memory is missing to read it
+-- a command that makes a link, or writes or reads a resource fork
+abbrev pub edit_errand : KindEdit → Errand
+edit_errand asked = if is_keeping_path (path_of_edit asked) then refused refusal.Private else errand.Edits asked
+
+abbrev pub readlink_errand : List (List ℕ) → Errand
+readlink_errand path = if is_keeping_path path then refused refusal.NotFound else errand.Looks (look.Target path)
+
+abbrev pub kind_errand : KindCommand → Errand
+kind_errand (kind.Edit asked) = edit_errand asked
+kind_errand (kind.Readlink path) = readlink_errand path
+kind_errand (kind.Follow path) = errand.Looks (look.Follow path)
+
+-- what is to be done for a line on a link or a resource fork
+abbrev pub kind_errand_for : Result KindLine Refusal → Errand
+kind_errand_for (Ok asks) = kind_errand asks.command
+kind_errand_for (Err why) = refused why
+
+-- this is to be done for a line of sessions, where these handles are open: what it asks for, or it is told that memory is missing to read it
 abbrev pub IsErrandOf : List OpenFile → List ℕ → Errand → Type 0
-IsErrandOf handles line result = (result ≡ errand_for handles (asks_of line)) ⊎ (result ≡ refused refusal.OutOfMemory)
+IsErrandOf handles line result = (is_kind_line line ≡ false) × ((result ≡ errand_for handles (asks_of line)) ⊎ (result ≡ refused refusal.OutOfMemory))
+
+-- the same of a line on a link or a resource fork
+abbrev pub IsKindErrandOf : List ℕ → Errand → Type 0
+IsKindErrandOf line result = (is_kind_line line ≡ true) × ((result ≡ kind_errand_for (kind_line_of line)) ⊎ (result ≡ refused refusal.OutOfMemory))
+
+-- ---- its parts
+
+-- names and numbers of what a line asks for are within their limits
+abbrev pub HasActParts : Act → Type 0
+HasActParts (act.Plain asked) = HasParts asked
+HasActParts (act.Open path) = HasNames path
+HasActParts (act.HandleRead handle from long) = Unit {0}
+HasActParts (act.Close handle) = Unit {0}
+HasActParts act.End = Unit {0}
+
+-- the same of a line on a link or a resource fork
+abbrev pub HasKindParts : KindCommand → Type 0
+HasKindParts (kind.Edit asked) = HasNames (path_of_edit asked)
+HasKindParts (kind.Readlink path) = HasNames path
+HasKindParts (kind.Follow path) = HasNames path
+
+-- its path is such as lines have
+abbrev pub FitsLook : Look → Type 0
+FitsLook (look.Target path) = FitsPath path
+FitsLook (look.Follow path) = FitsPath path
+
+-- what is to be done has parts such as lines have
+abbrev pub FitsErrand : Errand → Type 0
+FitsErrand (errand.Says said) = Unit {0}
+FitsErrand (errand.Asks session stage) = FitsStage stage
+FitsErrand (errand.Does asked stage) = FitsCommand asked × FitsStage stage
+FitsErrand (errand.Reads id from long) = Unit {0}
+FitsErrand (errand.Closes session handle) = Unit {0}
+FitsErrand (errand.Ends session) = Unit {0}
+FitsErrand (errand.Edits asked) = FitsEdit asked
+FitsErrand (errand.Looks what) = FitsLook what

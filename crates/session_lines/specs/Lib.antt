@@ -5,11 +5,14 @@ pub mod Endings
 pub mod Errands
 pub mod Following
 pub mod Keepers
+pub mod KindTurns
+pub mod Lookings
 pub mod Made
 pub mod Owning
 pub mod Readings
 pub mod Said
 pub mod Sessions
-pub mod Spelling
+pub mod Skipping
 pub mod Stages
 pub mod Turns
+pub mod Writing

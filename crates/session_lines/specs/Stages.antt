@@ -9,6 +9,7 @@ use Rattle.hfs_language.specs.declared.reply.Facts.{Facts}
 use Rattle.hfs_language.specs.declared.reply.ListedName.{ListedName}
 use Rattle.hfs_language.specs.declared.reply.Reply.{Reply}
 use Rattle.hfs_language.specs.declared.reply.Reply.TheVariants as reply
+use Rattle.hfs_language.specs.Written.{FitsPath}
 use Rattle.hfs_model.specs.Sorted.{kept}
 use Rattle.open_files.specs.declared.act.OpenFile.{OpenFile}
 use Rattle.open_files.specs.Handles.{is_held}
@@ -37,6 +38,27 @@ command_at (stage.Says said) = None
 command_at (stage.Opens id) = None
 command_at stage.Rests = None
 
+-- its paths are such as lines have
+abbrev pub FitsStage : Stage → Type 0
+FitsStage (stage.Opening path) = FitsPath path
+FitsStage (stage.Listing path) = FitsPath path
+FitsStage (stage.Stating path) = FitsPath path
+FitsStage (stage.StatingRoot facts) = Unit {0}
+FitsStage (stage.StatingFile facts) = Unit {0}
+FitsStage (stage.Taking path) = FitsPath path
+FitsStage (stage.Moving from to) = FitsPath from × FitsPath to
+FitsStage (stage.Replacing moved to) = FitsPath to
+FitsStage (stage.Losing path facts) = FitsPath path
+FitsStage (stage.Saving path id) = FitsPath path
+FitsStage (stage.Making path id) = FitsPath path
+FitsStage (stage.Linking path id) = FitsPath path
+FitsStage (stage.Closing id) = Unit {0}
+FitsStage (stage.Releasing id) = Unit {0}
+FitsStage stage.Does = Unit {0}
+FitsStage (stage.Says said) = Unit {0}
+FitsStage (stage.Opens id) = Unit {0}
+FitsStage stage.Rests = Unit {0}
+
 -- ---- what a reply says
 
 abbrev pub found_to_open : Reply → Stage
@@ -63,10 +85,9 @@ found_to_tell path said = stage.Says said
 abbrev pub one_less : Facts → Facts
 one_less facts = if facts.folder then record facts { size = facts.size - 1 } else record facts { links = facts.links - 1 }
 
--- whether this says that a command wasn't done at all: memory was missing ahead of it, or no line is long enough to spell it
+-- whether this says that memory was missing, so that a command may not have been done at all
 abbrev pub is_skip : Refusal → Bool
 is_skip refusal.OutOfMemory = true
-is_skip refusal.TooLong = true
 is_skip _ = false
 
 -- a line of which a look wasn't done is told why

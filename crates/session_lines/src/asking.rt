@@ -12,6 +12,7 @@ ghost use Rattle.session_lines.specs.declared.stages.Stage.TheVariants as stage;
 ghost use Rattle.session_lines.specs.Endings.{AnswersEnd};
 ghost use Rattle.session_lines.specs.Errands.{IsErrandOf};
 ghost use Rattle.session_lines.specs.Said.{text_told};
+ghost use Rattle.session_lines.specs.Stages.{FitsStage};
 ghost use Rattle.session_lines.specs.Turns.{BrokenSessions, spoke_at};
 
 use crate::answering::tell;
@@ -39,6 +40,7 @@ pub(crate) fn ask_line<V: Volume, G: Ground>(
 ) -> Result<(), Stop>
     requires serves { (capacity : ℕ) × G.serves base.old capacity × (G.taken base.old ≤ capacity) }
     requires stands { IsTrue (G.space base.old).tells → SomeStands (V.knows volume.old (G.space base.old)) (G.space base.old) (G.outside base.old) }
+    requires fits { FitsStage stage }
     ensures goes { IsTrue (G.space base.old).tells → (capacity : ℕ) (committed now : Content) (shrunk : Option ℕ) → Stands (V.knows volume.old (G.space base.old) capacity) committed now shrunk (G.space base.old) (G.outside base.old)
         → (line : List ℕ) → IsErrandOf table.old line (errand.Asks session stage)
         → OnOk result (SpeaksLine true capacity (V.knows volume.new (G.space base.new) capacity) committed now shrunk (G.outside base.old) number (spoke_at table.old) (spoke_at table.new) line told.old told.new (G.space base.new) (G.outside base.new)) }
@@ -49,7 +51,7 @@ pub(crate) fn ask_line<V: Volume, G: Ground>(
     ensures tells { OnOk result ((G.space base.new).tells ≡ (G.space base.old).tells) }
     ensures anchor { G.anchor base.new ≡ G.anchor base.old }
     // A commit is made where a step of housekeeping or of a command wanted it, or where memory was missing for it.
-    ensures caused { IsTrue (G.space base.old).tells → OnOk result (HaveCauses (SomeWantsAt V.wants G.space) 144 (G.space base.old).barriers (G.space base.new).barriers) }
+    ensures caused { IsTrue (G.space base.old).tells → HaveCauses (SomeWantsAt V.wants G.space) 144 (G.space base.old).barriers (G.space base.new).barriers }
     ensures faults { StopFaults (G.failed base.old) (G.space base.old) (G.failed base.new) (G.space base.new) ⊥ result }
     ensures no_many { IsErrOf result Stop.TooMany → ⊥ }
 {

@@ -22,7 +22,7 @@ ghost use Rattle.session_lines.specs.Following.{Follows};
 ghost use Rattle.session_lines.specs.Owning.{HasEntry, HaveEntries, IsOwnTree};
 ghost use Rattle.session_lines.specs.Stages.{command_at};
 ghost use Rattle.session_lines.specs.Sessions.{AnswersSessions, FinishesSessions, KeepsSessions};
-ghost use Rattle.session_lines.specs.Turns.{BrokenSessions, IsPart, IsTurn, MayBegin, SpokeSessions, skipped_turn};
+ghost use Rattle.session_lines.specs.Turns.{BrokenSessions, IsLinePart, IsLineTurn, IsTurn, MayBegin, SpokeSessions, skipped_turn};
 ghost use Rattle.hfs_language.specs.declared.refusal.Refusal.{Refusal};
 ghost use Rattle.hfs_language.specs.declared.reply.Change.{Change};
 ghost use Rattle.hfs_language.specs.declared.reply.Reply.{Reply};
@@ -32,7 +32,7 @@ ghost use Rattle.hfs_serving.specs.Spoken.{AnswersRigSpoken, KeepsSpoken};
 ghost use Rattle.hfs_language.specs.Lines.{lines};
 ghost use Rattle.open_files.specs.Lines.{asks_of, session_text};
 ghost use Rattle.open_files.specs.declared.act.OpenFile.{OpenFile};
-ghost use Rattle.session_lines.specs.Spelling.{LineSkips};
+ghost use Rattle.session_lines.specs.Skipping.{IsSkipped};
 ghost use Rattle.open_files.specs.declared.act.Act.TheVariants as act;
 
 use hfs_volume::sound_content_has_tree;
@@ -62,18 +62,18 @@ pub fn runs_keep_sessions<D: SectorDisk>()
 /// The stages of a line that takes a name away come to what the machine does ahead of the line's own command.
 pub fn looks_save_what_is_taken()
     ensures rm { (machine : Machine) → IsOwnTree machine.tree → (path : List (List ℕ)) (run : List Entry) (to : Stage) → command_at to ≡ None → Follows machine.handles machine.tree (stage.Taking path) run to
-        → Ahead machine.tree run (saves_for machine (command.Rm path)) to ⊎ NotLooked (path ∷ []) machine.tree run to }
+        → Ahead machine.tree run (saves_for machine (command.Rm path)) to ⊎ NotLooked machine.tree run to }
     ensures mv { (machine : Machine) → IsOwnTree machine.tree → (from goal : List (List ℕ)) (run : List Entry) (to : Stage) → command_at to ≡ None → Follows machine.handles machine.tree (stage.Moving from goal) run to
-        → Ahead machine.tree run (saves_for machine (command.Mv from goal)) to ⊎ NotLooked (from ∷ goal ∷ []) machine.tree run to }
+        → Ahead machine.tree run (saves_for machine (command.Mv from goal)) to ⊎ NotLooked machine.tree run to }
 {}
 
 /// What sessions spoke goes on with a line: one that was served, or one that a fault cut short, whose entries are the first of it.
 pub fn lines_follow_lines()
     ensures served { (start : Content) (past : Speech) (handles : List OpenFile) (files : List ℕ) (spoke : SpokeSessions start past handles files) (line : List ℕ) (own : List Entry) (turn : Turn) (changes : List Change)
-        → files ≡ [] → IsOwnTree turn.next.tree → turn.next.tree.next_id < 2 ^ 32 → HaveEntries turn.next.tree turn.next.handles → IsTurn (content_after start past.run) spoke.spoken.last line own turn
+        → files ≡ [] → IsOwnTree turn.next.tree → turn.next.tree.next_id < 2 ^ 32 → HaveEntries turn.next.tree turn.next.handles → IsLineTurn (content_after start past.run) spoke.spoken.last line own turn
         → SpokeSessions start (spoken_on past (record { lines = line ∷ []; run = own; answers = record { text = session_text turn.says; upto = length own } ∷ []; changes = changes })) turn.next.handles files }
     ensures cut { (start : Content) (past : Speech) (handles : List OpenFile) (files : List ℕ) (spoke : SpokeSessions start past handles files) (line : List ℕ) (own : List Entry) (turn : Turn) (changes : List Change)
-        → files ≡ [] → IsPart (content_after start past.run) spoke.spoken.last line own turn
+        → files ≡ [] → IsLinePart (content_after start past.run) spoke.spoken.last line own turn
         → BrokenSessions start (record { lines = past.lines ++ line ∷ []; run = past.run ++ own; answers = past.answers; changes = past.changes ++ changes }) }
 {}
 
@@ -84,7 +84,7 @@ pub fn entries_are_turns()
         → asks_of line ≡ Ok (record { session = session; act = act.Plain asked }) → names_keeping asked ≡ false → AreDone replies
         → IsQuiet machine.tree run (saves_for machine asked) replies (trees_by machine.tree (saves_for machine asked) replies) → asked_by entry ≡ Ok asked → tree_of entry.before ≡ tree_after start run → IsServed capacity entry
         → (turn : Turn) × IsTurn start machine line (run ++ entry ∷ []) turn }
-    ensures skipped { (start : Content) (machine : Machine) (line : List ℕ) (run : List Entry) (why : Refusal) → tree_of start ≡ machine.tree → LineSkips (asks_of line) why → IsQuiet machine.tree run [] [] machine.tree → IsTurn start machine line run (skipped_turn machine why) }
+    ensures skipped { (start : Content) (machine : Machine) (line : List ℕ) (run : List Entry) (why : Refusal) → tree_of start ≡ machine.tree → IsSkipped why → IsQuiet machine.tree run [] [] machine.tree → IsTurn start machine line run (skipped_turn machine why) }
 {}
 
 /// A command whose paths don't lead to the keeping folder keeps it the sessions' own, and so do Save and Release.

@@ -8,11 +8,14 @@ mod acting;
 mod answering;
 mod asking;
 mod beginning;
+mod editing;
 mod ending;
 mod errands;
+mod following;
 mod going;
 mod handles;
 mod laws;
+mod linking;
 mod own;
 mod quiet;
 mod reading;
@@ -20,12 +23,12 @@ mod releasing;
 mod serving;
 mod sessions;
 mod silent;
-mod spelling;
 mod stages;
 mod taken;
+mod writing;
 
 pub use beginning::sound_trees_may_begin;
-pub use errands::{Errand, errand_of};
+pub use errands::{Errand, Look, errand_of};
 pub use going::go_on;
 pub use laws::{
     commands_keep_what_is_kept, commands_leave_trees, entries_are_turns, files_keep_entries,
@@ -33,6 +36,5 @@ pub use laws::{
 };
 pub use quiet::quietly;
 pub use sessions::Sessions;
-pub use spelling::has_line;
 pub use stages::Stage;
 pub use taken::Keepers;

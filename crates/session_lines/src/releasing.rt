@@ -36,7 +36,7 @@ pub(crate) fn release_all<V: Volume, G: Ground>(
     ensures still { (capacity : ℕ) → G.serves base.old capacity → G.taken base.old ≤ capacity → OnOk result (G.serves base.new capacity × (G.taken base.new ≤ capacity)) }
     ensures tells { OnOk result ((G.space base.new).tells ≡ (G.space base.old).tells) }
     ensures anchor { G.anchor base.new ≡ G.anchor base.old }
-    ensures caused { IsTrue (G.space base.old).tells → OnOk result (HaveCauses (SomeWantsAt V.wants G.space) (144 * 2 ^ 32) (G.space base.old).barriers (G.space base.new).barriers) }
+    ensures caused { IsTrue (G.space base.old).tells → HaveCauses (SomeWantsAt V.wants G.space) (144 * 2 ^ 32) (G.space base.old).barriers (G.space base.new).barriers }
     ensures faults { StopFaults (G.failed base.old) (G.space base.old) (G.failed base.new) (G.space base.new) ⊥ result }
     ensures no_many { IsErrOf result Stop.TooMany → ⊥ }
     ensures none { OnOk result (left.new.items ≡ []) }

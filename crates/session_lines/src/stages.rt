@@ -1,15 +1,13 @@
 //! How far a line is: what it asks of the volume next, and what that says.
-ghost use Rattle.std.specs.Prelude.{◌≡◌, Some, IfErr, IfOk, IfSome, IsTrue};
+ghost use Rattle.std.specs.Prelude.{◌≡◌, Some, IfOk, IfSome, IsTrue};
 ghost use Rattle.std.specs.Result.{IsErr};
-ghost use Rattle.hfs_language.specs.Written.{FitsCommand};
+ghost use Rattle.hfs_language.specs.Written.{FitsCommand, FitsPath};
 ghost use Rattle.hfs_language.specs.declared.command.Command.{Command};
 ghost use Rattle.hfs_language.specs.declared.command.Command.TheVariants as command;
 ghost use Rattle.open_files.specs.Keeping.{keeping_path, kept_path, release};
 ghost use Rattle.session_lines.specs.declared.stages.Stage.TheVariants as stage;
-ghost use Rattle.session_lines.specs.Spelling.{HasLine, IsSkipped};
-ghost use Rattle.session_lines.specs.Stages.{closed, command_at, found_to_move, found_to_open, found_to_replace, found_to_take, found_to_tell, heard_at, is_skip, listed, looked_for_folder, looked_for_kept, not_kept, one_less, takes, told_without, unless_refused, unless_skipped, without_keeping};
+ghost use Rattle.session_lines.specs.Stages.{FitsStage, closed, command_at, found_to_move, found_to_open, found_to_replace, found_to_take, found_to_tell, heard_at, is_skip, listed, looked_for_folder, looked_for_kept, not_kept, one_less, takes, told_without, unless_refused, unless_skipped, without_keeping};
 
-use crate::spelling::has_line;
 use hfs_language::{Command, Facts, ListedName, Listing, Path, Refusal, Reply};
 use hx_bytes::{Listed, OutOfMemory};
 use open_files::{Table, copy_path, is_keeping_name, keeping_path, kept_path, release};
@@ -58,25 +56,11 @@ pub enum Stage {
 }
 
 impl Stage {
-    /// The command that is done next, or why it can't be: memory is missing for it, or no line is long enough to spell it.
-    pub fn asks(&self, alloc: Global) -> Result<Option<Command>, Refusal>
-        ensures command { IfOk result (λ asked. asked ≡ command_at self.now) }
-        ensures spelled { IfOk result (λ asked. IfSome asked (λ command. HasLine command × FitsCommand command)) }
-        ensures skipped { IfErr result (λ why. (command : Command) × (command_at self.now ≡ Some command) × IsSkipped command why) }
-    {
-        match self.command(alloc) {
-            Ok(Some(command)) => match has_line(alloc, &command) {
-                Ok(true) => Ok(Some(command)),
-                Ok(false) => Err(Refusal::TooLong),
-                Err(OutOfMemory) => Err(Refusal::OutOfMemory),
-            },
-            Ok(None) => Ok(None),
-            Err(OutOfMemory) => Err(Refusal::OutOfMemory),
-        }
-    }
-
-    fn command(&self, alloc: Global) -> Result<Option<Command>, OutOfMemory>
+    /// The command that is done next, if it asks for one. `OutOfMemory` comes only where it asks for one.
+    pub fn asks(&self, alloc: Global) -> Result<Option<Command>, OutOfMemory>
+        requires fits { FitsStage self.now }
         ensures made { IfOk result (λ asked. asked ≡ command_at self.now) }
+        ensures fits { IfOk result (λ asked. IfSome asked FitsCommand) }
         ensures some { IsErr result → (command : Command) × (command_at self.now ≡ Some command) }
     {
         match self {
@@ -113,7 +97,8 @@ impl Stage {
 
     /// Goes where the line stands once its command has this reply. Which files are open is told by the table.
     pub fn hear(&mut self, table: &Table, reply: Reply)
-        ensures { self.new ≡ heard_at table.now self.old reply }
+        ensures heard { self.new ≡ heard_at table.now self.old reply }
+        ensures fits { FitsStage self.old → FitsStage self.new }
     {
         let here = replace(self, Stage::Rests);
         *self = here.heard(table, reply);
@@ -146,44 +131,59 @@ impl Stage {
 type Asked = Result<Option<Command>, OutOfMemory>;
 
 fn stat(alloc: Global, path: &Path) -> Asked
-    ensures { IfOk result (λ asked. asked ≡ Some (command.Stat path.now)) }
+    requires fits { FitsPath path.now }
+    ensures fits { IfOk result (λ asked. IfSome asked FitsCommand) }
+    ensures made { IfOk result (λ asked. asked ≡ Some (command.Stat path.now)) }
 {
     Ok(Some(Command::Stat(copy_path(alloc, path)?)))
 }
 
 fn list(alloc: Global, path: &Path) -> Asked
-    ensures { IfOk result (λ asked. asked ≡ Some (command.Ls path.now)) }
+    requires fits { FitsPath path.now }
+    ensures fits { IfOk result (λ asked. IfSome asked FitsCommand) }
+    ensures made { IfOk result (λ asked. asked ≡ Some (command.Ls path.now)) }
 {
     Ok(Some(Command::Ls(copy_path(alloc, path)?)))
 }
 
+#[tactic(auto, using(crate::proofs::Fitting::keeping_fits, crate::proofs::Fitting::kept_fits))]
 fn stat_keeping(alloc: Global) -> Asked
-    ensures { IfOk result (λ asked. asked ≡ Some (command.Stat keeping_path)) }
+    ensures fits { IfOk result (λ asked. IfSome asked FitsCommand) }
+    ensures made { IfOk result (λ asked. asked ≡ Some (command.Stat keeping_path)) }
 {
     Ok(Some(Command::Stat(keeping_path(alloc)?)))
 }
 
+#[tactic(auto, using(crate::proofs::Fitting::keeping_fits, crate::proofs::Fitting::kept_fits))]
 fn stat_kept(alloc: Global, id: u32) -> Asked
-    ensures { IfOk result (λ asked. asked ≡ Some (command.Stat (kept_path id))) }
+    ensures fits { IfOk result (λ asked. IfSome asked FitsCommand) }
+    ensures made { IfOk result (λ asked. asked ≡ Some (command.Stat (kept_path id))) }
 {
     Ok(Some(Command::Stat(kept_path(alloc, id)?)))
 }
 
+#[tactic(auto, using(crate::proofs::Fitting::keeping_fits, crate::proofs::Fitting::kept_fits))]
 fn make_keeping(alloc: Global) -> Asked
-    ensures { IfOk result (λ asked. asked ≡ Some (command.Mkdir keeping_path)) }
+    ensures fits { IfOk result (λ asked. IfSome asked FitsCommand) }
+    ensures made { IfOk result (λ asked. asked ≡ Some (command.Mkdir keeping_path)) }
 {
     Ok(Some(Command::Mkdir(keeping_path(alloc)?)))
 }
 
+#[tactic(auto, using(crate::proofs::Fitting::keeping_fits, crate::proofs::Fitting::kept_fits))]
 fn link(alloc: Global, path: &Path, id: u32) -> Asked
-    ensures { IfOk result (λ asked. asked ≡ Some (command.Ln path.now (kept_path id))) }
+    requires fits { FitsPath path.now }
+    ensures fits { IfOk result (λ asked. IfSome asked FitsCommand) }
+    ensures made { IfOk result (λ asked. asked ≡ Some (command.Ln path.now (kept_path id))) }
 {
     let from = copy_path(alloc, path)?;
     Ok(Some(Command::Ln(from, kept_path(alloc, id)?)))
 }
 
+#[tactic(auto, using(crate::proofs::Fitting::keeping_fits, crate::proofs::Fitting::kept_fits))]
 fn release_kept(alloc: Global, id: u32) -> Asked
-    ensures { IfOk result (λ asked. asked ≡ Some (release id)) }
+    ensures fits { IfOk result (λ asked. IfSome asked FitsCommand) }
+    ensures made { IfOk result (λ asked. asked ≡ Some (release id)) }
 {
     Ok(Some(release(alloc, id)?))
 }
@@ -198,13 +198,12 @@ fn unless_refused(next: Stage, reply: Reply) -> Stage
     }
 }
 
-/// Whether this says that a command wasn't done at all.
+/// Whether this says that memory was missing.
 fn is_skip(why: Refusal) -> bool
     ensures { result ≡ is_skip why }
 {
     match why {
         Refusal::OutOfMemory => true,
-        Refusal::TooLong => true,
         _ => false,
     }
 }

@@ -36,10 +36,35 @@ pub fn run_program<R: Rig>(
     input: &[u8],
     piece: u64,
 ) -> Result<Status, OutOfMemory> {
-    let words = words(alloc, line)?;
     let mut source = MemSource::new(alloc, input, piece.max(1), None)?;
     let mut watchers: Vec<Box<dyn Watcher>> = Vec::new(alloc);
-    Ok(hfsx(alloc, words.as_slice(), rig, &mut source, &mut watchers))
+    Ok(run_watched(alloc, line, rig, &mut source, &mut watchers)?)
+}
+
+/// The same with a source and watchers of the test's own.
+pub fn run_watched<R: Rig>(
+    alloc: Global,
+    line: &str,
+    rig: &mut R,
+    source: &mut MemSource,
+    watchers: &mut Vec<Box<dyn Watcher>>,
+) -> Result<Status, AllocError> {
+    let words = words(alloc, line)?;
+    Ok(hfsx(alloc, words.as_slice(), rig, source, watchers))
+}
+
+/// A fresh disk on which a run of these lines was stopped so many device calls before its end, and how the run ended.
+pub fn stopped_rig(
+    alloc: Global,
+    input: &[u8],
+    before_end: u64,
+) -> Result<(MemRig, Status), OutOfMemory> {
+    let mut whole = fresh_rig(alloc)?;
+    run_on(alloc, "run v.img", &mut whole, input)?;
+    let mut rig = fresh_rig(alloc)?;
+    rig.stop_after(whole.calls().saturating_sub(before_end));
+    let ended = run_on(alloc, "run v.img", &mut rig, input)?;
+    Ok((rig, ended))
 }
 
 /// The volume of 16,384 sectors that `format` makes.

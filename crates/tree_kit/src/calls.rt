@@ -6,11 +6,11 @@ ghost use Rattle.btree_file.specs.Growth.{HasWholeNodes, RunInside, nodes_with};
 ghost use Rattle.btree_file.specs.Standing.{numbers_of, LiesInside};
 ghost use Rattle.alloc_bitmap.specs.Untold.{told_none};
 
-use crate::sectors::Sectors;
 use btree_edit::{Desk, Found, Inserted, Removed, find, insert, next, remove, replace};
 use btree_file::{TreeFile, TreeOn};
 use btree_node::KeyOrder;
 use hx_bytes::{Extent, Failed, Trouble};
+use sector_kit::Sectors;
 use std::alloc::Global;
 
 /// Adds a pair.

@@ -6,7 +6,6 @@ mod life;
 mod made;
 mod pairs;
 mod plot;
-mod sectors;
 #[cfg(test)]
 mod tests;
 
@@ -14,4 +13,4 @@ pub use life::{Edit, Flaw, Growth, live, live_on};
 pub use made::{Made, write_tree};
 pub use pairs::{Kind, key_of, value_of};
 pub use plot::{Plot, lies_below};
-pub use sectors::Sectors;
+pub use sector_kit::Sectors;

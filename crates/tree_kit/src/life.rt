@@ -2,11 +2,11 @@
 use crate::made::{Made, write_tree};
 use crate::pairs::{Kind, key_of, value_of};
 use crate::plot::Plot;
-use crate::sectors::Sectors;
 use btree_edit::{Inserted, Removed};
 use btree_node::{AttrOrder, CatalogOrder, ExtentOrder, KeyOrder, TreeShape};
 use fork_map::ExtentList;
 use hx_bytes::{Extent, OutOfMemory, Sector, Trouble};
+use sector_kit::Sectors;
 use std::alloc::Global;
 
 /// An edit of a pair.
@@ -337,7 +337,7 @@ fn sectors_of(alloc: Global, sectors: u64) -> Result<Sectors, OutOfMemory> {
     for _ in 0..sectors {
         list.push([0xEE; 512])?;
     }
-    Ok(Sectors { list })
+    Ok(Sectors::new(list))
 }
 
 /// The whole life of a tree of so many pairs.

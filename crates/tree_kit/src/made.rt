@@ -1,6 +1,6 @@
 //! A tree file without a pair, written byte by byte (TN1150, "B-Trees").
-use crate::sectors::Sectors;
 use fork_map::ExtentList;
+use sector_kit::Sectors;
 
 /// What is written.
 #[derive(Clone, Copy, Debug)]

@@ -8,12 +8,12 @@ ghost use Rattle.btree_file.specs.Standing.{numbers_of, LiesInside};
 ghost use Rattle.alloc_bitmap.specs.Untold.{told_none};
 
 use crate::calls::{add, change, find_next, find_pair, lengthen, read_again, take_out};
-use crate::sectors::Sectors;
 use btree_edit::{Desk, Found, Inserted, Removed};
 use btree_file::TreeFile;
 use btree_node::{KeyOrder, TreeShape};
 use fork_map::ExtentList;
 use hx_bytes::{Extent, OutOfMemory, Sector, Trouble};
+use sector_kit::Sectors;
 use std::alloc::Global;
 
 /// The tree in a fork.

@@ -12,7 +12,7 @@ use btree_node::{AttrOrder, CatalogOrder, ExtentOrder, KeyOrder, TreeShape};
 use fork_map::ExtentList;
 use hfs_model::ascii;
 use hx_bytes::{ForkRecord, OutOfMemory, Sector};
-use jnl_replay::{Place as JournalPlace, Plan, replay, validate};
+use jnl_replay::{Plan, find_place, replay, validate};
 use jnl_store::{Space, Store};
 use mem_disk::MemRig;
 use sector_disk::{SectorDisk, SectorView};
@@ -230,26 +230,9 @@ fn find_plan(disk: &mut Quiet) -> Result<Plan, Flaw>
     ensures fits { IfOk result (λ plan. FitsPlan (hidden (rig_state disk.old.rig)).sectors plan) }
     ensures sectors { (hidden (rig_state disk.new.rig)).sectors ≡ (hidden (rig_state disk.old.rig)).sectors }
 {
-    let sectors = disk.sectors();
-    let mut block = [0; 512];
-    if sectors < 2048 || sectors > 2_147_483_648 {
-        return Err(Flaw::NotMounted);
-    }
-    match disk.read(2, &mut block) {
-        Ok(()) => {}
-        Err(_) => return Err(Flaw::NotMounted),
-    }
-    let head = match read_header(&block, sectors) {
-        Ok(head) => head,
-        Err(_) => return Err(Flaw::NotMounted),
-    };
-    let info_sector = u64::from(head.journal_info_block) * u64::from(head.block_size / 512);
-    if info_sector >= sectors {
-        return Err(Flaw::NotMounted);
-    }
-    let place = JournalPlace {
-        info_sector,
-        last_mounted: head.last_mounted_version,
+    let place = match find_place(disk) {
+        Ok(Ok(place)) => place,
+        _ => return Err(Flaw::NotMounted),
     };
     match validate(disk, &place) {
         Ok(plan) => Ok(plan),

@@ -17,7 +17,7 @@ use Rattle.hfs_volume.specs.Content.{VolumeState}
 use Rattle.hfs_volume.specs.Records.{Placed, placed_in, record_at}
 use Rattle.volume_base.specs.Changing.{ChangesCatalog, PutsHeader}
 use Rattle.volume_base.specs.Lists.{lists_of}
-use Rattle.volume_base.specs.Making.{AddsNew, free_place, new_value}
+use Rattle.volume_base.specs.Making.{AddsRecord, free_place}
 use Rattle.volume_base.specs.Standing.{IsStanding, attribute_sectors, map_sectors, own_sectors}
 use Rattle.volume_base.specs.declared.volume.Volume.{Volume}
 use Rattle.volume_base.proofs.ListsAfter.{catalog_changes, changes_both, header_stays, numbers_change}
@@ -51,15 +51,15 @@ module _ (v x : Volume) (a m : Space) (numbered : x ≡ record v { header = with
   module _ (w : Volume) (b : Space) (was : IsStanding x m) (tells : IsTrue m.tells) (stands : IsStanding w b) (follows : FollowsOn x.catalog.file w.catalog.file m b) (rest : w ≡ record x { catalog = w.catalog })
       (folder : Bool) (id : ℕ) (name : List ℕ) (value : CatRecord) (answer : Inserted)
     where
-      pub adds_new : value ≡ new_value folder v.header.next_catalog_id v.header.modify_date → x.header ≡ with_made folder v.header → record_at (placed_in (lists_of v a.content).catalog_pairs) id name ≡ None
+      pub adds_record : x.header ≡ with_made folder v.header → record_at (placed_in (lists_of v a.content).catalog_pairs) id name ≡ None
           → AnswersAdd (record_at (placed_in (pairs_in (sectors_of_tree x.catalog.file) m.content)) id name) answer
           → Adding (record { parent = id; name = name; value = value }) (pairs_in (sectors_of_tree x.catalog.file) m.content) (pairs_in (sectors_of_tree x.catalog.file) b.content) answer
-          → AddsNew folder id name v w a.content b.content
-      adds_new same made free answers added = record {
-        adds = subst (λ (k : CatRecord × List Pair × List Pair). AddsEntry (entry_in (free_place id name) k.0) k.1 k.2)
-            {x = (value, pairs_in (sectors_of_tree x.catalog.file) m.content, pairs_in (sectors_of_tree x.catalog.file) b.content)}
-            {y = (new_value folder v.header.next_catalog_id v.header.modify_date, (lists_of v a.content).catalog_pairs, (lists_of w b.content).catalog_pairs)}
-            (λ i. (same i, pairs_drawn i, pairs_in (sym (same_sectors x.catalog.file w.catalog.file follows.file) i) b.content))
+          → AddsRecord folder value id name v w a.content b.content
+      adds_record made free answers added = record {
+        adds = subst (λ (k : List Pair × List Pair). AddsEntry (entry_in (free_place id name) value) k.0 k.1)
+            {x = (pairs_in (sectors_of_tree x.catalog.file) m.content, pairs_in (sectors_of_tree x.catalog.file) b.content)}
+            {y = ((lists_of v a.content).catalog_pairs, (lists_of w b.content).catalog_pairs)}
+            (λ i. (pairs_drawn i, pairs_in (sym (same_sectors x.catalog.file w.catalog.file follows.file) i) b.content))
             (added_done (record { parent = id; name = name; value = value }) (pairs_in (sectors_of_tree x.catalog.file) m.content) (pairs_in (sectors_of_tree x.catalog.file) b.content) (record_at (placed_in (pairs_in (sectors_of_tree x.catalog.file) m.content)) id name) answer
             (ap (λ (l : List Pair). record_at (placed_in l) id name) pairs_drawn ∙ free) answers added);
         changes = changes_both v x w a.content m.content b.content drawn_changes

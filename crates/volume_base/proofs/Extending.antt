@@ -1,5 +1,5 @@
 -- The extents overflow file of a volume in service can be read, and what a read of a file's fork leaves of the volume.
-use Rattle.std.proofs.Common.{◌≡◌, ℕ, ◌<◌, ◌≤◌, ◌*◌, ◌/◌, ◌%◌, IsTrue, List, [], ◌∷◌, ◌++◌, length, map, take, drop, get_or, true, refl, sym, ◌∙◌, ap, subst, arith}
+use Rattle.std.proofs.Common.{◌≡◌, ◌⊎◌, ℕ, ◌<◌, ◌≤◌, ◌*◌, ◌/◌, ◌%◌, IsTrue, List, [], ◌∷◌, ◌++◌, length, map, take, drop, get_or, true, refl, sym, ◌∙◌, ap, subst, arith}
 use Rattle.std.specs.Prelude.{Contains, All, Result, IfOk, if◌then◌else◌}
 use Rattle.std.specs.List.{list_all}
 use Rattle.std.proofs.Math.Nat.{mul_assoc}
@@ -21,9 +21,10 @@ use Rattle.btree_file.specs.declared.tree.TreeFile.{TreeFile}
 use Rattle.cat_records.specs.declared.record.FileRecord.{FileRecord}
 use Rattle.hfs_volume.specs.Blocks.{GoesOn}
 use Rattle.hfs_volume.specs.Content.{VolumeState, volume_of, records_of, overflow_in_volume, has_attributes}
-use Rattle.hfs_volume.specs.Forks.{extents_of, data_kind, per_block_of}
+use Rattle.hfs_volume.specs.Forks.{extents_of, data_kind, resource_kind, per_block_of}
+use Rattle.volume_base.specs.Cutting.{fork_at}
 use Rattle.hfs_volume.specs.Records.{Overflow, overflow_of}
-use Rattle.hfs_volume.specs.TreeOf.{file_bytes}
+use Rattle.hfs_volume.specs.TreeOf.{bytes_in_fork}
 use Rattle.hfs_volume.proofs.Members.{behind}
 use Rattle.volume_base.specs.Looking.{ReadsVolume}
 use Rattle.volume_base.specs.Opening.{ends_inside}
@@ -51,10 +52,10 @@ pub overflow_told : (v : Volume) (content : Content) → IsSettled v content →
 overflow_told v content settled = ap (λ (l : VolumeState). map overflow_of l.overflow_pairs) settled.lists
 
 -- those of a file's fork go on behind its record
-pub fork_goes_on : (v : Volume) (content : Content) → IsSettled v content → (file : FileRecord) → HasFile (records_of (volume_of content)) file
-    → GoesOn (map overflow_of (pairs_in (sectors_of_tree v.extents.file) content)) (record { id = file.fields.id; kind = data_kind; fork = file.data_fork })
-fork_goes_on v content settled file has =
-    subst (λ (o : List Overflow). GoesOn o (record { id = file.fields.id; kind = data_kind; fork = file.data_fork })) (overflow_told v content settled) (file_goes_on content settled.sound file has.entry has.stands has.value)
+pub fork_goes_on : (v : Volume) (content : Content) → IsSettled v content → (kind : ℕ) → (kind ≡ data_kind) ⊎ (kind ≡ resource_kind) → (file : FileRecord) → HasFile (records_of (volume_of content)) file
+    → GoesOn (map overflow_of (pairs_in (sectors_of_tree v.extents.file) content)) (record { id = file.fields.id; kind = kind; fork = fork_at kind file })
+fork_goes_on v content settled kind is_kind file has =
+    subst (λ (o : List Overflow). GoesOn o (record { id = file.fields.id; kind = kind; fork = fork_at kind file })) (overflow_told v content settled) (file_goes_on content settled.sound kind is_kind file has.entry has.stands has.value)
 
 -- where only the extents overflow file was read, a volume was
 pub extents_read : (v : Volume) (file : TreeFile) (desk : Desk) (before after : Space) → KeepsFile before.tells v.extents.file file → Looks (λ s. Contains (sectors_of_tree v.extents.file) s) before after → IsDeskOf (numbers_of file).node_size desk
@@ -85,22 +86,22 @@ unfolding volume_of
 head_kept v content settled = sym (ap (λ (l : VolumeState). l.head) settled.lists)
 
 -- bytes of the fork that was loaded are the file's
-pub bytes_told : (v : Volume) (content : Content) → IsSettled v content → (file : FileRecord) → HasFile (records_of (volume_of content)) file → (later : Content) (sectors : ℕ) → later ≡ content → length content ≡ sectors → (fork : List Extent)
-    → fork ≡ extents_of (map overflow_of (pairs_in (sectors_of_tree v.extents.file) content)) file.fields.id data_kind file.data_fork → (start long : ℕ) (result : Result (List ℕ) Trouble)
-    → (v.header.block_size % 512 ≡ 0 → list_all (ends_inside (v.header.block_size / 512) sectors) fork ≡ true → file.data_fork.logical_size ≤ length (blocks_of fork) * v.header.block_size
-    → IfOk result (λ bytes. bytes ≡ take long (drop start (take file.data_fork.logical_size (bytes_read later v.header.block_size fork)))))
-    → IfOk result (λ bytes. bytes ≡ take long (drop start (file_bytes content file)))
-bytes_told v content settled file has later sectors same long_is fork fork_is start long result read =
+pub bytes_told : (v : Volume) (content : Content) → IsSettled v content → (kind : ℕ) → (kind ≡ data_kind) ⊎ (kind ≡ resource_kind) → (file : FileRecord) → HasFile (records_of (volume_of content)) file → (later : Content) (sectors : ℕ) → later ≡ content → length content ≡ sectors → (fork : List Extent)
+    → fork ≡ extents_of (map overflow_of (pairs_in (sectors_of_tree v.extents.file) content)) file.fields.id kind (fork_at kind file) → (start long : ℕ) (result : Result (List ℕ) Trouble)
+    → (v.header.block_size % 512 ≡ 0 → list_all (ends_inside (v.header.block_size / 512) sectors) fork ≡ true → (fork_at kind file).logical_size ≤ length (blocks_of fork) * v.header.block_size
+    → IfOk result (λ bytes. bytes ≡ take long (drop start (take (fork_at kind file).logical_size (bytes_read later v.header.block_size fork)))))
+    → IfOk result (λ bytes. bytes ≡ take long (drop start (bytes_in_fork content file.fields.id kind (fork_at kind file))))
+bytes_told v content settled kind is_kind file has later sectors same long_is fork fork_is start long result read =
     let head = head_kept v content settled in
     let block : v.header.block_size ≡ (header_of_volume content).block_size = ap (λ (h : VolumeHeader). h.block_size) head in
-    let at : fork ≡ extents_of (overflow_in_volume (volume_of content)) file.fields.id data_kind file.data_fork =
-    fork_is ∙ ap (λ (o : List Overflow). extents_of o file.fields.id data_kind file.data_fork) (sym (overflow_told v content settled)) in
+    let at : fork ≡ extents_of (overflow_in_volume (volume_of content)) file.fields.id kind (fork_at kind file) =
+    fork_is ∙ ap (λ (o : List Overflow). extents_of o file.fields.id kind (fork_at kind file)) (sym (overflow_told v content settled)) in
     let geometry = geometry_is content settled.sound in
-    if_so (λ (bytes : List ℕ). bytes ≡ take long (drop start (take file.data_fork.logical_size (bytes_read later v.header.block_size fork)))) (λ (bytes : List ℕ). bytes ≡ take long (drop start (file_bytes content file))) result
-    (λ bytes is. is ∙ (λ i. take long (drop start (take file.data_fork.logical_size (bytes_read (same i) (block i) (at i))))) ∙ ap (λ (l : List ℕ). take long (drop start l)) (sym (bytes_are content settled.sound file has.entry has.stands has.value)))
+    if_so (λ (bytes : List ℕ). bytes ≡ take long (drop start (take (fork_at kind file).logical_size (bytes_read later v.header.block_size fork)))) (λ (bytes : List ℕ). bytes ≡ take long (drop start (bytes_in_fork content file.fields.id kind (fork_at kind file)))) result
+    (λ bytes is. is ∙ (λ i. take long (drop start (take (fork_at kind file).logical_size (bytes_read (same i) (block i) (at i))))) ∙ ap (λ (l : List ℕ). take long (drop start l)) (sym (bytes_are content settled.sound kind is_kind file has.entry has.stands has.value)))
     (read (omega (arith, block, geometry.whole))
-    (subst (λ (k : ℕ × ℕ × List Extent). list_all (ends_inside (k.0 / 512) k.1) k.2 ≡ true) (λ i. (sym block i, long_is i, sym at i)) (ends_there content settled.sound file has.entry has.stands has.value))
-    (subst (λ (k : ℕ × List Extent). file.data_fork.logical_size ≤ length (blocks_of k.1) * k.0) (λ i. (sym block i, sym at i)) (holds_size content settled.sound file has.entry has.stands has.value)))
+    (subst (λ (k : ℕ × ℕ × List Extent). list_all (ends_inside (k.0 / 512) k.1) k.2 ≡ true) (λ i. (sym block i, long_is i, sym at i)) (ends_there content settled.sound kind is_kind file has.entry has.stands has.value))
+    (subst (λ (k : ℕ × List Extent). (fork_at kind file).logical_size ≤ length (blocks_of k.1) * k.0) (λ i. (sym block i, sym at i)) (holds_size content settled.sound kind is_kind file has.entry has.stands has.value)))
 
 -- as many bytes as the sectors of whole blocks have
 pub held_whole : (fork : List Extent) (block size : ℕ) → block % 512 ≡ 0 → size ≤ length (fork_sectors fork (block / 512)) * 512 → size ≤ length (blocks_of fork) * block

@@ -71,13 +71,13 @@ module _ (v : Volume) (content : Content) (holds : HoldsTrees v content) (settle
       let at = found_some (is_node id) (tree_of content).nodes node found in
       let its : IsFileOf (volume_of content) (bytes_in content) node = file_of_node (volume_of content) settled.sound (settled_sorted v content holds settled) (bytes_in content) node at.0 kind in
       let number : id ≡ id_of its.entry = sym (eqb-true node.id id at.1) ∙ its.id ∙ sym (ap id_in its.value) in
-      (λ i. option_map (λ (file : FileRecord). take long (drop from (file_bytes content file))) (file_of (entry_by_id (sym pairs_are i) (number i))))
-      ∙ ap (λ (o : Option Entry). option_map (λ (file : FileRecord). take long (drop from (file_bytes content file))) (file_of o)) (found_is v content holds settled its.entry its.stands)
-      ∙ ap (λ (value : CatRecord). option_map (λ (file : FileRecord). take long (drop from (file_bytes content file))) (file_in_record value)) its.value
+      (λ i. option_map (λ (file : FileRecord). take long (drop from (file_bytes content file).data_bytes)) (file_of (entry_by_id (sym pairs_are i) (number i))))
+      ∙ ap (λ (o : Option Entry). option_map (λ (file : FileRecord). take long (drop from (file_bytes content file).data_bytes)) (file_of o)) (found_is v content holds settled its.entry its.stands)
+      ∙ ap (λ (value : CatRecord). option_map (λ (file : FileRecord). take long (drop from (file_bytes content file).data_bytes)) (file_in_record value)) its.value
       ∙ ap (λ (bytes : List ℕ). Some (take long (drop from bytes))) (sym its.bytes)
 
   abbrev these : ℕ → ℕ → Option FileRecord → Option (List ℕ)
-  these from long found = option_map (λ (file : FileRecord). take long (drop from (file_bytes content file))) found
+  these from long found = option_map (λ (file : FileRecord). take long (drop from (file_bytes content file).data_bytes)) found
 
   module _ (id from long : ℕ) (found : Option Entry) (is : found ≡ entry_by_id (lists_of v content).catalog_pairs id) where
     -- no file has the CNID
@@ -89,5 +89,5 @@ module _ (v : Volume) (content : Content) (holds : HoldsTrees v content) (settle
       pub file_stands : HasFile (records_of (volume_of content)) file
       file_stands = file_has id file (sym (one ∙ ap file_of is))
 
-      pub bytes_some : (bytes : List ℕ) → bytes ≡ take long (drop from (file_bytes content file)) → Some bytes ≡ bytes_by_id content (lists_of v content).catalog_pairs id from long
+      pub bytes_some : (bytes : List ℕ) → bytes ≡ take long (drop from (file_bytes content file).data_bytes) → Some bytes ≡ bytes_by_id content (lists_of v content).catalog_pairs id from long
       bytes_some bytes same = ap Some same ∙ ap (these from long) one ∙ ap (λ (o : Option Entry). these from long (file_of o)) is

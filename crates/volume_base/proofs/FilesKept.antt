@@ -15,7 +15,7 @@ use Rattle.hfs_volume.specs.Entries.{IsUserId}
 use Rattle.hfs_volume.specs.Forks.{Owned, per_block_of, parts_for, data_kind, allocation_id, catalog_id, attributes_id, extents_id, extents_of, blocks_owned, reserved_blocks}
 use Rattle.hfs_volume.specs.Records.{Placed, entries_of, overflow_of, id_of, id_in}
 use Rattle.hfs_volume.specs.Sound.{IsSoundVolume}
-use Rattle.hfs_volume.specs.TreeOf.{tree_in, file_bytes, bytes_in, valued}
+use Rattle.hfs_volume.specs.TreeOf.{tree_in, bytes_in_fork, file_bytes, bytes_in, valued}
 use Rattle.hfs_volume.specs.Values.{blocks_of_values}
 use Rattle.hfs_volume.proofs.Apart.{fork_is_used, value_is_used, not_reserved, not_in_both, value_not_reserved, value_not_in_fork}
 use Rattle.hfs_volume.proofs.BlockWants.{in_range}
@@ -24,7 +24,7 @@ use Rattle.hfs_volume.proofs.Members.{each_of}
 use Rattle.hfs_volume.proofs.Rereading.{same_bytes}
 use Rattle.hfs_volume.proofs.Sectors.{in_block, in_front}
 use Rattle.hfs_volume.proofs.Valued.{values_same}
-use Rattle.hfs_volume.proofs.Untouched.{HasWholeBlocks, whole_blocks, data_fork_of, file_fork_stands, special_stands}
+use Rattle.hfs_volume.proofs.Untouched.{HasWholeBlocks, whole_blocks, data_fork_of, file_fork_stands, resource_fork_of, resource_fork_stands, special_stands}
 
 -- a content whose files lie where these lists say
 pub record ReadsAs (content : Content) (lists : VolumeState) : Type 0 where
@@ -131,30 +131,36 @@ module _ (lists : VolumeState) (sound : IsSoundVolume lists) where
   attributes_off_extents at has there = not_in_both lists sound.blocks.forks extents_owned attributes_owned (at / per) (special_stands lists extents_owned (0, omega arith, refl)) (special_stands lists attributes_owned (4, omega arith, refl))
       (λ same. absurd (omega (arith, ap (λ (o : Owned). o.id) same))) (in_block per (blocks_by extents_owned) at whole.some (subst (λ (l : List ℕ). Contains l at) (sym extents_alone) there)) (in_block per (blocks_by attributes_owned) at whole.some has)
 
-  module _ (p : Placed) (file : FileRecord) (stands : Contains (entries_of (records_of lists)) p) (is : p.value ≡ File file) where
+  -- the CNID of a file is one that users' files have
+  pub user_of : (p : Placed) (file : FileRecord) → Contains (entries_of (records_of lists)) p → p.value ≡ File file → IsUserId lists.head.next_catalog_id file.fields.id
+  user_of p file stands is = subst (λ id. IsUserId lists.head.next_catalog_id id) (ap id_in is) (each_of (λ (q : Placed). IsUserId lists.head.next_catalog_id (id_of q)) (entries_of (records_of lists)) sound.entries.ids.each p stands)
+
+  -- what holds of each fork of a user's file holds of both forks of a file: their bytes are the same
+  pub both_forks : (a b : Content) → ((fork : Owned) → Contains (forks_of lists) fork → IsUserId lists.head.next_catalog_id fork.id → bytes_in_fork b fork.id fork.kind fork.fork ≡ bytes_in_fork a fork.id fork.kind fork.fork)
+      → (p : Placed) (file : FileRecord) → Contains (entries_of (records_of lists)) p → p.value ≡ File file → file_bytes b file ≡ file_bytes a file
+  both_forks a b same p file stands is = λ i. record {
+    data_bytes = same (data_fork_of file) (file_fork_stands lists p file stands is) (user_of p file stands is) i;
+    resource_bytes = same (resource_fork_of file) (resource_fork_stands lists p file stands is) (user_of p file stands is) i;
+  }
+
+  module _ (fork : Owned) (fork_there : Contains (forks_of lists) fork) (user_id : IsUserId lists.head.next_catalog_id fork.id) where
     abbrev file_sectors : List ℕ
-    file_sectors = sectors_of per (blocks_by (data_fork_of file))
-
-    fork_there : Contains (forks_of lists) (data_fork_of file)
-    fork_there = file_fork_stands lists p file stands is
-
-    user_id : IsUserId lists.head.next_catalog_id file.fields.id
-    user_id = subst (λ id. IsUserId lists.head.next_catalog_id id) (ap id_in is) (each_of (λ (q : Placed). IsUserId lists.head.next_catalog_id (id_of q)) (entries_of (records_of lists)) sound.entries.ids.each p stands)
+    file_sectors = sectors_of per (blocks_by fork)
 
     -- it is no special file's
-    not_special : (owned : Owned) → owned.id ≢ 2 → owned.id < 16 → owned ≢ data_fork_of file
+    not_special : (owned : Owned) → owned.id ≢ 2 → owned.id < 16 → owned ≢ fork
     not_special owned differs low same = by user_id
       where
-        by : IsUserId lists.head.next_catalog_id file.fields.id → ⊥
+        by : IsUserId lists.head.next_catalog_id fork.id → ⊥
         by (inl two) = differs (ap (λ (o : Owned). o.id) same ∙ two)
         by (inr user) = omega (arith, user.0, low, ap (λ (o : Owned). o.id) same)
 
     pub not_2 : (at : ℕ) → Contains file_sectors at → at ≢ 2
-    not_2 at has two = no_header (data_fork_of file) (λ kept_back inside. not_reserved lists sound.blocks.forks (data_fork_of file) (2 / per) kept_back fork_there inside) (subst (λ n. Contains file_sectors n) two has)
+    not_2 at has two = no_header fork (λ kept_back inside. not_reserved lists sound.blocks.forks fork (2 / per) kept_back fork_there inside) (subst (λ n. Contains file_sectors n) two has)
 
-    not_in : (owned : Owned) → Contains (forks_of lists) owned → owned ≢ data_fork_of file → (at : ℕ) → Contains file_sectors at → Contains (sectors_of per (blocks_by owned)) at → ⊥
-    not_in owned stands_too differs at has there = not_in_both lists sound.blocks.forks owned (data_fork_of file) (at / per) stands_too fork_there differs
-        (in_block per (blocks_by owned) at whole.some there) (in_block per (blocks_by (data_fork_of file)) at whole.some has)
+    not_in : (owned : Owned) → Contains (forks_of lists) owned → owned ≢ fork → (at : ℕ) → Contains file_sectors at → Contains (sectors_of per (blocks_by owned)) at → ⊥
+    not_in owned stands_too differs at has there = not_in_both lists sound.blocks.forks owned fork (at / per) stands_too fork_there differs
+        (in_block per (blocks_by owned) at whole.some there) (in_block per (blocks_by fork) at whole.some has)
 
     pub not_in_catalog : (at : ℕ) → Contains file_sectors at → Contains (catalog_sectors lists) at → ⊥
     not_in_catalog at has there = not_in catalog_owned (special_stands lists catalog_owned (1, omega arith, refl)) (not_special catalog_owned (λ two. absurd (omega (arith, two))) (omega arith)) at has there
@@ -169,44 +175,44 @@ module _ (lists : VolumeState) (sound : IsSoundVolume lists) where
     not_in_map at has there = not_in allocation_owned (special_stands lists allocation_owned (2, omega arith, refl)) (not_special allocation_owned (λ two. absurd (omega (arith, two))) (omega arith)) at has there
 
     -- the bytes by the lists
-    by_lists : (content : Content) → ReadsAs content lists → file_bytes content file ≡ take file.data_fork.logical_size (block_bytes content (lists.head.total_blocks * per) file_sectors)
-    unfolding file_bytes
-    by_lists content reads = λ i. take file.data_fork.logical_size
-        (block_bytes content (reads.total i * (reads.block i / 512)) (sectors_of (reads.block i / 512) (blocks_of (extents_of (map overflow_of (reads.overflow i)) file.fields.id data_kind file.data_fork))))
+    pub by_lists : (content : Content) → ReadsAs content lists → bytes_in_fork content fork.id fork.kind fork.fork ≡ take fork.fork.logical_size (block_bytes content (lists.head.total_blocks * per) file_sectors)
+    unfolding bytes_in_fork
+    by_lists content reads = λ i. take fork.fork.logical_size
+        (block_bytes content (reads.total i * (reads.block i / 512)) (sectors_of (reads.block i / 512) (blocks_of (extents_of (map overflow_of (reads.overflow i)) fork.id fork.kind fork.fork))))
 
     module _ (a b : Content) (reads_a : ReadsAs a lists) (reads_b : ReadsAs b lists) (agrees : (at : ℕ) → at ≢ 2 → (Contains (catalog_sectors lists) at → ⊥) → (Contains (attributes_sectors lists) at → ⊥) → sector b at ≡ sector a at) where
-      bytes_stay : file_bytes b file ≡ file_bytes a file
-      bytes_stay = by_lists b reads_b ∙ ap (λ (l : List ℕ). take file.data_fork.logical_size l) (same_bytes a b (lists.head.total_blocks * per) file_sectors (λ at has. agrees at (not_2 at has) (not_in_catalog at has) (not_in_attributes at has))) ∙ sym (by_lists a reads_a)
+      bytes_stay : bytes_in_fork b fork.id fork.kind fork.fork ≡ bytes_in_fork a fork.id fork.kind fork.fork
+      bytes_stay = by_lists b reads_b ∙ ap (λ (l : List ℕ). take fork.fork.logical_size l) (same_bytes a b (lists.head.total_blocks * per) file_sectors (λ at has. agrees at (not_2 at has) (not_in_catalog at has) (not_in_attributes at has))) ∙ sym (by_lists a reads_a)
 
   -- so is the tree of the lists, where neither header nor catalog nor bitmap is looked at
   pub tree_stays_but : (a b : Content) → ReadsAs a lists → ReadsAs b lists → ((at : ℕ) → at ≢ 2 → (Contains (catalog_sectors lists) at → ⊥) → (Contains (allocation_sectors lists) at → ⊥) → sector b at ≡ sector a at) → tree_in lists (bytes_in b) ≡ tree_in lists (bytes_in a)
-  tree_stays_but a b reads_a reads_b agrees = same_bytes_same_tree lists (bytes_in b) (bytes_in a) (λ p file stands is.
-      by_lists p file stands is b reads_b
-      ∙ ap (λ (l : List ℕ). take file.data_fork.logical_size l) (same_bytes a b (lists.head.total_blocks * per) (file_sectors p file stands is) (λ at has. agrees at (not_2 p file stands is at has) (not_in_catalog p file stands is at has) (not_in_map p file stands is at has)))
-      ∙ sym (by_lists p file stands is a reads_a))
+  tree_stays_but a b reads_a reads_b agrees = same_bytes_same_tree lists (bytes_in b) (bytes_in a) (both_forks a b (λ fork there user.
+      by_lists fork there user b reads_b
+      ∙ ap (λ (l : List ℕ). take fork.fork.logical_size l) (same_bytes a b (lists.head.total_blocks * per) (file_sectors fork there user) (λ at has. agrees at (not_2 fork there user at has) (not_in_catalog fork there user at has) (not_in_map fork there user at has)))
+      ∙ sym (by_lists fork there user a reads_a)))
       (values_stay a b reads_a reads_b (λ at has. agrees at (value_not_2 at has) (value_not_in_catalog at has) (value_not_in_map at has)))
 
   -- so is it where neither header nor attributes file nor bitmap is looked at
   pub tree_stays_beside : (a b : Content) → ReadsAs a lists → ReadsAs b lists → ((at : ℕ) → at ≢ 2 → (Contains (attributes_sectors lists) at → ⊥) → (Contains (allocation_sectors lists) at → ⊥) → sector b at ≡ sector a at) → tree_in lists (bytes_in b) ≡ tree_in lists (bytes_in a)
-  tree_stays_beside a b reads_a reads_b agrees = same_bytes_same_tree lists (bytes_in b) (bytes_in a) (λ p file stands is.
-      by_lists p file stands is b reads_b
-      ∙ ap (λ (l : List ℕ). take file.data_fork.logical_size l) (same_bytes a b (lists.head.total_blocks * per) (file_sectors p file stands is) (λ at has. agrees at (not_2 p file stands is at has) (not_in_attributes p file stands is at has) (not_in_map p file stands is at has)))
-      ∙ sym (by_lists p file stands is a reads_a))
+  tree_stays_beside a b reads_a reads_b agrees = same_bytes_same_tree lists (bytes_in b) (bytes_in a) (both_forks a b (λ fork there user.
+      by_lists fork there user b reads_b
+      ∙ ap (λ (l : List ℕ). take fork.fork.logical_size l) (same_bytes a b (lists.head.total_blocks * per) (file_sectors fork there user) (λ at has. agrees at (not_2 fork there user at has) (not_in_attributes fork there user at has) (not_in_map fork there user at has)))
+      ∙ sym (by_lists fork there user a reads_a)))
       (values_stay a b reads_a reads_b (λ at has. agrees at (value_not_2 at has) (value_not_in_attributes at has) (value_not_in_map at has)))
 
   -- so the tree of the lists is the same by both
   pub tree_stays : (a b : Content) → ReadsAs a lists → ReadsAs b lists → ((at : ℕ) → at ≢ 2 → (Contains (catalog_sectors lists) at → ⊥) → (Contains (attributes_sectors lists) at → ⊥) → sector b at ≡ sector a at) → tree_in lists (bytes_in b) ≡ tree_in lists (bytes_in a)
-  tree_stays a b reads_a reads_b agrees = same_bytes_same_tree lists (bytes_in b) (bytes_in a) (λ p file stands is. bytes_stay p file stands is a b reads_a reads_b agrees)
+  tree_stays a b reads_a reads_b agrees = same_bytes_same_tree lists (bytes_in b) (bytes_in a) (both_forks a b (λ fork there user. bytes_stay fork there user a b reads_a reads_b agrees))
       (values_stay a b reads_a reads_b (λ at has. agrees at (value_not_2 at has) (value_not_in_catalog at has) (value_not_in_attributes at has)))
 
   -- so is it where neither header nor catalog nor attributes file nor bitmap is looked at, nor what lies in no used block
   pub tree_stays_used : (a b : Content) → ReadsAs a lists → ReadsAs b lists
       → ((at : ℕ) → at ≢ 2 → (Contains (catalog_sectors lists) at → ⊥) → (Contains (attributes_sectors lists) at → ⊥) → (Contains (allocation_sectors lists) at → ⊥) → Contains (used_in lists) (at / per_block_of lists.head) → sector b at ≡ sector a at)
       → tree_in lists (bytes_in b) ≡ tree_in lists (bytes_in a)
-  tree_stays_used a b reads_a reads_b agrees = same_bytes_same_tree lists (bytes_in b) (bytes_in a) (λ p file stands is.
-      by_lists p file stands is b reads_b
-      ∙ ap (λ (l : List ℕ). take file.data_fork.logical_size l) (same_bytes a b (lists.head.total_blocks * per) (file_sectors p file stands is)
-      (λ at has. agrees at (not_2 p file stands is at has) (not_in_catalog p file stands is at has) (not_in_attributes p file stands is at has) (not_in_map p file stands is at has)
-      (fork_is_used lists (data_fork_of file) (at / per) (fork_there p file stands is) (in_block per (blocks_by (data_fork_of file)) at whole.some has))))
-      ∙ sym (by_lists p file stands is a reads_a))
+  tree_stays_used a b reads_a reads_b agrees = same_bytes_same_tree lists (bytes_in b) (bytes_in a) (both_forks a b (λ fork there user.
+      by_lists fork there user b reads_b
+      ∙ ap (λ (l : List ℕ). take fork.fork.logical_size l) (same_bytes a b (lists.head.total_blocks * per) (file_sectors fork there user)
+      (λ at has. agrees at (not_2 fork there user at has) (not_in_catalog fork there user at has) (not_in_attributes fork there user at has) (not_in_map fork there user at has)
+      (fork_is_used lists fork (at / per) there (in_block per (blocks_by fork) at whole.some has))))
+      ∙ sym (by_lists fork there user a reads_a)))
       (values_stay a b reads_a reads_b (λ at has. agrees at (value_not_2 at has) (value_not_in_catalog at has) (value_not_in_attributes at has) (value_not_in_map at has) (value_is_used lists (at / per) has)))

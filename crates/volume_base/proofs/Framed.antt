@@ -1,6 +1,6 @@
 -- Calls one behind another, and what ends a call early.
-use Rattle.std.proofs.Common.{◌≡◌, ◌≤◌, ℕ, ◌+◌, IsTrue, List, refl, sym, ◌∙◌, ap, subst, arith, []}
-use Rattle.std.specs.Prelude.{Result, Ok, Err, OnOk}
+use Rattle.std.proofs.Common.{◌≡◌, ◌≤◌, ℕ, ◌+◌, IsTrue, List, length, refl, sym, ◌∙◌, ap, subst, arith, []}
+use Rattle.std.specs.Prelude.{Result, Ok, Err, OnOk, Some}
 use Rattle.std.specs.List.{Contains}
 use Rattle.std.specs.Result.{IsErrAnd}
 use Rattle.std.proofs.lemmas.Result.{err_from_is_err_and}
@@ -9,17 +9,22 @@ use Rattle.hx_bytes.specs.declared.faults.Trouble.TheVariants.{Disk, Memory}
 use Rattle.sector_disk.specs.Lists.{Content}
 use Rattle.sector_disk.specs.Space.{Space}
 use Rattle.btree_edit.specs.Causes.{HasTroubleCause}
-use Rattle.volume_base.specs.Changing.{catalog_node}
+use Rattle.catalog.specs.Pairs.{value_at}
+use Rattle.hfs_volume.specs.Content.{VolumeState}
+use Rattle.hfs_volume.specs.Entries.{AreSpelled}
+use Rattle.volume_base.specs.Changing.{HasRoomToUpdate, catalog_node}
+use Rattle.volume_base.specs.Lists.{lists_of}
 use Rattle.volume_base.specs.Looking.{ReadsVolume}
 use Rattle.volume_base.specs.Standing.{StandsOver, own_sectors}
 use Rattle.volume_base.specs.Touching.{Touches}
+use Rattle.volume_base.specs.declared.entries.Entry.{Entry}
 use Rattle.volume_base.specs.declared.volume.Volume.{Volume}
 use Rattle.volume_base.proofs.Besides.{blocks_none, blocks_both, blocks_read}
 use Rattle.volume_base.proofs.Commanding.{touches_looks, touches_both, touches_none}
-use Rattle.volume_base.proofs.FoundEntry.{node_still}
+use Rattle.volume_base.proofs.FoundEntry.{node_still, room_still}
 use Rattle.volume_base.proofs.Seeing.{cause_since}
-use Rattle.volume_base.proofs.Still.{own_still, settled_still, volume_both}
-use Rattle.volume_base.specs.Frame.{Serves, Edits, Looked}
+use Rattle.volume_base.proofs.Still.{lists_still, own_still, settled_still, volume_both}
+use Rattle.volume_base.specs.Frame.{Serves, Edits, Looked, MayUpdate}
 
 stood : {T : Type 0} {P : Type 0} (result : Result T Trouble) → P → OnOk result P
 stood (Ok x) p = p
@@ -63,6 +68,21 @@ module _ {S : Type 0} {space_of : S → Space} {follows : S → S → Type 0} wh
     };
     stands = stands;
     reads = reads;
+  }
+
+  -- an entry that a call found by reading may be updated, where there was room for that before
+  pub found_ready : {T : Type 0} {v w : Volume} {a b : S} {r : Result T Trouble} {entry : Entry} → Looked space_of follows v w a b r → (IsTrue (space_of a).tells → AreSpelled (lists_of v (space_of a).content).catalog_pairs) → length entry.name ≤ 255
+      → (IsTrue (space_of a).tells → value_at (lists_of v (space_of a).content).catalog_pairs entry.parent entry.name ≡ Some entry.rec) → HasRoomToUpdate v (space_of a) → MayUpdate w entry (space_of b)
+  found_ready {T} {v} {w} {a} {b} {r} {entry} looked spelled name there room = record {
+    stands = looked.stands;
+    spelled = λ tells.
+        let before = sym looked.reads.looks.same.tells ∙ tells in
+        subst (λ (l : VolumeState). AreSpelled l.catalog_pairs) (sym (lists_still v w (space_of a) (space_of b) looked.reads before)) (spelled before);
+    name = name;
+    there = λ tells.
+        let before = sym looked.reads.looks.same.tells ∙ tells in
+        ap (λ (l : VolumeState). value_at l.catalog_pairs entry.parent entry.name) (lists_still v w (space_of a) (space_of b) looked.reads before) ∙ there before;
+    room = room_still v w (space_of a) (space_of b) looked.reads room;
   }
 
   -- another bound is known of what it puts

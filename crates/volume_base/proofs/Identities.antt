@@ -16,7 +16,7 @@ use Rattle.hfs_model.specs.declared.plain.PlainNode.{PlainNode}
 use Rattle.hfs_volume.specs.Changes.{AreSorted}
 use Rattle.hfs_volume.specs.Links.{AreGoodLinks, private_id, is_shared, is_shared_file, node_name}
 use Rattle.hfs_volume.specs.Records.{Placed, Overflow, Attribute, placed_in, entries_of, entry_of, record_at, is_placed_at, is_empty, is_file, id_in, is_link_type}
-use Rattle.hfs_volume.specs.TreeOf.{id_or_0, shared_file, named_id, plain_attributes, plain_node, is_linked, is_plain_folder, is_plain_file, node_in, node_found, threaded_node, BytesOf}
+use Rattle.hfs_volume.specs.TreeOf.{id_or_0, shared_file, named_id, plain_attributes, plain_node, is_linked, is_plain_folder, is_plain_file, node_in, node_found, threaded_node, BytesOf, empty_forks}
 use Rattle.hfs_volume.proofs.Flat.{found_none, found_some}
 use Rattle.hfs_volume.proofs.Members.{in_one}
 use Rattle.hfs_volume.proofs.Reaching.{flat_cases}
@@ -93,7 +93,7 @@ node_attributes attributes records bytes_of n stands =
     one m is false has = absurd (omega (arith, has.1))
 
     of_value : (e : Placed) (value : CatRecord) → Contains (node_in attributes records bytes_of e value) n → n.attributes ≡ plain_attributes attributes n.id
-    of_value e (Folder folder) has = one (plain_node attributes folder.fields true [] false) refl (is_plain_folder records e) has
+    of_value e (Folder folder) has = one (plain_node attributes folder.fields true empty_forks false) refl (is_plain_folder records e) has
     of_value e (File file) has = one (plain_node attributes file.fields false (bytes_of.file file) (is_linked records e)) refl (is_plain_file records e) has
     of_value e (Thread thread) has = absurd (omega (arith, has.1))
 

@@ -1,6 +1,7 @@
 pub mod Added
 pub mod Alike
 pub mod AttributesEdited
+pub mod AttributesThrough
 pub mod BareLoads
 pub mod Begun
 pub mod Besides
@@ -23,6 +24,7 @@ pub mod FileBytes
 pub mod FilesById
 pub mod FilesKept
 pub mod Fitted
+pub mod ForkKinds
 pub mod FoundEntry
 pub mod Framed
 pub mod Freeing
@@ -74,6 +76,7 @@ pub mod Routed
 pub mod Running
 pub mod Seeing
 pub mod Settling
+pub mod Sighted
 pub mod Sited
 pub mod Siting
 pub mod SoundForks

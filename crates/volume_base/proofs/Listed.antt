@@ -1,5 +1,5 @@
 -- What commands answer over a settled volume is what the step answers on its tree.
-use Rattle.std.proofs.Common.{◌≡◌, ℕ, false, List, refl, sym, ◌∙◌, ap, arith}
+use Rattle.std.proofs.Common.{◌≡◌, inl, ℕ, false, List, refl, sym, ◌∙◌, ap, arith}
 use Rattle.std.specs.Prelude.{◌||◌, Option, Result, Ok, Err, All, IfOk, take, drop, if◌then◌else◌, ◌≤◌, ◌∷◌, [], length, zero, suc}
 use Rattle.std.specs.List.{flat_map}
 use Rattle.sector_disk.specs.Lists.{Content}
@@ -18,6 +18,7 @@ use Rattle.hfs_language.specs.declared.reply.Reply.TheVariants as reply
 use Rattle.hfs_model.specs.Step.{is_private_path, step, step_line}
 use Rattle.hfs_volume.specs.Books.{SoundHasPlainTree}
 use Rattle.hfs_volume.specs.Content.{VolumeState, volume_of, records_of, overflow_in_volume, attributes_of}
+use Rattle.hfs_volume.specs.Forks.{data_kind}
 use Rattle.hfs_volume.specs.TreeOf.{tree_in, tree_of, seen_entry, threaded_node, file_bytes, bytes_in, valued}
 use Rattle.volume_base.specs.Listing.{replied, names_in}
 use Rattle.volume_base.specs.Lists.{lists_of}
@@ -75,7 +76,7 @@ pub facts_is : SoundHasPlainTree → (v : Volume) (content : Content) → HoldsT
 facts_is law v content holds settled path not_own fits =
     (λ i. facts_in (sym (ap (λ (l : VolumeState). l.catalog_pairs) settled.lists) i) (settled.private i) path)
     ∙ facts_same (volume_of content) settled.sound (settled_sorted v content holds settled) (tree_of content) (entries_are content) (settled_is_plain law v content holds settled)
-    (valued (bytes_in content) (attributes_of (volume_of content))) (bytes_in content) (nodes_are content) (bytes_long content settled.sound) path not_own fits
+    (valued (bytes_in content) (attributes_of (volume_of content))) (bytes_in content) (nodes_are content) (λ file entry stands value. bytes_long content settled.sound data_kind (inl refl) file entry stands value) path not_own fits
     ∙ sym (ap (λ b. (if b || false then (reply.No refusal.Private, tree_of content) else step (tree_of content) (command.Stat path)).0) not_own)
 
 -- the reply about what was found, and the one that tells the reason against it
@@ -129,9 +130,9 @@ file_there law v content holds settled path long not_own fits said found file ok
     (sym (λ i. file_in (sym (ap (λ (l : VolumeState). l.catalog_pairs) settled.lists) i) (settled.private i) path long) ∙ sym found ∙ ok)
 
 pub content_is : SoundHasPlainTree → (v : Volume) (content : Content) → HoldsTrees v content → IsSettled v content → (path : List (List ℕ)) (start long : ℕ) → is_private_path path ≡ false → FitsPath path
-    → replied (file_in (lists_of v content).catalog_pairs v.private path long) (λ file. reply.Content (take long (drop start (file_bytes content file)))) ≡ (step_line (tree_of content) (Ok (command.Read path start long))).0
+    → replied (file_in (lists_of v content).catalog_pairs v.private path long) (λ file. reply.Content (take long (drop start (file_bytes content file).data_bytes))) ≡ (step_line (tree_of content) (Ok (command.Read path start long))).0
 content_is law v content holds settled path start long not_own fits =
-    (λ i. replied (file_in (sym (ap (λ (l : VolumeState). l.catalog_pairs) settled.lists) i) (settled.private i) path long) (λ file. reply.Content (take long (drop start (file_bytes content file)))))
+    (λ i. replied (file_in (sym (ap (λ (l : VolumeState). l.catalog_pairs) settled.lists) i) (settled.private i) path long) (λ file. reply.Content (take long (drop start (file_bytes content file).data_bytes))))
     ∙ content_same (volume_of content) settled.sound (settled_sorted v content holds settled) (tree_of content) (entries_are content) (settled_is_plain law v content holds settled)
     (valued (bytes_in content) (attributes_of (volume_of content))) (bytes_in content) (nodes_are content) path start long not_own fits
     ∙ sym (ap (λ b. (if b || false then (reply.No refusal.Private, tree_of content) else step (tree_of content) (command.Read path start long)).0) not_own)
@@ -141,9 +142,9 @@ module _ (law : SoundHasPlainTree) (v : Volume) (content : Content) (holds : Hol
     (said : Result FileRecord Refusal) (found : said ≡ file_in (lists_of v content).catalog_pairs v.private path long)
   where
     abbrev word : Result FileRecord Refusal → Reply
-    word r = replied r (λ file. reply.Content (take long (drop start (file_bytes content file))))
+    word r = replied r (λ file. reply.Content (take long (drop start (file_bytes content file).data_bytes)))
 
-    pub told_content : (file : FileRecord) (bytes : List ℕ) → said ≡ Ok file → bytes ≡ take long (drop start (file_bytes content file)) → reply.Content bytes ≡ (step_line (tree_of content) (Ok (command.Read path start long))).0
+    pub told_content : (file : FileRecord) (bytes : List ℕ) → said ≡ Ok file → bytes ≡ take long (drop start (file_bytes content file).data_bytes) → reply.Content bytes ≡ (step_line (tree_of content) (Ok (command.Read path start long))).0
     told_content file bytes ok is = ap reply.Content is ∙ ap word (sym ok ∙ found) ∙ content_is law v content holds settled path start long not_own fits
 
     pub told_content_why : (why : Refusal) → said ≡ Err why → reply.No why ≡ (step_line (tree_of content) (Ok (command.Read path start long))).0

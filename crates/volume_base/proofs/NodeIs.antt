@@ -22,9 +22,12 @@ use Rattle.hfs_language.specs.declared.refusal.Refusal.{Refusal}
 use Rattle.hfs_language.specs.declared.refusal.Refusal.TheVariants as refusal
 use Rattle.hfs_language.specs.declared.reply.Facts.{Facts}
 use Rattle.hfs_language.specs.declared.reply.Reply.TheVariants as reply
-use Rattle.hfs_model.specs.Plain.{IsPlainTree, entries_in, node_at, names_of, is_node}
+use Rattle.hfs_model.specs.Extras.{entry_sight, file_sight, sight_in}
+use Rattle.hfs_model.specs.Plain.{IsPlainTree, entries_in, entry_at, is_at, link_bits, node_at, names_of, is_node}
 use Rattle.hfs_model.specs.Sorted.{kept}
-use Rattle.hfs_model.specs.Step.{journal_name, journal_info_name, private_name, is_private_name, is_private_path, most_bytes, root_entry, walk, to_node, facts_of, on, step, then_, unless}
+use Rattle.hfs_model.specs.Step.{journal_name, journal_info_name, private_name, is_private_name, is_private_path, most_bytes, root_entry, walk, to_node, facts_of, on, step, then_, to_read, unless}
+use Rattle.hfs_model.specs.declared.kinds.Sight.{Sight}
+use Rattle.hfs_model.specs.declared.kinds.Sight.TheVariants as sight
 use Rattle.hfs_model.specs.declared.plain.PlainEntry.{PlainEntry}
 use Rattle.hfs_model.specs.declared.plain.PlainNode.{PlainNode}
 use Rattle.hfs_model.specs.declared.plain.PlainTree.{PlainTree}
@@ -35,7 +38,7 @@ use Rattle.hfs_volume.specs.Laws.{IsShaped, one_if}
 use Rattle.hfs_volume.specs.Links.{private_id, folder_id, is_shared_file, is_link_to, links_to, node_name}
 use Rattle.hfs_volume.specs.Records.{Placed, Attribute, entries_of, record_at, is_placed_at, id_of, id_in, is_empty, is_folder, is_file, is_link, is_link_type, special_of, valence_in}
 use Rattle.hfs_volume.specs.Sound.{IsSoundVolume}
-use Rattle.hfs_volume.specs.TreeOf.{is_hidden, is_seen, is_linked, is_plain_folder, is_plain_file, id_or_0, shared_file, seen_entry, plain_entry, plain_node, node_in, threaded_node, BytesOf}
+use Rattle.hfs_volume.specs.TreeOf.{is_hidden, is_seen, is_linked, is_plain_folder, is_plain_file, id_or_0, shared_file, seen_entry, plain_entry, plain_node, node_in, threaded_node, type_bits_in, BytesOf, empty_forks}
 use Rattle.hfs_volume.proofs.Counting.{length_kept}
 use Rattle.hfs_volume.proofs.Fitting.{differs, none_counted, not_same}
 use Rattle.hfs_volume.proofs.Flat.{found_none, found_some}
@@ -43,14 +46,14 @@ use Rattle.hfs_volume.proofs.Hiding.{same_entry, one_there}
 use Rattle.hfs_volume.proofs.Marks.{link_is_seen, number_is, own_unseen, shared_hidden}
 use Rattle.hfs_volume.proofs.Members.{each_of, in_one, kept_cases, kept_stands}
 use Rattle.hfs_volume.proofs.NodesOf.{IsNodeOf, nodes_from}
-use Rattle.hfs_volume.proofs.Reaching.{IsFolder, Shows, err_or_ok, unless_ok, seen_shows, shows_seen, folder_no_link}
+use Rattle.hfs_volume.proofs.Reaching.{IsFolder, IsSeen, Shows, err_or_ok, front_is, is_seen_entry, unless_ok, seen_shows, seen_visible, shows_seen, folder_no_link}
 use Rattle.hfs_volume.proofs.Seeing.{same_number}
 use Rattle.hfs_volume.proofs.Sharing.{Links, shared_found, shared_is, linked_is, links_it}
 use Rattle.hfs_volume.proofs.Sides.{entry_is_record, is_entry_of, one_key}
 use Rattle.volume_base.specs.Stating.{own_entries, entries_told, names_told, facts_told, facts_in}
 use Rattle.volume_base.specs.Listing.{replied}
 use Rattle.volume_base.specs.Nodes.{folder_node, root_node, file_node, node_reached, node_in as node_for}
-use Rattle.volume_base.specs.Reaching.{walk_in}
+use Rattle.volume_base.specs.Reaching.{named, walk_in}
 use Rattle.volume_base.specs.Reading.{HasFile, to_read as to_read_, file_in}
 use Rattle.volume_base.specs.declared.nodes.Node.{Node}
 use Rattle.volume_base.specs.declared.nodes.Node.TheVariants as node
@@ -58,7 +61,7 @@ use Rattle.volume_base.specs.declared.reaching.Reached.{Reached}
 use Rattle.volume_base.specs.declared.reaching.Reached.TheVariants as reached
 use Rattle.volume_base.proofs.Identities.{key_found}
 use Rattle.volume_base.proofs.Tallies.{count_seen, count_entries, count_below, count_four}
-use Rattle.volume_base.proofs.Walked.{Agree, IsReached, ComesFrom, path_same}
+use Rattle.volume_base.proofs.Walked.{Agree, IsInner, IsReached, ComesFrom, in_folder, path_same}
 
 -- the file in a record that is one's
 file_of : (value : CatRecord) → is_file value ≡ true → (file : FileRecord) × (value ≡ File file)
@@ -336,7 +339,7 @@ module _ (volume : VolumeState) (sound : IsSoundVolume volume) (sorted : AreSort
 
       -- the folder or file of the tree that it is
       abbrev pub plain_of : Node → PlainNode
-      plain_of (node.Folder folder) = plain_node attributes folder.fields true [] false
+      plain_of (node.Folder folder) = plain_node attributes folder.fields true empty_forks false
       plain_of (node.File file linked) = plain_node attributes file.fields false (bytes_of.file file) linked
 
       -- a folder that users see has its entries, and a file so many names
@@ -353,16 +356,16 @@ module _ (volume : VolumeState) (sound : IsSoundVolume volume) (sorted : AreSort
         pub counts : Counts found
 
       abbrev Tells : Placed → CatRecord → PlainNode → Type 0
-      Tells p (Folder folder) n = n ≡ plain_node attributes folder.fields true [] false
+      Tells p (Folder folder) n = n ≡ plain_node attributes folder.fields true empty_forks false
       Tells p (File file) n = n ≡ plain_node attributes file.fields false (bytes_of.file file) (is_linked records p)
       Tells p (Thread thread) n = ⊥
 
       tells_of : (p : Placed) (value : CatRecord) (n : PlainNode) → Contains (node_in attributes records bytes_of p value) n → Tells p value n
       tells_of p (Folder folder) n has = by_test (is_plain_folder records p) has
         where
-          by_test : (b : Bool) → Contains (if b then plain_node attributes folder.fields true [] false ∷ [] else []) n → n ≡ plain_node attributes folder.fields true [] false
+          by_test : (b : Bool) → Contains (if b then plain_node attributes folder.fields true empty_forks false ∷ [] else []) n → n ≡ plain_node attributes folder.fields true empty_forks false
           by_test false none = absurd (omega (arith, none.1))
-          by_test true one = in_one (plain_node attributes folder.fields true [] false) n one
+          by_test true one = in_one (plain_node attributes folder.fields true empty_forks false) n one
       tells_of p (File file) n has = by_test (is_plain_file records p) has
         where
           by_test : (b : Bool) → Contains (if b then plain_node attributes file.fields false (bytes_of.file file) (is_linked records p) ∷ [] else []) n → n ≡ plain_node attributes file.fields false (bytes_of.file file) (is_linked records p)
@@ -474,7 +477,7 @@ module _ (volume : VolumeState) (sound : IsSoundVolume volume) (sorted : AreSort
                     counts = ap (names_of tree) (sym (ap id_in it.1)) ∙ link_names file.fields.special to.file to.stands to.shared ∙ ap (λ v. special_of (record { parent = to.file.parent; name = to.file.name; value = v })) it.1;
                   })
 
-          of_reached : (at : Reached) → ComesFrom volume.catalog_pairs next sound.entries.ids sound.entries.rooted sound.entries.threads (overflow_in_volume volume) sound.links.good sorted tree same_entries plain at e
+          pub of_reached : (at : Reached) → ComesFrom volume.catalog_pairs next sound.entries.ids sound.entries.rooted sound.entries.threads (overflow_in_volume volume) sound.links.good sorted tree same_entries plain at e
               → (e.folder ≡ true → IsFolder records next sound.entries.ids sound.entries.rooted e.id) → Agree IsNode (node_reached volume.catalog_pairs (private_id records) at) (Ok n)
           of_reached reached.Root comes is =
               let two : e.id ≡ 2 = ap (λ (x : PlainEntry). x.id) comes in
@@ -506,9 +509,114 @@ module _ (volume : VolumeState) (sound : IsSoundVolume volume) (sorted : AreSort
               subst (λ o. Agree IsNode (node_reached volume.catalog_pairs (private_id records) at) (ok_or o refusal.NotFound)) (sym it.node.1)
               (of_reached it.node.0 found.0 e (eqb-true it.node.0.id e.id found.1) at it.comes it.is_folder)
 
+      -- ---- what stands under a name
+
+      -- a folder of the tree is one that users see
+      pub folder_here : (n : PlainNode) → Contains tree.nodes n → n.folder ≡ true → IsFolder records next sound.entries.ids sound.entries.rooted n.id
+      folder_here n there folder = of_value (from n there).entry (from n there).stands (from n there).id (from n there).entry.value refl (from n there).has
+        where
+          of_value : (p : Placed) → Contains entries p → n.id ≡ id_of p → (v : CatRecord) → p.value ≡ v → Contains (node_in attributes records bytes_of p v) n → IsFolder records next sound.entries.ids sound.entries.rooted n.id
+          of_value p stands id (Folder f) is has = by_test (is_plain_folder records p) refl has
+            where
+              by_seen : (a b : Bool) → (id_of p == 2) ≡ a → is_seen records p ≡ b → is_plain_folder records p ≡ true → IsFolder records next sound.entries.ids sound.entries.rooted n.id
+              by_seen true b root seen named =
+                  subst (λ k. IsFolder records next sound.entries.ids sound.entries.rooted k) (sym (id ∙ eqb-true (id_of p) 2 root)) (front_is records next sound.entries.ids sound.entries.rooted tree same_entries ([] ∷ []) root_entry refl refl refl refl).0
+              by_seen false true root seen named = record {
+                folder = (p, stands, ap is_folder is, sym id);
+                visible = ap (is_hidden records) id ∙ seen_visible records next sound.entries.ids sound.entries.rooted p stands (seen_shows records p seen);
+              }
+              by_seen false false root seen named = absurd (true≢false (sym named ∙ (λ i. root i || seen i)))
+
+              by_test : (b : Bool) → is_plain_folder records p ≡ b → Contains (if b then plain_node attributes f.fields true empty_forks false ∷ [] else []) n → IsFolder records next sound.entries.ids sound.entries.rooted n.id
+              by_test true named one = by_seen (id_of p == 2) (is_seen records p) refl refl named
+              by_test false named none = absurd (omega (arith, none.1))
+          of_value p stands id (File f) is has = by_test (is_plain_file records p) has
+            where
+              by_test : (b : Bool) → Contains (if b then plain_node attributes f.fields false (bytes_of.file f) (is_linked records p) ∷ [] else []) n → IsFolder records next sound.entries.ids sound.entries.rooted n.id
+              by_test true one = absurd (true≢false (sym folder ∙ ap (λ (m : PlainNode). m.folder) (in_one (plain_node attributes f.fields false (bytes_of.file f) (is_linked records p)) n one)))
+              by_test false none = absurd (omega (arith, none.1))
+          of_value p stands id (Thread f) is none = absurd (omega (arith, none.1))
+
+      -- what a folder or file is seen as, by its record
+      abbrev pub sight_by : Result Node Refusal → Sight
+      sight_by (Ok (node.Folder folder)) = sight.Folder folder.fields.id
+      sight_by (Ok (node.File file linked)) = if type_bits_in file.fields.mode == link_bits then sight.Link (take 1024 (bytes_of.file file).data_bytes) else sight.File
+      sight_by (Err why) = sight.Absent
+
+      -- what stands under a name of a folder by the records is what stands there on the tree
+      pub sight_same : (id : ℕ) (name : List ℕ) → IsFolder records next sound.entries.ids sound.entries.rooted id → is_empty name ≡ false → ((id == 2) && is_private_name name) ≡ false
+          → sight_by (then_ (named (value_at volume.catalog_pairs id name)) (node_reached volume.catalog_pairs (private_id records))) ≡ sight_in tree id name
+      sight_same id name is some free =
+          by_entry (named (value_at volume.catalog_pairs id name)) (entry_at tree id name)
+          (in_folder volume.catalog_pairs next sound.entries.ids sound.entries.rooted sound.entries.threads (overflow_in_volume volume) sound.links.good sorted tree same_entries plain id name is some free)
+        where
+          by_found : (r : Result Node Refusal) (e : PlainEntry) (n : PlainNode) → e.id ≡ n.id → n.folder ≡ e.folder → node_at tree e.id ≡ Some n → Agree IsNode r (Ok n) → sight_by r ≡ entry_sight tree (Some e)
+          by_found (Err why) e n id_is folder at never = absurd never
+          by_found (Ok (node.Folder f)) e n id_is folder at it =
+              ap sight.Folder (ap (λ (m : PlainNode). m.id) (sym it.is) ∙ sym id_is)
+              ∙ sym (ap (λ b. if b then sight.Folder e.id else file_sight (node_at tree e.id)) (sym folder ∙ ap (λ (m : PlainNode). m.folder) it.is))
+          by_found (Ok (node.File f linked)) e n id_is folder at it =
+              ap (λ (m : PlainNode). file_sight (Some m)) (sym it.is) ∙ ap file_sight (sym at)
+              ∙ sym (ap (λ b. if b then sight.Folder e.id else file_sight (node_at tree e.id)) (sym folder ∙ ap (λ (m : PlainNode). m.folder) it.is))
+
+          by_entry : (r : Result Reached Refusal) (o : Option PlainEntry)
+              → Agree (IsInner volume.catalog_pairs next sound.entries.ids sound.entries.rooted sound.entries.threads (overflow_in_volume volume) sound.links.good sorted tree same_entries plain) r (ok_or o refusal.NotFound)
+              → sight_by (then_ r (node_reached volume.catalog_pairs (private_id records))) ≡ entry_sight tree o
+          by_entry (Err why) None agree = refl
+          by_entry (Ok at) None never = absurd never
+          by_entry (Err why) (Some e) never = absurd never
+          by_entry (Ok at) (Some e) it =
+              let node = it.reached.node in
+              let found = found_some (is_node e.id) tree.nodes node.0 node.1 in
+              let id_is : node.0.id ≡ e.id = eqb-true node.0.id e.id found.1 in
+              by_found (node_reached volume.catalog_pairs (private_id records) at) e node.0 (sym id_is) node.2 node.1 (of_reached node.0 found.0 e id_is at it.reached.comes it.reached.is_folder)
+
+      -- nothing is seen under no name, nor under one of the volume's own
+      pub nothing_seen : (id : ℕ) (name : List ℕ) → (is_empty name || ((id == 2) && is_private_name name)) ≡ true → sight_in tree id name ≡ sight.Absent
+      nothing_seen id name unseen = by_entry (entry_at tree id name) refl
+        where
+          by_tests : (p : Placed) → Shows records p → p.parent ≡ id → p.name ≡ name → (a b : Bool) → is_empty name ≡ a → ((id == 2) && is_private_name name) ≡ b → (a || b) ≡ true → ⊥
+          by_tests p shows parent same true b empty own both = true≢false (sym empty ∙ ap is_empty (sym same) ∙ shows.named)
+          by_tests p shows parent same false true empty own both = true≢false (sym own ∙ (λ i. (sym parent i == 2) && is_private_name (sym same i)) ∙ shows.not_own)
+          by_tests p shows parent same false false empty own both = true≢false (sym both)
+
+          by_entry : (o : Option PlainEntry) → entry_at tree id name ≡ o → entry_sight tree o ≡ sight.Absent
+          by_entry None found = refl
+          by_entry (Some e) found =
+              let it = found_some (is_at id name) tree.entries e found in
+              let seen = is_seen_entry records e (subst (λ l. Contains l e) same_entries it.0) in
+              let tests = and_parts (e.parent == id) (bytes_eq e.name name) it.1 in
+              absurd (by_tests seen.placed (seen_shows records seen.placed seen.seen) (ap (λ (x : PlainEntry). x.parent) seen.is ∙ eqb-true e.parent id tests.0) (ap (λ (x : PlainEntry). x.name) seen.is ∙ (bytes_eq-Decides e.name name).0 tests.1)
+              (is_empty name) ((id == 2) && is_private_name name) refl refl unseen)
+
+      -- the file that a path stands for by the records is the one on the tree
+      pub file_same : (path : List (List ℕ)) (long : ℕ) → is_private_path path ≡ false → FitsPath path → Agree (λ file n. IsNode (node.File file true) n ⊎ IsNode (node.File file false) n) (file_in volume.catalog_pairs (private_id records) path long) (to_read tree path long)
+      file_same path long not_own fits = by_node (node_for volume.catalog_pairs (private_id records) path) (to_node tree path) (node_same path not_own fits)
+        where
+          of_linked : (linked : Bool) (file : FileRecord) (n : PlainNode) → IsNode (node.File file linked) n → IsNode (node.File file true) n ⊎ IsNode (node.File file false) n
+          of_linked true file n it = inl it
+          of_linked false file n it = inr it
+
+          by_length : (b : Bool) (own : FileRecord) (n : PlainNode) → IsNode (node.File own true) n ⊎ IsNode (node.File own false) n
+              → Agree (λ file m. IsNode (node.File file true) m ⊎ IsNode (node.File file false) m) (unless b refusal.TooLarge own) (unless b refusal.TooLarge n)
+          by_length true own n it = refl
+          by_length false own n it = it
+
+          by_node : (r : Result Node Refusal) (s : Result PlainNode Refusal) → Agree IsNode r s
+              → Agree (λ file n. IsNode (node.File file true) n ⊎ IsNode (node.File file false) n) (then_ r (to_read_ long)) (then_ (then_ s (λ n. unless n.folder refusal.IsFolder n)) (λ file. unless (nat_lt most_bytes long) refusal.TooLarge file))
+          by_node (Err why) (Err other) agree = agree
+          by_node (Ok found) (Err other) never = absurd never
+          by_node (Err why) (Ok n) never = absurd never
+          by_node (Ok (node.Folder folder)) (Ok n) it =
+              subst (λ b. Agree (λ file m. IsNode (node.File file true) m ⊎ IsNode (node.File file false) m) (Err refusal.IsFolder) (then_ (unless b refusal.IsFolder n) (λ file. unless (nat_lt most_bytes long) refusal.TooLarge file)))
+              (sym (ap (λ (m : PlainNode). m.folder) it.is)) refl
+          by_node (Ok (node.File own linked)) (Ok n) it =
+              subst (λ b. Agree (λ file m. IsNode (node.File file true) m ⊎ IsNode (node.File file false) m) (unless (nat_lt most_bytes long) refusal.TooLarge own) (then_ (unless b refusal.IsFolder n) (λ file. unless (nat_lt most_bytes long) refusal.TooLarge file)))
+              (sym (ap (λ (m : PlainNode). m.folder) it.is)) (by_length (nat_lt most_bytes long) own n (of_linked linked own n it))
+
       -- ---- what `stat` answers
 
-      facts_is : ((file : FileRecord) (p : Placed) → Contains entries p → p.value ≡ File file → length (bytes_of.file file) ≡ file.data_fork.logical_size)
+      facts_is : ((file : FileRecord) (p : Placed) → Contains entries p → p.value ≡ File file → length (bytes_of.file file).data_bytes ≡ file.data_fork.logical_size)
           → (found : Node) (n : PlainNode) → IsNode found n → facts_told (own_entries (private_id records)) found ≡ facts_of tree n
       facts_is sized (node.Folder folder) n it =
           ap (λ k. record {
@@ -516,7 +624,7 @@ module _ (volume : VolumeState) (sound : IsSoundVolume volume) (sorted : AreSort
             id = folder.fields.id;
             size = k;
             links = 0;
-            mode = (plain_node attributes folder.fields true [] false).mode;
+            mode = (plain_node attributes folder.fields true empty_forks false).mode;
             created = folder.fields.created;
             changed = folder.fields.changed;
             attribute = folder.fields.attribute;
@@ -535,7 +643,7 @@ module _ (volume : VolumeState) (sound : IsSoundVolume volume) (sorted : AreSort
           })
           ∙ sym (ap (facts_of tree) it.is)
 
-      pub facts_same : ((file : FileRecord) (p : Placed) → Contains entries p → p.value ≡ File file → length (bytes_of.file file) ≡ file.data_fork.logical_size) → (path : List (List ℕ)) → is_private_path path ≡ false → FitsPath path
+      pub facts_same : ((file : FileRecord) (p : Placed) → Contains entries p → p.value ≡ File file → length (bytes_of.file file).data_bytes ≡ file.data_fork.logical_size) → (path : List (List ℕ)) → is_private_path path ≡ false → FitsPath path
           → facts_in volume.catalog_pairs (private_id records) path ≡ (step tree (command.Stat path)).0
       facts_same sized path not_own fits = by_node (node_for volume.catalog_pairs (private_id records) path) (to_node tree path) (node_same path not_own fits)
         where
@@ -560,16 +668,16 @@ module _ (volume : VolumeState) (sound : IsSoundVolume volume) (sorted : AreSort
               record { entry = it.entry; stands = it.stands; value = it.value ∙ ap (λ (f : FileRecord). File f) (unless_ok (nat_lt most_bytes long) refusal.TooLarge own file is).1 }
 
       pub content_same : (path : List (List ℕ)) (start long : ℕ) → is_private_path path ≡ false → FitsPath path
-          → replied (file_in volume.catalog_pairs (private_id records) path long) (λ file. reply.Content (take long (drop start (bytes_of.file file)))) ≡ (step tree (command.Read path start long)).0
+          → replied (file_in volume.catalog_pairs (private_id records) path long) (λ file. reply.Content (take long (drop start (bytes_of.file file).data_bytes))) ≡ (step tree (command.Read path start long)).0
       content_same path start long not_own fits = by_node (node_for volume.catalog_pairs (private_id records) path) (to_node tree path) (node_same path not_own fits)
         where
-          by_length : (b : Bool) (own : FileRecord) (n : PlainNode) → n.bytes ≡ bytes_of.file own
-              → replied (unless b refusal.TooLarge own) (λ file. reply.Content (take long (drop start (bytes_of.file file)))) ≡ (on tree (unless b refusal.TooLarge n) (λ file. (reply.Content (take long (drop start file.bytes)), tree))).0
+          by_length : (b : Bool) (own : FileRecord) (n : PlainNode) → n.bytes ≡ (bytes_of.file own).data_bytes
+              → replied (unless b refusal.TooLarge own) (λ file. reply.Content (take long (drop start (bytes_of.file file).data_bytes))) ≡ (on tree (unless b refusal.TooLarge n) (λ file. (reply.Content (take long (drop start file.bytes)), tree))).0
           by_length true own n same_bytes = refl
           by_length false own n same_bytes = ap (λ l. reply.Content (take long (drop start l))) (sym same_bytes)
 
           by_node : (r : Result Node Refusal) (s : Result PlainNode Refusal) → Agree IsNode r s
-              → replied (then_ r (to_read_ long)) (λ file. reply.Content (take long (drop start (bytes_of.file file))))
+              → replied (then_ r (to_read_ long)) (λ file. reply.Content (take long (drop start (bytes_of.file file).data_bytes)))
               ≡ (on tree (then_ (then_ s (λ n. unless n.folder refusal.IsFolder n)) (λ file. unless (nat_lt most_bytes long) refusal.TooLarge file)) (λ file. (reply.Content (take long (drop start file.bytes)), tree))).0
           by_node (Err why) (Err other) agree = ap reply.No agree
           by_node (Ok found) (Err other) never = absurd never

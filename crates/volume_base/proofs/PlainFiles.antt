@@ -20,7 +20,7 @@ use Rattle.hfs_volume.specs.Laws.{IsShaped}
 use Rattle.hfs_volume.specs.Records.{Placed, Overflow, entries_of, id_of, is_empty, is_link, is_link_type, is_thread, placed_in, record_at, special_of}
 use Rattle.hfs_volume.specs.Reclaim.{blocks_at, blocks_found, is_fork}
 use Rattle.hfs_volume.specs.Sound.{IsSoundVolume}
-use Rattle.hfs_volume.specs.TreeOf.{is_hidden, is_linked, is_plain_file, is_plain_folder, is_seen, node_in, plain_node, tree_in, BytesOf, valued}
+use Rattle.hfs_volume.specs.TreeOf.{is_hidden, is_linked, is_plain_file, is_plain_folder, is_seen, node_in, plain_node, tree_in, BytesOf, valued, empty_forks}
 use Rattle.hfs_volume.proofs.Marks.{link_is_seen, shared_hidden}
 use Rattle.hfs_volume.proofs.Members.{in_one}
 use Rattle.hfs_volume.proofs.NodesOf.{nodes_from}
@@ -36,7 +36,8 @@ pub record IsFileOf (volume : VolumeState) (bytes_of : BytesOf) (node : PlainNod
   pub stands : Contains (entries_of (records_of volume)) entry
   pub value : entry.value ≡ File file
   pub id : node.id ≡ file.fields.id
-  pub bytes : node.bytes ≡ bytes_of.file file
+  pub bytes : node.bytes ≡ (bytes_of.file file).data_bytes
+  pub resource : node.resource ≡ (bytes_of.file file).resource_bytes
   pub no_link : is_link_type file.fields ≡ false
   pub plain : is_plain_file (records_of volume) entry ≡ true
 
@@ -82,8 +83,8 @@ module _ (volume : VolumeState) (sound : IsSoundVolume volume) (sorted : AreSort
       of_value : (e : Placed) → Contains (entries_of (records_of volume)) e → node.id ≡ id_of e → (v : CatRecord) → e.value ≡ v → Contains (node_in (valued bytes_of (attributes_of volume)) (records_of volume) bytes_of e v) node → IsFileOf volume bytes_of node
       of_value e stands id (Folder f) is has = by_test (is_plain_folder (records_of volume) e) has
         where
-          by_test : (b : Bool) → Contains (if b then plain_node (valued bytes_of (attributes_of volume)) f.fields true [] false ∷ [] else []) node → IsFileOf volume bytes_of node
-          by_test true one = absurd (true≢false (sym (ap (λ (n : PlainNode). n.folder) (in_one (plain_node (valued bytes_of (attributes_of volume)) f.fields true [] false) node one)) ∙ no_folder))
+          by_test : (b : Bool) → Contains (if b then plain_node (valued bytes_of (attributes_of volume)) f.fields true empty_forks false ∷ [] else []) node → IsFileOf volume bytes_of node
+          by_test true one = absurd (true≢false (sym (ap (λ (n : PlainNode). n.folder) (in_one (plain_node (valued bytes_of (attributes_of volume)) f.fields true empty_forks false) node one)) ∙ no_folder))
           by_test false none = absurd (omega (arith, none.1))
       of_value e stands id (File f) is has = by_test (is_plain_file (records_of volume) e) refl has
         where
@@ -95,6 +96,7 @@ module _ (volume : VolumeState) (sound : IsSoundVolume volume) (sorted : AreSort
             value = is;
             id = id ∙ ap (λ (v : CatRecord). id_of (record e { value = v })) is;
             bytes = ap (λ (n : PlainNode). n.bytes) (in_one (plain_node (valued bytes_of (attributes_of volume)) f.fields false (bytes_of.file f) (is_linked (records_of volume) e)) node one);
+            resource = ap (λ (n : PlainNode). n.resource) (in_one (plain_node (valued bytes_of (attributes_of volume)) f.fields false (bytes_of.file f) (is_linked (records_of volume) e)) node one);
             no_link = sym (ap (λ (v : CatRecord). is_link (record e { value = v })) is) ∙ not_link e stands plain;
             plain = plain;
           }

@@ -11,7 +11,7 @@ use Rattle.hfs_language.specs.declared.command.Command.TheVariants as command
 use Rattle.hfs_language.specs.declared.refusal.Refusal.{Refusal}
 use Rattle.hfs_language.specs.declared.refusal.Refusal.TheVariants as refusal
 use Rattle.hfs_language.specs.declared.reply.Reply.TheVariants as reply
-use Rattle.hfs_model.specs.Plain.{IsPlainTree, node_at, is_node, with_changed}
+use Rattle.hfs_model.specs.Plain.{IsPlainTree, node_at, is_node, with_changed, with_mode}
 use Rattle.hfs_model.specs.Step.{is_private_path, then_, root_entry, walk, on, marked, step, step_line, to_node}
 use Rattle.hfs_model.specs.declared.plain.PlainEntry.{PlainEntry}
 use Rattle.hfs_model.specs.declared.plain.PlainNode.{PlainNode}
@@ -109,15 +109,15 @@ module _ (tree : PlainTree) (path : List (List ℕ)) (rights : ℕ) (not_own : i
   line = ap (λ b. if b || false then (reply.No refusal.Private, tree) else step tree (command.Chmod path rights)) not_own
 
   pub mode_replied : (node : PlainNode) → to_node tree path ≡ Ok node → reply.Ok ≡ (step_line tree (Ok (command.Chmod path rights))).0
-  mode_replied node is = sym (ap (λ s. s.0) line ∙ ap (λ r. (on tree r (λ (n : PlainNode). (reply.Ok, marked n.id (with_changed n.id (λ old. record old { mode = rights }) tree)))).0) is)
+  mode_replied node is = sym (ap (λ s. s.0) line ∙ ap (λ r. (on tree r (λ (n : PlainNode). (reply.Ok, marked n.id (with_changed n.id (with_mode rights) tree)))).0) is)
 
   pub mode_line : (step tree (command.Chmod path rights)).1 ≡ (step_line tree (Ok (command.Chmod path rights))).1
   mode_line = sym (ap (λ s. s.1) line)
 
   pub mode_refused : (why : Refusal) → to_node tree path ≡ Err why → (reply.No why ≡ (step_line tree (Ok (command.Chmod path rights))).0) × (tree ≡ (step_line tree (Ok (command.Chmod path rights))).1)
   mode_refused why is = (
-    sym (ap (λ s. s.0) line ∙ ap (λ r. (on tree r (λ (n : PlainNode). (reply.Ok, marked n.id (with_changed n.id (λ old. record old { mode = rights }) tree)))).0) is),
-    sym (ap (λ s. s.1) line ∙ ap (λ r. (on tree r (λ (n : PlainNode). (reply.Ok, marked n.id (with_changed n.id (λ old. record old { mode = rights }) tree)))).1) is),
+    sym (ap (λ s. s.0) line ∙ ap (λ r. (on tree r (λ (n : PlainNode). (reply.Ok, marked n.id (with_changed n.id (with_mode rights) tree)))).0) is),
+    sym (ap (λ s. s.1) line ∙ ap (λ r. (on tree r (λ (n : PlainNode). (reply.Ok, marked n.id (with_changed n.id (with_mode rights) tree)))).1) is),
   )
 
 pub mode_private : (tree : PlainTree) (path : List (List ℕ)) (rights : ℕ) → is_private_path path ≡ true → (reply.No refusal.Private ≡ (step_line tree (Ok (command.Chmod path rights))).0) × (tree ≡ (step_line tree (Ok (command.Chmod path rights))).1)

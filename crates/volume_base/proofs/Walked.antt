@@ -130,9 +130,9 @@ module _ (pairs : List Pair) (next : ℕ) (ids : HaveIds next (entries_of (place
       pub node : (node : PlainNode) × (node_at tree e.id ≡ Some node) × (node.folder ≡ e.folder)
 
     -- and isn't the root
-    record IsInner (at : Reached) (e : PlainEntry) : Type 0 where
-      reached : IsReached at e
-      not_root : e.folder ≡ true → e.id ≡ 2 → ⊥
+    pub record IsInner (at : Reached) (e : PlainEntry) : Type 0 where
+      pub reached : IsReached at e
+      pub not_root : e.folder ≡ true → e.id ≡ 2 → ⊥
 
     of_value : (parent : ℕ) (name : List ℕ) (value : CatRecord) → Contains (entries_of records) (record { parent = parent; name = name; value = value }) → Shows records (record { parent = parent; name = name; value = value }) → is_thread value ≡ false
         → Contains tree.entries (plain_entry records (record { parent = parent; name = name; value = value })) → Agree IsInner (named (Some value)) (Ok (plain_entry records (record { parent = parent; name = name; value = value })))
@@ -169,7 +169,7 @@ module _ (pairs : List Pair) (next : ℕ) (ids : HaveIds next (entries_of (place
       | inr high ↦ omega (arith, high.0, one, is.folder.3)
     ]
 
-    in_folder : (id : ℕ) (name : List ℕ) → IsFolder records next ids rooted id → is_empty name ≡ false → ((id == 2) && is_private_name name) ≡ false
+    pub in_folder : (id : ℕ) (name : List ℕ) → IsFolder records next ids rooted id → is_empty name ≡ false → ((id == 2) && is_private_name name) ≡ false
         → Agree IsInner (named (value_at pairs id name)) (ok_or (entry_at tree id name) refusal.NotFound)
     in_folder id name is some free = subst (λ o. Agree IsInner (named (value_at pairs id name)) (ok_or o refusal.NotFound)) (sym entry_is) (by_case (record_at records id name) refl)
       where

@@ -6,10 +6,17 @@ use Rattle.hx_bytes.specs.declared.extents.Extent.{Extent}
 use Rattle.hx_bytes.specs.declared.extents.ForkRecord.{ForkRecord}
 use Rattle.volume_header.specs.declared.header.VolumeHeader.{VolumeHeader}
 use Rattle.cat_records.specs.declared.record.FileRecord.{FileRecord}
-use Rattle.hfs_volume.specs.Forks.{data_kind}
+use Rattle.hfs_volume.specs.Forks.{data_kind, resource_kind}
 use Rattle.hfs_volume.specs.Reclaim.{least}
 use Rattle.overflow.specs.Records.{eight_at}
 use Rattle.volume_base.specs.declared.cutting.Cut.{Cut}
+use Rattle.volume_base.specs.declared.forks.ForkKind.{ForkKind}
+use Rattle.volume_base.specs.declared.forks.ForkKind.TheVariants as kinds
+
+-- the number that stands for a kind of fork
+abbrev pub kind_of : ForkKind → ℕ
+kind_of kinds.Data = data_kind
+kind_of kinds.Resource = resource_kind
 
 -- a file's fork of this kind
 abbrev pub fork_at : ℕ → FileRecord → ForkRecord

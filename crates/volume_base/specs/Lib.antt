@@ -1,3 +1,4 @@
+pub mod AttributesFile
 pub mod Attributing
 pub mod Changing
 pub mod Cutting
@@ -27,6 +28,7 @@ pub mod Removing
 pub mod Resizing
 pub mod Room
 pub mod Service
+pub mod Sighting
 pub mod Spreading
 pub mod Standing
 pub mod Stating

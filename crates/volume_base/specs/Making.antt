@@ -15,6 +15,7 @@ use Rattle.hfs_language.specs.declared.refusal.Refusal.{Refusal}
 use Rattle.hfs_language.specs.declared.refusal.Refusal.TheVariants as refusal
 use Rattle.hfs_model.specs.Step.{Place, then_, unless, is_root, front, last_name, is_private_path, to_make}
 use Rattle.hfs_model.specs.declared.plain.PlainTree.{PlainTree}
+use Rattle.hfs_volume.specs.Kinds.{link_finder}
 use Rattle.hfs_volume.specs.Changes.{AddsEntry}
 use Rattle.hfs_volume.specs.Commands.{entry_in, with_made}
 use Rattle.hfs_volume.specs.Cost.{catalog_key, growth, is_too_deep, tree_load}
@@ -114,10 +115,18 @@ abbrev pub new_value : Bool → ℕ → ℕ → CatRecord
 new_value true id moment = Folder (record { fields = new_fields id moment 16877 0 })
 new_value false id moment = File (record { fields = new_fields id moment 33188 2; data_fork = no_fork; resource_fork = no_fork })
 
+-- the record of a new symbolic link, with mode 0120755 and the type and creator `slnk` and `rhap`, whose data fork holds its target
+abbrev pub new_link_value : ℕ → ℕ → ForkRecord → CatRecord
+new_link_value id moment target = File (record { fields = record (new_fields id moment 41453 2) { finder = link_finder }; data_fork = target; resource_fork = no_fork })
+
 -- ---- the change
--- A folder (true) or file with the next CNID stands in a folder under a name, with its thread, and the header counts it and was put.
-pub record AddsNew (folder : Bool) (id : ℕ) (name : List ℕ) (old new : Volume) (before after : Content) : Type 0 where
-  pub adds : AddsEntry (entry_in (free_place id name) (new_value folder old.header.next_catalog_id old.header.modify_date)) (lists_of old before).catalog_pairs (lists_of new after).catalog_pairs
+-- A record stands in a folder under a name, with its thread, and the header counts one folder (true) or file more and was put.
+pub record AddsRecord (folder : Bool) (value : CatRecord) (id : ℕ) (name : List ℕ) (old new : Volume) (before after : Content) : Type 0 where
+  pub adds : AddsEntry (entry_in (free_place id name) value) (lists_of old before).catalog_pairs (lists_of new after).catalog_pairs
   pub changes : ChangesCatalog old new before after
   pub header : new.header ≡ with_made folder old.header
   pub headed : header_of_volume after ≡ new.header
+
+-- a folder (true) or file with the next CNID stands there, as it is made
+abbrev pub AddsNew : Bool → ℕ → List ℕ → Volume → Volume → Content → Content → Type 0
+AddsNew folder id name old new before after = AddsRecord folder (new_value folder old.header.next_catalog_id old.header.modify_date) id name old new before after

@@ -46,4 +46,4 @@ file_of (Some entry) = file_in_record entry.rec
 
 -- so many bytes of the file of the catalog with this CNID, from a place on
 abbrev pub bytes_by_id : Content → List Pair → ℕ → ℕ → ℕ → Option (List ℕ)
-bytes_by_id content pairs id from long = option_map (λ file. take long (drop from (file_bytes content file))) (file_of (entry_by_id pairs id))
+bytes_by_id content pairs id from long = option_map (λ file. take long (drop from (file_bytes content file).data_bytes)) (file_of (entry_by_id pairs id))

@@ -83,7 +83,7 @@ fn find_file<P: SectorSpace>(
 }
 
 /// The folder or file that was reached.
-fn node_reached<P: SectorSpace>(
+pub(crate) fn node_reached<P: SectorSpace>(
     alloc: Global,
     tree: &mut TreeFile,
     desk: &mut Desk,

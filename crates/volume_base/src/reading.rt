@@ -13,7 +13,10 @@ ghost use Rattle.hfs_model.specs.Plain.{node_at};
 ghost use Rattle.hfs_model.specs.Step.{step_line};
 ghost use Rattle.hfs_model.specs.declared.plain.PlainNode.{PlainNode};
 ghost use Rattle.hfs_volume.specs.Content.{volume_of, records_of};
-ghost use Rattle.hfs_volume.specs.TreeOf.{tree_of, file_bytes};
+ghost use Rattle.hfs_model.specs.Kinds.{kind_told};
+ghost use Rattle.hfs_model.specs.declared.kinds.KindEdit.TheVariants as edit;
+ghost use Rattle.hfs_volume.specs.TreeOf.{tree_of, bytes_in_fork};
+ghost use Rattle.volume_base.specs.Cutting.{fork_at, kind_of};
 ghost use Rattle.volume_base.specs.Frame.{Looked, Serves};
 ghost use Rattle.volume_base.specs.Lists.{lists_of};
 ghost use Rattle.volume_base.specs.Looking.{IsCatalogOver, ReadsTree};
@@ -22,10 +25,10 @@ ghost use Rattle.volume_base.specs.Reading.{HasFile, bytes_by_id, file_in_record
 
 use crate::entries::Entry;
 use crate::extents::inside_or_none;
+use crate::forks::{ForkKind, fork_of, number_of};
 use crate::looking::load_extents;
 use crate::names::is_private_path;
 use crate::nodes::{Node, find_node};
-use crate::opening::DATA;
 use crate::volume::Volume;
 use btree_edit::Desk;
 use btree_file::TreeFile;
@@ -153,7 +156,7 @@ pub(crate) fn read_fork<P: SectorSpace>(
 
 impl Volume {
     /// The file that a path stands for, of which so many bytes are asked, or the first reason against it.
-    fn file_to_read<P: SectorSpace>(
+    pub(crate) fn file_to_read<P: SectorSpace>(
         &mut self,
         alloc: Global,
         space: &mut P,
@@ -178,38 +181,40 @@ impl Volume {
         )
     }
 
-    /// So many bytes of a file from a place on, or fewer where the file ends.
-    fn read_file<P: SectorSpace>(
+    /// So many bytes of a file's fork from a place on, or fewer where the fork ends.
+    pub(crate) fn read_file<P: SectorSpace>(
         &mut self,
         alloc: Global,
         space: &mut P,
         file: &FileRecord,
+        kind: ForkKind,
         from: u64,
         long: u64,
     ) -> Result<Bytes, Trouble>
         requires serves { Serves self.old (P.SectorView.space space.old) }
         requires there { IsTrue (P.SectorView.space space.old).tells → HasFile (records_of (volume_of (P.SectorView.space space.old).content)) file.now }
         requires few { long ≤ 65536 }
-        ensures bytes { IsTrue (P.SectorView.space space.old).tells → IfOk result (λ bytes. bytes ≡ take long (drop from (file_bytes (P.SectorView.space space.old).content file.now))) }
+        ensures bytes { IsTrue (P.SectorView.space space.old).tells → IfOk result (λ bytes. bytes ≡ take long (drop from (bytes_in_fork (P.SectorView.space space.old).content file.now.fields.id (kind_of kind) (fork_at (kind_of kind) file.now)))) }
         ensures looked { Looked P.SectorView.space P.SectorView.follows self.old self.new space.old space.new result }
         ensures serves { Serves self.new (P.SectorView.space space.new) }
     {
         let block = self.header.block_size;
+        let fork = fork_of(kind, file);
         let list = load_extents(
             alloc,
             &mut self.extents.file,
             &mut self.extents.desk,
             space,
             file.fields.id,
-            DATA,
-            &file.data_fork,
+            number_of(kind),
+            &fork,
         )?;
         read_fork(
             alloc,
             space,
             list,
             block,
-            file.data_fork.logical_size,
+            fork.logical_size,
             from,
             long as u32,
         )
@@ -236,7 +241,14 @@ impl Volume {
     {
         let found = self.entry(alloc, space, id)?;
         match file_of(found) {
-            Some(file) => Ok(Some(self.read_file(alloc, space, &file, from, u64::from(long))?)),
+            Some(file) => Ok(Some(self.read_file(
+                alloc,
+                space,
+                &file,
+                ForkKind::Data,
+                from,
+                u64::from(long),
+            )?)),
             None => Ok(None),
         }
     }
@@ -264,7 +276,44 @@ impl Volume {
         }
         sound_has_plain_tree();
         match self.file_to_read(alloc, space, path, long)? {
-            Ok(file) => Ok(Reply::Content(self.read_file(alloc, space, &file, from, long)?)),
+            Ok(file) => Ok(Reply::Content(self.read_file(
+                alloc,
+                space,
+                &file,
+                ForkKind::Data,
+                from,
+                long,
+            )?)),
+            Err(why) => Ok(Reply::No(why)),
+        }
+    }
+
+    /// The reply to `rread`: so many bytes, 65,536 at most, of the resource fork of the file that a path stands for, from a place on, or fewer
+    /// where the fork ends; or the first reason against it, as `read` tells it. It changes nothing. `Memory` comes where memory is wanting, `Disk`
+    /// where a read failed.
+    pub fn read_resource<P: SectorSpace>(
+        &mut self,
+        alloc: Global,
+        space: &mut P,
+        path: &Path,
+        from: u64,
+        long: u64,
+    ) -> Result<Reply, Trouble>
+        requires serves { Serves self.old (P.SectorView.space space.old) }
+        requires fits { FitsPath path.now }
+        // Told, the reply is that of the plain tree's step.
+        ensures reply { IsTrue (P.SectorView.space space.old).tells → IfOk result (λ reply. reply ≡ (kind_told (tree_of (P.SectorView.space space.old).content) (edit.ResourceRead path.now from long)).0) }
+        ensures looked { Looked P.SectorView.space P.SectorView.follows self.old self.new space.old space.new result }
+        ensures serves { Serves self.new (P.SectorView.space space.new) }
+    {
+        if is_private_path(path) {
+            return Ok(Reply::No(Refusal::Private));
+        }
+        match self.file_at(alloc, space, path, long)? {
+            Ok(file) => {
+                let bytes = self.read_file(alloc, space, &file, ForkKind::Resource, from, long)?;
+                Ok(Reply::Content(bytes))
+            }
             Err(why) => Ok(Reply::No(why)),
         }
     }

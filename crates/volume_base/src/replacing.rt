@@ -1,17 +1,13 @@
 //! Another record of a folder or file, where it stands.
-ghost use Rattle.std.specs.Prelude.{ℕ, ◌≡◌, ◌≤◌, ◌+◌, List, Some, false, IsTrue, length, OnOk};
+ghost use Rattle.std.specs.Prelude.{ℕ, ◌≡◌, ◌+◌, List, false, IsTrue, OnOk};
 ghost use Rattle.catalog.specs.Entries.{IsOfKind};
 ghost use Rattle.btree_file.specs.Standing.{numbers_of};
 ghost use Rattle.btree_file.specs.State.{state_of};
-ghost use Rattle.catalog.specs.Pairs.{value_at};
 ghost use Rattle.catalog.specs.Rooms.{TakesUpdates};
 ghost use Rattle.cat_records.specs.Fits.{FitsRecord};
-ghost use Rattle.hfs_volume.specs.Entries.{AreSpelled};
 ghost use Rattle.hfs_volume.specs.Records.{is_thread};
-ghost use Rattle.volume_base.specs.Changing.{HasRoomToUpdate, HasRoomToUpdates, ReplacesRecord, catalog_node};
-ghost use Rattle.volume_base.specs.Frame.{Edits};
-ghost use Rattle.volume_base.specs.Lists.{lists_of};
-ghost use Rattle.volume_base.specs.Standing.{StandsOver};
+ghost use Rattle.volume_base.specs.Changing.{HasRoomToUpdates, ReplacesRecord, catalog_node};
+ghost use Rattle.volume_base.specs.Frame.{Edits, MayUpdate};
 
 use crate::entries::Entry;
 use crate::volume::Volume;
@@ -30,14 +26,10 @@ impl Volume {
         entry: &Entry,
         rec: &CatRecord,
     ) -> Result<(), Trouble>
-        requires stands { StandsOver self.old (P.SectorView.space space.old) }
-        requires spelled { IsTrue (P.SectorView.space space.old).tells → AreSpelled (lists_of self.old (P.SectorView.space space.old).content).catalog_pairs }
-        requires name { length entry.now.name ≤ 255 }
-        requires there { IsTrue (P.SectorView.space space.old).tells → value_at (lists_of self.old (P.SectorView.space space.old).content).catalog_pairs entry.now.parent entry.now.name ≡ Some entry.now.rec }
+        requires ready { MayUpdate self.old entry.now (P.SectorView.space space.old) }
         requires kind { is_thread rec.now ≡ false }
         requires fits { FitsRecord rec.now }
         requires same_kind { IsOfKind rec.now entry.now.rec }
-        requires room { HasRoomToUpdate self.old (P.SectorView.space space.old) }
         // Nothing else of it is changed.
         ensures rest { self.new ≡ record self.old { catalog = self.new.catalog } }
         ensures replaces { IsTrue (P.SectorView.space space.old).tells → OnOk result (ReplacesRecord entry.now rec.now self.old self.new (P.SectorView.space space.old).content (P.SectorView.space space.new).content) }

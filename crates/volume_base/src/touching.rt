@@ -1,14 +1,13 @@
 //! The folder above what a command makes, moves or removes.
-ghost use Rattle.std.specs.Prelude.{ℕ, ◌≡◌, ◌≤◌, ◌<◌, ◌+◌, ◌^◌, List, Some, false, true, IsTrue, length, OnOk};
+ghost use Rattle.std.specs.Prelude.{ℕ, ◌≡◌, ◌<◌, ◌+◌, ◌^◌, List, Some, false, true, IsTrue, OnOk};
 ghost use Rattle.btree_file.specs.Standing.{numbers_of};
 ghost use Rattle.btree_file.specs.State.{state_of};
-ghost use Rattle.catalog.specs.Pairs.{value_at};
 ghost use Rattle.catalog.specs.Rooms.{TakesUpdates};
 ghost use Rattle.cat_records.specs.Fits.{FitsRecord};
-ghost use Rattle.hfs_volume.specs.Entries.{AreSpelled, AreThreaded};
+ghost use Rattle.hfs_volume.specs.Entries.{AreThreaded};
 ghost use Rattle.hfs_volume.specs.Records.{id_in, is_folder, is_thread, valence_in};
 ghost use Rattle.volume_base.specs.Changing.{HasFolder, HasRoomToUpdate, HasRoomToUpdates, TouchesFolder, catalog_node};
-ghost use Rattle.volume_base.specs.Frame.{Edits};
+ghost use Rattle.volume_base.specs.Frame.{Edits, MayUpdate};
 ghost use Rattle.volume_base.specs.Lists.{lists_of};
 ghost use Rattle.volume_base.specs.Standing.{StandsOver};
 
@@ -30,12 +29,8 @@ impl Volume {
         up: u32,
         down: u32,
     ) -> Result<(), Trouble>
-        requires stands { StandsOver self.old (P.SectorView.space space.old) }
-        requires spelled { IsTrue (P.SectorView.space space.old).tells → AreSpelled (lists_of self.old (P.SectorView.space space.old).content).catalog_pairs }
-        requires name { length entry.now.name ≤ 255 }
-        requires there { IsTrue (P.SectorView.space space.old).tells → value_at (lists_of self.old (P.SectorView.space space.old).content).catalog_pairs entry.now.parent entry.now.name ≡ Some entry.now.rec }
+        requires ready { MayUpdate self.old entry.now (P.SectorView.space space.old) }
         requires fits { is_thread entry.now.rec ≡ false → FitsRecord entry.now.rec }
-        requires room { HasRoomToUpdate self.old (P.SectorView.space space.old) }
         ensures counts { IsTrue (P.SectorView.space space.old).tells → is_folder entry.now.rec ≡ true → valence_in entry.now.rec + up < 2 ^ 32
             → OnOk result (TouchesFolder (id_in entry.now.rec) up down self.old self.new (P.SectorView.space space.old).content (P.SectorView.space space.new).content) }
         ensures edits { Edits P.SectorView.space P.SectorView.follows (catalog_node self.old) self.old self.new space.old space.new result }

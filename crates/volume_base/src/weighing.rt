@@ -113,7 +113,7 @@ pub fn is_measured(room: &Room) -> bool
 }
 
 /// Whether a tree that is to be edited has nodes smaller than the format allows it.
-fn is_narrow(edits: u32, tree: &TreeCost) -> bool
+pub fn is_narrow(edits: u32, tree: &TreeCost) -> bool
     ensures wide { result ≡ false → 0 < edits → 4096 ≤ tree.now.node_size }
     ensures narrow { result ≡ true → tree.now.node_size < 4096 }
     ensures asked { result ≡ true → 0 < edits }

@@ -18,6 +18,7 @@ pub mod LinkAnew
 pub mod LinkLoads
 pub mod LossLoads
 pub mod LossWeight
+pub mod LinkFields
 pub mod LinkLost
 pub mod LinkMade
 pub mod LinkWeight
@@ -37,3 +38,5 @@ pub mod Shared
 pub mod Taken
 pub mod Unlinked
 pub mod Owned
+mod FindersTry
+mod FreeNumbers

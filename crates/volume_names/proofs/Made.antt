@@ -153,9 +153,11 @@ module _ (v : Volume) (a : Space) (settled : IsSettled v a.content) where
           (λ (high : (16 ≤ id_of owner.0) × (id_of owner.0 < (volume_of a.content).head.next_catalog_id)). omega (arith, high.1, same))
           (each_of (λ (q : Placed). IsUserId (volume_of a.content).head.next_catalog_id (id_of q)) (entries_of (placed_in (volume_of a.content).catalog_pairs)) settled.sound.entries.ids.each owner.0 owner.1))
 
+  pub next_unused : record_at (placed_in (lists_of v a.content).catalog_pairs) v.header.next_catalog_id [] ≡ None
+  next_unused = (λ i. record_at (placed_in (sym pairs_are i)) (sym (ap (λ (h : VolumeHeader). h.next_catalog_id) head_is) i) []) ∙ unused_before
+
   pub unused : (rec : CatRecord) → id_in rec ≡ v.header.next_catalog_id → record_at (placed_in (lists_of v a.content).catalog_pairs) (id_in rec) [] ≡ None
-  unused rec number =
-      (λ i. record_at (placed_in (sym pairs_are i)) ((number ∙ sym (ap (λ (h : VolumeHeader). h.next_catalog_id) head_is)) i) []) ∙ unused_before
+  unused rec number = ap (λ (n : ℕ). record_at (placed_in (lists_of v a.content).catalog_pairs) n []) number ∙ next_unused
 
   -- the counts of the header can go up by one
   pub counts_fit : v.header.next_catalog_id + 1 < 2 ^ 32 → (v.header.folder_count + 1 < 2 ^ 32) × (v.header.file_count + 1 < 2 ^ 32)

@@ -78,7 +78,7 @@ module _ (law : ChmodDoes) (halves : (volume : VolumeState) → SoundIsBoth volu
       headed = sets.replaces.headed ∙ header_settled v a.content settled ∙ sym header_same
 
       private : private_id (placed_in (lists_of w b.content).catalog_pairs) ≡ private_id (placed_in (lists_of v a.content).catalog_pairs)
-      private = private_after_fields (id_in entry.rec) (volume_of a.content) (lists_then a.content w b.content) changes ((halves (volume_of a.content)).0 settled.sound).0 ∙ ap (λ (l : List Pair). private_id (placed_in l)) pairs_are
+      private = private_after_fields (id_in entry.rec) (volume_of a.content) (lists_then a.content w b.content) changes.does ((halves (volume_of a.content)).0 settled.sound).0 ∙ ap (λ (l : List Pair). private_id (placed_in l)) pairs_are
 
       settled_now : IsSettled w b.content
       settled_now = settles_again v w a b sets.replaces.changes settled was stands headed does.0 private

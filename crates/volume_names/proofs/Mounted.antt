@@ -64,7 +64,7 @@ pub record KeepsBits (old new : ℕ) : Type 0 where
   pub reused : bit_at new 12 ≡ bit_at old 12
   pub journaled : bit_at new 13 ≡ bit_at old 13
 
-mounted_bits : (n : ℕ) → KeepsBits n (n - (n / 256 % 2) * 256)
+mounted_bits : (n : ℕ) → KeepsBits n ((n - (n / 256 % 2) * 256) % 2 ^ 31)
 mounted_bits n = record { reused = omega arith; journaled = omega arith }
 
 unmounted_bits : (n : ℕ) → KeepsBits n (bit_or n 256)
@@ -83,7 +83,7 @@ refusal_same sectors head n keeps = λ i.
     else None
 
 mark_good : (in_use : Bool) (sectors : ℕ) (head : VolumeHeader) → IsGoodHeader sectors head → IsGoodHeader sectors (with_numbers head (marked_header in_use head))
-mark_good true sectors head good = record { accepted = refusal_same sectors head (head.attributes - (head.attributes / 256 % 2) * 256) (mounted_bits head.attributes) ∙ good.accepted; next_id = good.next_id }
+mark_good true sectors head good = record { accepted = refusal_same sectors head ((head.attributes - (head.attributes / 256 % 2) * 256) % 2 ^ 31) (mounted_bits head.attributes) ∙ good.accepted; next_id = good.next_id }
 mark_good false sectors head good = record { accepted = refusal_same sectors head (bit_or head.attributes 256) (unmounted_bits head.attributes) ∙ good.accepted; next_id = good.next_id }
 
 mark_remounts : (in_use : Bool) (head : VolumeHeader) → IsRemounted head (marked_header in_use head)
@@ -153,7 +153,7 @@ mark_fits flags version count head low short few was = record {
 }
 
 pub mounted_fits : (head : VolumeHeader) → FitsHeader head → FitsHeader (mounted_header head)
-mounted_fits head was = mark_fits (head.attributes - (head.attributes / 256 % 2) * 256) 0x4846534A ((head.write_count + 1) % 2 ^ 32) head (omega (arith, was.attributes)) (omega arith) (omega arith) was
+mounted_fits head was = mark_fits ((head.attributes - (head.attributes / 256 % 2) * 256) % 2 ^ 31) 0x4846534A ((head.write_count + 1) % 2 ^ 32) head (omega (arith, was.attributes)) (omega arith) (omega arith) was
 
 pub unmounted_fits : (head : VolumeHeader) → FitsHeader head → FitsHeader (unmounted_header head)
 unmounted_fits head was = mark_fits (bit_or head.attributes 256) head.last_mounted_version head.write_count head (or_of_32 head.attributes 256 was.attributes (omega arith)) was.last_mounted_version was.write_count was

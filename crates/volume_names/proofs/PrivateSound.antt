@@ -2,7 +2,7 @@
 use Rattle.std.proofs.Common.{◌≡◌, ℕ, ◌+◌, ◌<◌, ◌≤◌, Bool, true, false, List, [], ◌∷◌, inl, inr, refl, sym, ◌∙◌, ap, subst, arith}
 use Rattle.std.proofs.Math.Bool.{and-false}
 use Rattle.std.proofs.lemmas.Bool.{eqb-true, true≢false}
-use Rattle.std.specs.Prelude.{Contains, ◌==◌, ◌&&◌, count_by, Option, None, Some, is_some, slice_index_or, if◌then◌else◌}
+use Rattle.std.specs.Prelude.{Contains, ◌%◌, ◌==◌, ◌&&◌, count_by, Option, None, Some, is_some, slice_index_or, if◌then◌else◌}
 use Rattle.std.specs.List.{range_with_len}
 use Rattle.std.specs.Str.{bytes_eq}
 use Rattle.volume_header.specs.declared.header.VolumeHeader.{VolumeHeader}
@@ -11,6 +11,7 @@ use Rattle.cat_records.specs.declared.record.CatRecord.{CatRecord}
 use Rattle.cat_records.specs.declared.record.CatRecord.TheVariants.{Folder, File, Thread}
 use Rattle.hfs_model.specs.Step.{private_name, with_private}
 use Rattle.hfs_model.specs.declared.plain.PlainTree.{PlainTree}
+use Rattle.hfs_model.specs.Plain.{new_node}
 use Rattle.hfs_volume.specs.Blocks.{HasBits, HasSizes, GoesOn, is_among, used_in}
 use Rattle.hfs_volume.specs.Commands.{IsRecountedAlone, with_fields, with_made}
 use Rattle.hfs_volume.specs.Content.{VolumeState, records_of, overflow_in_volume}
@@ -20,7 +21,7 @@ use Rattle.hfs_volume.specs.Laws.{AreEmptyForks, HeaderChanged, IsFirstPrivate, 
 use Rattle.hfs_volume.specs.Links.{HaveLinkCounts, folder_id, private_id}
 use Rattle.hfs_volume.specs.Records.{Overflow, Placed, entries_of, id_of, is_empty, is_file, is_folder, is_placed_at, is_thread, record_at, valence_in}
 use Rattle.hfs_volume.specs.Sound.{IsSoundVolume}
-use Rattle.hfs_volume.specs.TreeOf.{BytesOf, plain_attributes, plain_node, tree_in}
+use Rattle.hfs_volume.specs.TreeOf.{BytesOf, empty_forks, plain_attributes, plain_node, tree_in, type_bits_in}
 use Rattle.hfs_volume.proofs.Adding.{added_count, added_shaped, added_side, added_used, first_private, no_child_yet}
 use Rattle.hfs_volume.proofs.AddingSeen.{tree_private}
 use Rattle.hfs_volume.proofs.Fields.{BytesBy, Views, id_of_fields, not_thread, valence_now}
@@ -42,7 +43,8 @@ use Rattle.volume_names.specs.PrivateFolder.{OpensPrivate, with_one_folder}
 alone_views : (up down : ℕ) (before after : EntryFields) → IsRecountedAlone up down before after → Views (λ n. n) before after
 alone_views up down before after is attributes folder bytes linked = λ i. record (plain_node attributes before folder bytes linked) {
   id = sym is.recounted.id i;
-  mode = sym is.mode i;
+  type_bits = type_bits_in (sym is.mode i);
+  mode = sym is.mode i % 4096;
   created = sym is.created i;
   changed = sym is.changed i;
   attribute = sym is.attribute i;
@@ -87,10 +89,10 @@ module _ (law : HeaderChanged) (old new : VolumeState) (sound : IsSoundVolume ol
 
   -- no file has a byte, nor has a value
   abbrev no_bytes : BytesOf
-  no_bytes = record { file = λ _. []; value = λ size extents. [] }
+  no_bytes = record { file = λ _. empty_forks; value = λ size extents. [] }
 
-  facts : NewFacts true old.head.next_catalog_id old.head.modify_date no_bytes made.value
-  facts = new_facts true old.head.next_catalog_id old.head.modify_date no_bytes made.value (λ file none. refl) made.is_new
+  facts : NewFacts true old.head.next_catalog_id (new_node true old.head.next_catalog_id old.head.modify_date) no_bytes made.value
+  facts = new_facts true old.head.next_catalog_id old.head.modify_date no_bytes made.value (λ file none other. refl) made.is_new
 
   number : id_of folder ≡ old.head.next_catalog_id
   number = facts.id

@@ -2,21 +2,17 @@
 ghost use Rattle.std.specs.Prelude.{◌≡◌, ◌≤◌, ℕ, List, IsTrue, IfOk, OnOk};
 ghost use Rattle.attributes.specs.Owned.{count_of, extents_owned};
 ghost use Rattle.attributes.specs.Values.{AreValued};
-ghost use Rattle.btree_node.specs.Keys.{IsAttrKey, attr_cmp, anything};
-ghost use Rattle.btree_node.specs.TreeFile.{attributes_form};
-ghost use Rattle.btree_edit.specs.Causes.{HasTroubleCause};
-ghost use Rattle.btree_edit.specs.Desk.{IsDeskOf};
 ghost use Rattle.btree_edit.specs.Edits.{EditRoom, TakesAtMost};
 ghost use Rattle.btree_file.specs.Frame.{FollowsOn};
-ghost use Rattle.btree_file.specs.Standing.{HoldsTree, LiesInside, LiesOpen, numbers_of, pairs_in};
+ghost use Rattle.btree_file.specs.Standing.{pairs_in};
 ghost use Rattle.btree_file.specs.State.{sectors_of_tree, state_of};
-ghost use Rattle.hfs_volume.specs.Changes.{AreSortedAttributes};
 ghost use Rattle.hfs_volume.specs.Commands.{DropsAttributes};
 ghost use Rattle.hfs_volume.specs.Content.{has_attributes};
 ghost use Rattle.volume_base.specs.Attributing.{ChangesAttributes};
 ghost use Rattle.volume_base.specs.Frame.{Edits};
 ghost use Rattle.volume_base.specs.Lists.{lists_of};
 ghost use Rattle.volume_base.specs.Standing.{StandsOver};
+ghost use Rattle.volume_base.specs.AttributesFile.{EditsAttributes, IsAttributesFile};
 
 use attributes::drop_all;
 use btree_edit::Desk;
@@ -36,24 +32,12 @@ fn drop_owned<P: SectorSpace>(
     id: u32,
     most: u32,
 ) -> Result<ExtentList, Trouble>
-    requires desk { IsDeskOf (numbers_of tree.old).node_size desk.old }
-    requires inside { LiesInside tree.old (P.SectorView.space space.old) }
-    requires open { LiesOpen tree.old (P.SectorView.space space.old) }
-    requires holds { IsTrue (P.SectorView.space space.old).tells → HoldsTree attributes_form IsAttrKey anything attr_cmp tree.old (P.SectorView.space space.old).content }
-    requires values { IsTrue (P.SectorView.space space.old).tells → AreValued (pairs_in (sectors_of_tree tree.old) (P.SectorView.space space.old).content) }
+    requires ready { IsAttributesFile tree.old desk.old (P.SectorView.space space.old) }
     requires few { IsTrue (P.SectorView.space space.old).tells → count_of id (pairs_in (sectors_of_tree tree.old) (P.SectorView.space space.old).content) ≤ most }
-    requires size { 4096 ≤ (numbers_of tree.old).node_size }
     requires room { (names : List ℕ) → IsTrue (P.SectorView.space space.old).tells → EditRoom most 266 (state_of names tree.old (P.SectorView.space space.old)) }
     ensures blocks { IsTrue (P.SectorView.space space.old).tells → IfOk result (λ blocks. blocks ≡ extents_owned (pairs_in (sectors_of_tree tree.old) (P.SectorView.space space.old).content) id) }
-    ensures sorted { IsTrue (P.SectorView.space space.old).tells → OnOk result (AreSortedAttributes (pairs_in (sectors_of_tree tree.old) (P.SectorView.space space.new).content)) }
+    ensures edits { EditsAttributes P.SectorView.space P.SectorView.follows most tree.old tree.new desk.new space.old space.new result }
     ensures dropped { IsTrue (P.SectorView.space space.old).tells → OnOk result (DropsAttributes id (pairs_in (sectors_of_tree tree.old) (P.SectorView.space space.old).content) (pairs_in (sectors_of_tree tree.old) (P.SectorView.space space.new).content)) }
-    ensures holds { IsTrue (P.SectorView.space space.old).tells → OnOk result (HoldsTree attributes_form IsAttrKey anything attr_cmp tree.new (P.SectorView.space space.new).content) }
-    ensures frame { FollowsOn tree.old tree.new (P.SectorView.space space.old) (P.SectorView.space space.new) }
-    // At most one edit for each record was made, on a fault too.
-    ensures takes { (names : List ℕ) → TakesAtMost most 266 (state_of names tree.old (P.SectorView.space space.old)) (state_of names tree.new (P.SectorView.space space.new)) }
-    ensures desk { IsDeskOf (numbers_of tree.new).node_size desk.new }
-    ensures below { P.SectorView.follows space.old space.new }
-    ensures cause { HasTroubleCause (P.SectorView.space space.old).faults (P.SectorView.space space.new).faults result }
 {
     let mut on = TreeOn { tree, space };
     let dropped = drop_all(alloc, &mut on, desk, id, most)?;

@@ -3,20 +3,21 @@ ghost use Rattle.std.specs.Prelude.{◌≡◌, ◌<◌, ◌≤◌, ◌+◌, ◌^
 ghost use Rattle.btree_file.specs.Frame.{PutsWithin};
 ghost use Rattle.btree_file.specs.Standing.{numbers_of};
 ghost use Rattle.catalog.specs.Pairs.{value_at};
+ghost use Rattle.cat_records.specs.Fits.{FitsRecord};
 ghost use Rattle.hfs_language.specs.Written.{FitsPath};
 ghost use Rattle.hfs_language.specs.declared.command.Command.TheVariants as command;
 ghost use Rattle.hfs_model.specs.Step.{made, refuses, step_line, to_make};
 ghost use Rattle.hfs_volume.specs.Changes.{with_numbers};
 ghost use Rattle.hfs_volume.specs.Commands.{MakesEntry, with_made};
 ghost use Rattle.hfs_volume.specs.Content.{volume_of};
-ghost use Rattle.hfs_volume.specs.Records.{placed_in, record_at};
+ghost use Rattle.hfs_volume.specs.Records.{id_in, is_thread, placed_in, record_at};
 ghost use Rattle.hfs_volume.specs.TreeOf.{tree_of};
 ghost use Rattle.hfs_volume.specs.Weight.{weight};
 ghost use Rattle.hfs_volume.specs.declared.cost.Cost.TheVariants as cost;
 ghost use Rattle.volume_base.specs.Changing.{HasRoomToUpdate, PutsHeader};
 ghost use Rattle.volume_base.specs.Frame.{Edits, Serves};
 ghost use Rattle.volume_base.specs.Lists.{lists_of};
-ghost use Rattle.volume_base.specs.Making.{AddsNew, HasRoomToMake, IsSite, entry_load, free_place, make_load, making, new_value, path_to};
+ghost use Rattle.volume_base.specs.Making.{AddsNew, AddsRecord, HasRoomToMake, IsSite, entry_load, free_place, make_load, making, new_value, path_to};
 ghost use Rattle.volume_names.specs.EditsLeft.{HasEditsLeft, HasLoadFor};
 ghost use Rattle.volume_names.specs.Making.{HasNew, Makes};
 ghost use Rattle.volume_base.specs.Room.{capacity_of};
@@ -25,6 +26,7 @@ ghost use Rattle.volume_runs.specs.Told.{of_made};
 
 use crate::changing::add;
 use crate::new_entries::{new_record, with_made};
+use cat_records::CatRecord;
 use hfs_language::{ChangeKind, Changes, Path};
 use hfs_volume::{create_does_its_step, mkdir_does_its_step, sound_has_plain_tree};
 use hx_bytes::{Trouble, Units};
@@ -51,6 +53,45 @@ pub(crate) fn draw<P: SectorSpace>(volume: &mut Volume, space: &mut P, folder: b
     volume.put_header(space);
 }
 
+/// Adds an entry with this record, which has the next CNID, to a folder, with its thread; the header counts one folder (true) or file more. `Memory`
+/// comes where memory is wanting, `Disk` where a read failed.
+pub fn add_record<P: SectorSpace>(
+    volume: &mut Volume,
+    alloc: Global,
+    space: &mut P,
+    id: u32,
+    name: &Units,
+    folder: bool,
+    rec: &CatRecord,
+) -> Result<(), Trouble>
+    requires stands { StandsOver volume.old (P.SectorView.space space.old) }
+    // Nothing has the next CNID, and the header's counts can go up by one.
+    requires unused { IsTrue (P.SectorView.space space.old).tells → record_at (placed_in (lists_of volume.old (P.SectorView.space space.old).content).catalog_pairs) volume.old.header.next_catalog_id [] ≡ None }
+    requires counts { IsTrue (P.SectorView.space space.old).tells → (volume.old.header.folder_count + 1 < 2 ^ 32) × (volume.old.header.file_count + 1 < 2 ^ 32) }
+    requires size { 4096 ≤ (numbers_of volume.old.catalog.file).node_size }
+    requires some { 1 ≤ length name.now }
+    requires name { length name.now ≤ 255 }
+    requires free { IsTrue (P.SectorView.space space.old).tells → record_at (placed_in (lists_of volume.old (P.SectorView.space space.old).content).catalog_pairs) id name.now ≡ None }
+    requires room { HasRoomToMake volume.old (P.SectorView.space space.old) }
+    requires fits { FitsRecord rec.now }
+    requires kind { is_thread rec.now ≡ false }
+    requires drawn { id_in rec.now ≡ volume.old.header.next_catalog_id }
+    ensures adds { IsTrue (P.SectorView.space space.old).tells → OnOk result (AddsRecord folder rec.now id name.now volume.old volume.new (P.SectorView.space space.old).content (P.SectorView.space space.new).content) }
+    ensures room { OnOk result (HasRoomToUpdate volume.new (P.SectorView.space space.new)) }
+    ensures is_put { IsTrue (P.SectorView.space space.old).tells → OnOk result (IsTrue ((P.SectorView.space space.new).put 2)) }
+    ensures edits { Edits P.SectorView.space P.SectorView.follows (1 + entry_load volume.old) volume.old volume.new space.old space.new result }
+    // Where the load of two edits more has room beside the header's sector and these sectors, the others have room beside these behind it.
+    ensures left { (edits beside : ℕ) → HasLoadFor (2 + edits) (1 + beside) volume.old (P.SectorView.space space.old) → OnOk result (HasEditsLeft edits beside volume.new (P.SectorView.space space.new)) }
+    // On a fault too, these sectors are left.
+    ensures beside { (edits beside : ℕ) → HasLoadFor (2 + edits) (1 + beside) volume.old (P.SectorView.space space.old) → IsTrue (P.SectorView.space space.old).tells → beside ≤ (P.SectorView.space space.new).spare }
+{
+    edits_have_room();
+    edits_take_their_load();
+    draw(volume, space, folder);
+    add(volume, alloc, space, id, name, rec)?;
+    Ok(())
+}
+
 /// Adds a new folder or file to a folder, with the next CNID.
 pub(crate) fn add_new<P: SectorSpace>(
     volume: &mut Volume,
@@ -75,16 +116,12 @@ pub(crate) fn add_new<P: SectorSpace>(
     // On a fault too, these sectors are left.
     ensures beside { (edits beside : ℕ) → HasLoadFor (2 + edits) (1 + beside) volume.old (P.SectorView.space space.old) → IsTrue (P.SectorView.space space.old).tells → beside ≤ (P.SectorView.space space.new).spare }
 {
-    edits_have_room();
-    edits_take_their_load();
     let rec = new_record(
         folder,
         volume.header.next_catalog_id,
         volume.header.modify_date,
     );
-    draw(volume, space, folder);
-    add(volume, alloc, space, id, name, &rec)?;
-    Ok(())
+    add_record(volume, alloc, space, id, name, folder, &rec)
 }
 
 /// Makes a folder or file of this name in the folder with this CNID.

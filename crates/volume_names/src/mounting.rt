@@ -16,14 +16,15 @@ use volume_base::Volume;
 use volume_header::VolumeHeader;
 
 /// The header as a mount writes it: by a system that keeps the journal, not unmounted, and written once more (TN1150,
-/// "Volume Header").
+/// "Volume Header"). Bit 31, by which macOS says that free nodes of the catalog are zero, is clear: a node that is given back
+/// keeps its bytes.
 fn mounted(head: &VolumeHeader) -> VolumeHeader
     ensures same { result ≡ mounted_header head.now }
     ensures fits { FitsHeader head.now → FitsHeader result }
 {
     let mut changed = *head;
     changed.last_mounted_version = 0x4846_534A;
-    changed.attributes = head.attributes - head.attributes / 256 % 2 * 256;
+    changed.attributes = (head.attributes - head.attributes / 256 % 2 * 256) % 0x8000_0000;
     changed.write_count = head.write_count.wrapping_add(1);
     changed
 }

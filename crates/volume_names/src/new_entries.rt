@@ -1,13 +1,15 @@
 //! The records of new folders and files, and the header that counts them.
 ghost use Rattle.std.specs.Prelude.{◌≡◌, ◌<◌, ◌^◌, ◌+◌, true, false};
 ghost use Rattle.cat_records.specs.Fits.{FitsEntry, FitsRecord};
+ghost use Rattle.hx_bytes.specs.Fork.{FitsFork};
 ghost use Rattle.hfs_volume.specs.Changes.{with_numbers};
 ghost use Rattle.hfs_volume.specs.Commands.{with_made};
 ghost use Rattle.hfs_volume.specs.Records.{id_in, is_thread};
 ghost use Rattle.volume_header.specs.Header.{FitsHeader};
-ghost use Rattle.volume_base.specs.Making.{new_fields, new_value};
+ghost use Rattle.volume_base.specs.Making.{new_fields, new_link_value, new_value};
 
 use cat_records::{CatRecord, EntryFields, FileRecord, FolderRecord};
+use hx_bytes::ForkRecord;
 use volume_base::EMPTY;
 use volume_header::VolumeHeader;
 
@@ -62,6 +64,26 @@ fn new_file(id: u32, moment: u32) -> CatRecord
     CatRecord::File(FileRecord {
         fields: new_fields(id, moment, 0o100_644, HAS_THREAD),
         data_fork: EMPTY,
+        resource_fork: EMPTY,
+    })
+}
+
+/// The Finder type and creator of a symbolic link, `slnk` and `rhap`, and nothing behind them (TN1150, "Finder Info").
+const LINK_FINDER: [u8; 32] = *b"slnkrhap\0\0\0\0\0\0\0\0\0\0\0\0\0\0\0\0\0\0\0\0\0\0\0\0";
+
+/// The record of a new symbolic link, with mode 0755, whose data fork holds its target.
+pub fn new_link(id: u32, moment: u32, target: ForkRecord) -> CatRecord
+    requires target { FitsFork target }
+    ensures same { result ≡ new_link_value id moment target }
+    ensures fits { FitsRecord result }
+    ensures kind { is_thread result ≡ false }
+    ensures id { id_in result ≡ id }
+{
+    let mut fields = new_fields(id, moment, 0o120_755, HAS_THREAD);
+    fields.finder = LINK_FINDER;
+    CatRecord::File(FileRecord {
+        fields,
+        data_fork: target,
         resource_fork: EMPTY,
     })
 }

@@ -1,13 +1,12 @@
 //! The private folder, made by itself where there is none.
-ghost use Rattle.std.specs.Prelude.{ℕ, ◌≡◌, ◌≤◌, ◌<◌, ◌+◌, ◌^◌, None, Some, false, true, IsTrue, IfSome, length, OnOk};
+ghost use Rattle.std.specs.Prelude.{ℕ, ◌≡◌, ◌≤◌, ◌<◌, ◌+◌, ◌^◌, None, Some, false, true, IsTrue, IfSome, OnOk};
 ghost use Rattle.btree_file.specs.Standing.{numbers_of};
 ghost use Rattle.catalog.specs.Entries.{IsOfKind};
-ghost use Rattle.catalog.specs.Pairs.{value_at};
 ghost use Rattle.cat_records.specs.Fits.{FitsEntry, FitsRecord};
-ghost use Rattle.hfs_volume.specs.Entries.{AreSpelled, AreThreaded};
+ghost use Rattle.hfs_volume.specs.Entries.{AreThreaded};
 ghost use Rattle.hfs_volume.specs.Records.{id_in, is_folder, is_thread, valence_in};
 ghost use Rattle.volume_base.specs.Changing.{HasFolder, HasRoomToUpdate, catalog_node};
-ghost use Rattle.volume_base.specs.Frame.{Edits, Serves};
+ghost use Rattle.volume_base.specs.Frame.{Edits, MayUpdate, Serves};
 ghost use Rattle.volume_base.specs.Lists.{lists_of};
 ghost use Rattle.volume_base.specs.Making.{HasRoomToMake};
 ghost use Rattle.volume_names.specs.EditsLeft.{HasEditsLeft, HasLoadFor};
@@ -63,12 +62,8 @@ fn put_recounted<P: SectorSpace>(
     entry: &Entry,
     up: u32,
 ) -> Result<(), Trouble>
-    requires stands { StandsOver volume.old (P.SectorView.space space.old) }
-    requires spelled { IsTrue (P.SectorView.space space.old).tells → AreSpelled (lists_of volume.old (P.SectorView.space space.old).content).catalog_pairs }
-    requires name { length entry.now.name ≤ 255 }
-    requires there { IsTrue (P.SectorView.space space.old).tells → value_at (lists_of volume.old (P.SectorView.space space.old).content).catalog_pairs entry.now.parent entry.now.name ≡ Some entry.now.rec }
+    requires ready { MayUpdate volume.old entry.now (P.SectorView.space space.old) }
     requires fits { is_thread entry.now.rec ≡ false → FitsRecord entry.now.rec }
-    requires room { HasRoomToUpdate volume.old (P.SectorView.space space.old) }
     ensures counts { IsTrue (P.SectorView.space space.old).tells → is_folder entry.now.rec ≡ true → valence_in entry.now.rec + up < 2 ^ 32
         → OnOk result (RecountsFolder (id_in entry.now.rec) up volume.old volume.new (P.SectorView.space space.old).content (P.SectorView.space space.new).content) }
     ensures edits { Edits P.SectorView.space P.SectorView.follows (catalog_node volume.old) volume.old volume.new space.old space.new result }

@@ -1,7 +1,6 @@
 //! `chmod`: the rights of a folder or file.
-ghost use Rattle.std.specs.Prelude.{◌≡◌, ◌<◌, ◌≤◌, ◌+◌, ℕ, List, Ok, Some, false, true, IsTrue, IfOk, length, OnOk};
+ghost use Rattle.std.specs.Prelude.{◌≡◌, ◌<◌, ◌≤◌, ◌+◌, ℕ, List, Ok, Some, false, true, IsTrue, IfOk, OnOk};
 ghost use Rattle.std.specs.List.{Contains};
-ghost use Rattle.catalog.specs.Pairs.{value_at};
 ghost use Rattle.cat_records.specs.Fits.{FitsRecord};
 ghost use Rattle.hfs_language.specs.Written.{FitsPath};
 ghost use Rattle.hfs_language.specs.declared.command.Command.TheVariants as command;
@@ -10,17 +9,15 @@ ghost use Rattle.hfs_model.specs.Step.{step, step_line, to_node, is_refusal};
 ghost use Rattle.hfs_model.specs.declared.plain.PlainNode.{PlainNode};
 ghost use Rattle.hfs_volume.specs.Commands.{ChangesMode};
 ghost use Rattle.hfs_volume.specs.Content.{volume_of};
-ghost use Rattle.hfs_volume.specs.Entries.{AreSpelled};
 ghost use Rattle.hfs_volume.specs.Records.{is_thread};
 ghost use Rattle.hfs_volume.specs.TreeOf.{tree_of};
 ghost use Rattle.hfs_volume.specs.Weight.{weight};
 ghost use Rattle.hfs_volume.specs.declared.cost.Cost.TheVariants as cost;
 ghost use Rattle.volume_base.specs.Changing.{HasRoomToUpdate, catalog_node};
 ghost use Rattle.volume_names.specs.Changing.{SetsRights};
-ghost use Rattle.volume_base.specs.Frame.{Edits, Serves};
-ghost use Rattle.volume_base.specs.Lists.{lists_of};
+ghost use Rattle.volume_base.specs.Frame.{Edits, MayUpdate, Serves};
 ghost use Rattle.volume_base.specs.Room.{capacity_of};
-ghost use Rattle.volume_base.specs.Standing.{IsSettled, StandsOver};
+ghost use Rattle.volume_base.specs.Standing.{IsSettled};
 
 use crate::fields::with_mode;
 use hfs_language::{Path, Refusal, Reply};
@@ -38,12 +35,8 @@ fn put_mode<P: SectorSpace>(
     entry: &Entry,
     rights: u16,
 ) -> Result<(), Trouble>
-    requires stands { StandsOver volume.old (P.SectorView.space space.old) }
-    requires spelled { IsTrue (P.SectorView.space space.old).tells → AreSpelled (lists_of volume.old (P.SectorView.space space.old).content).catalog_pairs }
-    requires name { length entry.now.name ≤ 255 }
-    requires there { IsTrue (P.SectorView.space space.old).tells → value_at (lists_of volume.old (P.SectorView.space space.old).content).catalog_pairs entry.now.parent entry.now.name ≡ Some entry.now.rec }
+    requires ready { MayUpdate volume.old entry.now (P.SectorView.space space.old) }
     requires fits { is_thread entry.now.rec ≡ false → FitsRecord entry.now.rec }
-    requires room { HasRoomToUpdate volume.old (P.SectorView.space space.old) }
     ensures rest { volume.new ≡ record volume.old { catalog = volume.new.catalog } }
     ensures sets { IsTrue (P.SectorView.space space.old).tells → is_thread entry.now.rec ≡ false
         → OnOk result (SetsRights volume.old.header.modify_date rights entry.now volume.old volume.new (P.SectorView.space space.old).content (P.SectorView.space space.new).content) }

@@ -1,12 +1,11 @@
 //! The attribute date of what a command did something to.
-ghost use Rattle.std.specs.Prelude.{ℕ, ◌≡◌, ◌≤◌, ◌+◌, Some, false, IsTrue, length, OnOk};
-ghost use Rattle.catalog.specs.Pairs.{value_at};
+ghost use Rattle.std.specs.Prelude.{ℕ, ◌≡◌, ◌+◌, Some, false, IsTrue, OnOk};
 ghost use Rattle.cat_records.specs.Fits.{FitsRecord};
-ghost use Rattle.hfs_volume.specs.Entries.{AreSpelled, AreThreaded};
+ghost use Rattle.hfs_volume.specs.Entries.{AreThreaded};
 ghost use Rattle.hfs_volume.specs.Records.{id_in, is_thread};
 ghost use Rattle.volume_names.specs.Changing.{DatesEntry, HasEntry};
 ghost use Rattle.volume_base.specs.Changing.{HasRoomToUpdate, HasRoomToUpdates, catalog_node};
-ghost use Rattle.volume_base.specs.Frame.{Edits};
+ghost use Rattle.volume_base.specs.Frame.{Edits, MayUpdate};
 ghost use Rattle.volume_base.specs.Lists.{lists_of};
 ghost use Rattle.volume_base.specs.Standing.{StandsOver};
 
@@ -23,12 +22,8 @@ fn put_dated<P: SectorSpace>(
     space: &mut P,
     entry: &Entry,
 ) -> Result<(), Trouble>
-    requires stands { StandsOver volume.old (P.SectorView.space space.old) }
-    requires spelled { IsTrue (P.SectorView.space space.old).tells → AreSpelled (lists_of volume.old (P.SectorView.space space.old).content).catalog_pairs }
-    requires name { length entry.now.name ≤ 255 }
-    requires there { IsTrue (P.SectorView.space space.old).tells → value_at (lists_of volume.old (P.SectorView.space space.old).content).catalog_pairs entry.now.parent entry.now.name ≡ Some entry.now.rec }
+    requires ready { MayUpdate volume.old entry.now (P.SectorView.space space.old) }
     requires fits { is_thread entry.now.rec ≡ false → FitsRecord entry.now.rec }
-    requires room { HasRoomToUpdate volume.old (P.SectorView.space space.old) }
     ensures dates { IsTrue (P.SectorView.space space.old).tells → is_thread entry.now.rec ≡ false → OnOk result (DatesEntry (id_in entry.now.rec) volume.old volume.new (P.SectorView.space space.old).content (P.SectorView.space space.new).content) }
     ensures edits { Edits P.SectorView.space P.SectorView.follows (catalog_node volume.old) volume.old volume.new space.old space.new result }
     // What is left of the room for so many updates suffices for the others.

@@ -4,19 +4,18 @@ ghost use Rattle.btree_edit.specs.Edits.{EditRoom};
 ghost use Rattle.btree_file.specs.Standing.{numbers_of};
 ghost use Rattle.btree_file.specs.State.{state_of};
 ghost use Rattle.catalog.specs.Entries.{IsOfKind};
-ghost use Rattle.catalog.specs.Pairs.{value_at};
 ghost use Rattle.cat_records.specs.Fits.{FitsEntry, FitsRecord};
 ghost use Rattle.hard_links.specs.Linking.{NamesLink};
 ghost use Rattle.hfs_language.specs.declared.command.Command.TheVariants as command;
 ghost use Rattle.hfs_model.specs.Step.{step};
 ghost use Rattle.hfs_model.specs.declared.plain.PlainEntry.{PlainEntry};
-ghost use Rattle.hfs_volume.specs.Entries.{AreSpelled, AreThreaded};
+ghost use Rattle.hfs_volume.specs.Entries.{AreThreaded};
 ghost use Rattle.hfs_volume.specs.Records.{id_in, is_file, is_thread};
 ghost use Rattle.hfs_volume.specs.TreeOf.{tree_of};
 ghost use Rattle.volume_base.specs.Changing.{HasRoomToUpdate, HasRoomToUpdates, catalog_node};
 ghost use Rattle.volume_base.specs.Entering.{entry_by_id};
 ghost use Rattle.volume_names.specs.Linking.{CountsUp};
-ghost use Rattle.volume_base.specs.Frame.{Edits, Serves};
+ghost use Rattle.volume_base.specs.Frame.{Edits, MayUpdate, Serves};
 ghost use Rattle.volume_base.specs.Lists.{lists_of};
 ghost use Rattle.volume_base.specs.Losing.{IsLoss};
 ghost use Rattle.volume_names.specs.EditsLeft.{HasEditsLeft, HasLoadFor, LeavesBeside};
@@ -118,12 +117,8 @@ pub(crate) fn put_links<P: SectorSpace>(
     entry: &Entry,
     links: u32,
 ) -> Result<(), Trouble>
-    requires stands { StandsOver volume.old (P.SectorView.space space.old) }
-    requires spelled { IsTrue (P.SectorView.space space.old).tells → AreSpelled (lists_of volume.old (P.SectorView.space space.old).content).catalog_pairs }
-    requires name { length entry.now.name ≤ 255 }
-    requires there { IsTrue (P.SectorView.space space.old).tells → value_at (lists_of volume.old (P.SectorView.space space.old).content).catalog_pairs entry.now.parent entry.now.name ≡ Some entry.now.rec }
+    requires ready { MayUpdate volume.old entry.now (P.SectorView.space space.old) }
     requires fits { is_thread entry.now.rec ≡ false → FitsRecord entry.now.rec }
-    requires room { HasRoomToUpdate volume.old (P.SectorView.space space.old) }
     // What is left of the room for so many updates suffices for the others.
     ensures room { (many : ℕ) → HasRoomToUpdates (many + 1) volume.old (P.SectorView.space space.old) → OnOk result (HasRoomToUpdates many volume.new (P.SectorView.space space.new)) }
     ensures counts { IsTrue (P.SectorView.space space.old).tells → is_file entry.now.rec ≡ true → is_plain entry.now.rec ≡ true
@@ -144,12 +139,8 @@ fn put_link_less<P: SectorSpace>(
     space: &mut P,
     entry: &Entry,
 ) -> Result<(), Trouble>
-    requires stands { StandsOver volume.old (P.SectorView.space space.old) }
-    requires spelled { IsTrue (P.SectorView.space space.old).tells → AreSpelled (lists_of volume.old (P.SectorView.space space.old).content).catalog_pairs }
-    requires name { length entry.now.name ≤ 255 }
-    requires there { IsTrue (P.SectorView.space space.old).tells → value_at (lists_of volume.old (P.SectorView.space space.old).content).catalog_pairs entry.now.parent entry.now.name ≡ Some entry.now.rec }
+    requires ready { MayUpdate volume.old entry.now (P.SectorView.space space.old) }
     requires fits { is_thread entry.now.rec ≡ false → FitsRecord entry.now.rec }
-    requires room { HasRoomToUpdate volume.old (P.SectorView.space space.old) }
     ensures counts { IsTrue (P.SectorView.space space.old).tells → is_file entry.now.rec ≡ true → is_plain entry.now.rec ≡ true
         → OnOk result (CountsDown (id_in entry.now.rec) volume.old volume.new (P.SectorView.space space.old).content (P.SectorView.space space.new).content) }
     ensures edits { Edits P.SectorView.space P.SectorView.follows (catalog_node volume.old) volume.old volume.new space.old space.new result }
@@ -169,12 +160,8 @@ pub(crate) fn put_link_more<P: SectorSpace>(
     space: &mut P,
     entry: &Entry,
 ) -> Result<(), Trouble>
-    requires stands { StandsOver volume.old (P.SectorView.space space.old) }
-    requires spelled { IsTrue (P.SectorView.space space.old).tells → AreSpelled (lists_of volume.old (P.SectorView.space space.old).content).catalog_pairs }
-    requires name { length entry.now.name ≤ 255 }
-    requires there { IsTrue (P.SectorView.space space.old).tells → value_at (lists_of volume.old (P.SectorView.space space.old).content).catalog_pairs entry.now.parent entry.now.name ≡ Some entry.now.rec }
+    requires ready { MayUpdate volume.old entry.now (P.SectorView.space space.old) }
     requires fits { is_thread entry.now.rec ≡ false → FitsRecord entry.now.rec }
-    requires room { HasRoomToUpdate volume.old (P.SectorView.space space.old) }
     ensures counts { IsTrue (P.SectorView.space space.old).tells → is_file entry.now.rec ≡ true → is_plain entry.now.rec ≡ true
         → OnOk result (CountsUp (id_in entry.now.rec) volume.old volume.new (P.SectorView.space space.old).content (P.SectorView.space space.new).content) }
     ensures edits { Edits P.SectorView.space P.SectorView.follows (catalog_node volume.old) volume.old volume.new space.old space.new result }

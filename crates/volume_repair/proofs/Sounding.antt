@@ -5,14 +5,14 @@ use Rattle.hfs_volume.specs.Content.{VolumeState}
 use Rattle.hfs_volume.specs.Attributing.{RemountKeeps}
 use Rattle.hfs_volume.specs.Blocks.{AgreesWith}
 use Rattle.hfs_volume.specs.Sound.{IsSoundVolume}
-use Rattle.hfs_volume.specs.TreeOf.{BytesOf}
+use Rattle.hfs_volume.specs.TreeOf.{BytesOf, empty_forks}
 
 -- the header with another version
 abbrev pub with_version : VolumeHeader → ℕ → VolumeHeader
 with_version head version = record head { last_mounted_version = version }
 
 no_bytes : BytesOf
-no_bytes = record { file = λ file. []; value = λ size extents. [] }
+no_bytes = record { file = λ file. empty_forks; value = λ size extents. [] }
 
 pub version_sound : RemountKeeps → (volume : VolumeState) (version : ℕ) → IsSoundVolume volume → IsSoundVolume (record volume { head = with_version volume.head version })
 version_sound law volume version sound = (law (with_version volume.head version) volume no_bytes sound

@@ -1,3 +1,5 @@
+pub mod Fits
+pub mod Kinds
 pub mod Rest
 pub mod Run
 pub mod Told

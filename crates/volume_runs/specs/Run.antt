@@ -1,5 +1,5 @@
--- Runs: lines, each with its reply and the contents before and after it.
-use Rattle.std.specs.Prelude.{◌≡◌, ◌≢◌, ◌⊎◌, ◌<◌, ◌≤◌, ℕ, ◌+◌, nat_lt, Bool, true, false, List, [], ◌∷◌, ◌++◌, length, map, take, drop, slice_index, All, Option, Some, None, Result, Ok, Err, IsTrue, ◌||◌, if◌then◌else◌}
+-- Runs: commands, each with its reply and the contents before and after it.
+use Rattle.std.specs.Prelude.{◌≡◌, ◌≢◌, ◌⊎◌, ◌<◌, ◌≤◌, ℕ, ◌+◌, ◌==◌, nat_lt, Bool, true, false, List, [], ◌∷◌, ◌++◌, length, map, take, drop, slice_index, All, Option, Some, None, Result, Ok, Err, IsTrue, ◌||◌, if◌then◌else◌}
 use Rattle.jnl_format.specs.Recovery.{Content}
 use Rattle.hfs_language.specs.Language.{command_of}
 use Rattle.hfs_language.specs.Text.{reply_text}
@@ -9,6 +9,12 @@ use Rattle.hfs_language.specs.declared.refusal.Refusal.{Refusal}
 use Rattle.hfs_language.specs.declared.refusal.Refusal.TheVariants as refusal
 use Rattle.hfs_language.specs.declared.reply.Reply.{Reply}
 use Rattle.hfs_language.specs.declared.reply.Reply.TheVariants as reply
+use Rattle.hfs_model.specs.Kinds.{kind_refuses, kind_told}
+use Rattle.hfs_model.specs.declared.kinds.KindEdit.{KindEdit}
+use Rattle.hfs_model.specs.declared.kinds.KindEdit.TheVariants as kinds
+use Rattle.hfs_volume.specs.declared.asked.Asked.{Asked}
+use Rattle.hfs_volume.specs.declared.asked.Asked.TheVariants.{Kind, Plain}
+use Rattle.hfs_volume.specs.KindWeight.{fork_of_edit, kind_data_of, kind_only_reads, kind_weight}
 use Rattle.hfs_volume.specs.declared.cost.Cost.TheVariants as cost
 use Rattle.hfs_model.specs.declared.plain.PlainNode.{PlainNode}
 use Rattle.hfs_model.specs.declared.plain.PlainTree.{PlainTree}
@@ -16,28 +22,45 @@ use Rattle.hfs_model.specs.Step.{step_line, refuses, to_file, only_reads}
 use Rattle.hfs_volume.specs.Content.{VolumeState, volume_of}
 use Rattle.hfs_volume.specs.Sound.{IsSound}
 use Rattle.hfs_volume.specs.TreeOf.{tree_of}
-use Rattle.hfs_volume.specs.Weight.{changes_nothing, data_of, weight, gauge, edits_of, needs_cut}
-use Rattle.hfs_volume.specs.Data.{PutsInFork, PutsInValues}
-use Rattle.hfs_volume.specs.Reclaim.{GrowsTrees}
+use Rattle.hfs_volume.specs.Weight.{changes_nothing, data_of, weight, gauge, edits_of, needs_cut, needs_cut_in}
+use Rattle.hfs_volume.specs.Data.{PutsInFork, PutsInForkOf, PutsInValues}
+use Rattle.hfs_volume.specs.Reclaim.{GrowsTrees, SameValues}
 use Rattle.volume_runs.specs.Rest.{Rests}
 
 -- ---- entries
 
--- A line that was served: its reply, and what the volume stood for before and after it.
+-- A command that was served: its line or, where no line of the plain language asked for it, the command itself; its reply, and what the volume stood
+-- for before and after it.
 pub record Entry : Type 0 where
   pub line : List ℕ
+  pub own : Option Asked
   pub reply : Reply
   pub before : Content
   pub after : Content
 
--- what the line asks for, or why it spells no command
+-- what was asked for in the plain language, or why no command of it was: a command on a link or a resource fork is none
+abbrev pub asked_in : Option Asked → List ℕ → Result Command Refusal
+asked_in None line = command_of line
+asked_in (Some (Plain asked)) line = Ok asked
+asked_in (Some (Kind asked)) line = Err refusal.BadCommand
+
+-- the same of an entry
 abbrev pub asked_by : Entry → Result Command Refusal
-asked_by entry = command_of entry.line
+asked_by entry = asked_in entry.own entry.line
 
 -- the command, if one was spelled
-abbrev pub spelled : Result Command Refusal → Option Command
-spelled (Ok asked) = Some asked
+abbrev pub spelled : Result Command Refusal → Option Asked
+spelled (Ok asked) = Some (Plain asked)
 spelled (Err why) = None
+
+-- the command that was served, if one was asked for
+abbrev pub wanted_in : Option Asked → List ℕ → Option Asked
+wanted_in None line = spelled (command_of line)
+wanted_in (Some asked) line = Some asked
+
+-- the same of an entry
+abbrev pub wanted_by : Entry → Option Asked
+wanted_by entry = wanted_in entry.own entry.line
 
 -- the reply of a command's step, but that `df` is answered by the volume
 abbrev pub reply_to : ℕ → Content → Result Command Refusal → Reply
@@ -82,17 +105,65 @@ pub record LacksMemory (capacity : ℕ) (entry : Entry) : Type 0 where
   pub reply_is : entry.reply ≡ reply.No refusal.OutOfMemory
   pub same : entry.after ≡ entry.before
 
+-- ---- commands on symbolic links and resource forks
+
+-- `rwrite` of no byte changes nothing
+abbrev pub puts_nothing : KindEdit → Bool
+puts_nothing (kinds.Symlink path value) = false
+puts_nothing (kinds.ResourceWrite path from value) = length value == 0
+puts_nothing (kinds.ResourceRead path from long) = false
+
+-- A command that its step doesn't refuse was done: nothing was missing for it, no tree had to grow for it any more, and no blocks past the size
+-- stood in its way; no tree has other nodes, of the forks only the one that it puts data into has other blocks, and each value has its own.
+pub record IsKindDone (capacity : ℕ) (asked : KindEdit) (old new : Content) : Type 0 where
+  pub load : ℕ
+  pub affords : kind_weight capacity (volume_of old) (tree_of old) asked ≡ cost.Load load (0 ∷ 0 ∷ 0 ∷ [])
+  pub no_surplus : needs_cut_in (fork_of_edit asked) (volume_of old) (kind_data_of (tree_of old) asked) ≡ false
+  pub grows : GrowsTrees (0 ∷ 0 ∷ 0 ∷ []) (volume_of old) (volume_of new)
+  pub forks : PutsInForkOf (fork_of_edit asked) (kind_data_of (tree_of old) asked) (volume_of old) (volume_of new)
+  pub values : SameValues (volume_of old) (volume_of new)
+  pub reads : IsTrue (kind_only_reads asked || puts_nothing asked) → new ≡ old
+
+-- The command has its reply and its tree.
+pub record IsKindAnswered (capacity : ℕ) (asked : KindEdit) (entry : Entry) : Type 0 where
+  pub reply_is : entry.reply ≡ (kind_told (tree_of entry.before) asked).0
+  pub tree : tree_of entry.after ≡ (kind_told (tree_of entry.before) asked).1
+  pub refused : IsTrue (kind_refuses (tree_of entry.before) asked) → entry.after ≡ entry.before
+  pub does : kind_refuses (tree_of entry.before) asked ≡ false → IsKindDone capacity asked entry.before entry.after
+
+-- The step doesn't refuse the command, but a resource is missing for it.
+pub record KindLacksResource (capacity : ℕ) (asked : KindEdit) (entry : Entry) : Type 0 where
+  pub no_refusal : kind_refuses (tree_of entry.before) asked ≡ false
+  pub why : Refusal
+  pub weighs : kind_weight capacity (volume_of entry.before) (tree_of entry.before) asked ≡ cost.Refused why
+  pub reply_is : entry.reply ≡ reply.No why
+  pub same : entry.after ≡ entry.before
+
 -- ---- entries of a run
 
 -- how many attributes a command removes or sets
 abbrev pub attribute_edits : PlainTree → Command → ℕ
 attribute_edits tree asked = (edits_of tree asked).attributes
 
+-- a command of the plain language, or a line that spells none, was answered, or something was missing for it
+abbrev pub IsPlainServed : ℕ → Entry → Type 0
+IsPlainServed capacity entry = IsAnswered capacity entry ⊎ (LacksResource capacity entry ⊎ LacksMemory capacity entry)
+
+-- so was one on a link or a resource fork
+abbrev pub IsKindServed : ℕ → KindEdit → Entry → Type 0
+IsKindServed capacity asked entry = IsKindAnswered capacity asked entry ⊎ (KindLacksResource capacity asked entry ⊎ LacksMemory capacity entry)
+
+-- what an entry may be for a command that no line of the plain language asked for, or for its line where there is none
+abbrev pub IsServedBy : ℕ → Option Asked → Entry → Type 0
+IsServedBy capacity None entry = IsPlainServed capacity entry
+IsServedBy capacity (Some (Plain asked)) entry = IsPlainServed capacity entry
+IsServedBy capacity (Some (Kind asked)) entry = IsKindServed capacity asked entry
+
 -- what an entry of a run may be
 pub record IsServed (capacity : ℕ) (entry : Entry) : Type 0 where
   pub sound_before : IsSound entry.before
   pub sound_after : IsSound entry.after
-  pub is : IsAnswered capacity entry ⊎ (LacksResource capacity entry ⊎ LacksMemory capacity entry)
+  pub is : IsServedBy capacity entry.own entry
 
 -- ---- runs
 
@@ -124,7 +195,7 @@ shrunk_after shrunk entry = if is_ok entry.reply then or_before (shrunk_by (tree
 abbrev pub IsRunFrom : ℕ → Option ℕ → Content → List Entry → Type 0
 IsRunFrom capacity shrunk content [] = Unit {0}
 IsRunFrom capacity shrunk content (entry ∷ run) =
-    Rests capacity shrunk (spelled (asked_by entry)) content entry.before × IsServed capacity entry × IsRunFrom capacity (shrunk_after shrunk entry) entry.after run
+    Rests capacity shrunk (wanted_by entry) content entry.before × IsServed capacity entry × IsRunFrom capacity (shrunk_after shrunk entry) entry.after run
 
 -- a run from this content, in which no file was shrunk before
 abbrev pub IsRun : ℕ → Content → List Entry → Type 0
@@ -143,6 +214,11 @@ tree_after content run = tree_of (content_after content run)
 unfoldable pub shrunk_in : Option ℕ → List Entry → Option ℕ
 shrunk_in shrunk [] = shrunk
 shrunk_in shrunk (entry ∷ run) = shrunk_in (shrunk_after shrunk entry) run
+
+-- each entry of a run is of a line of the plain language
+abbrev pub ArePlain : List Entry → Type 0
+ArePlain [] = Unit {0}
+ArePlain (entry ∷ run) = (entry.own ≡ None) × ArePlain run
 
 -- the lines of a run
 abbrev pub lines_of : List Entry → List (List ℕ)

@@ -1,5 +1,5 @@
 -- What watchers are told of a run.
-use Rattle.std.specs.Prelude.{ℕ, ◌+◌, List, [], ◌∷◌, ◌++◌, Result, Ok, Err, if◌then◌else◌}
+use Rattle.std.specs.Prelude.{ℕ, ◌+◌, List, [], ◌∷◌, ◌++◌, Option, Some, None, Result, Ok, Err, if◌then◌else◌}
 use Rattle.hfs_language.specs.declared.command.Command.{Command}
 use Rattle.hfs_language.specs.declared.command.Command.TheVariants as command
 use Rattle.hfs_language.specs.declared.refusal.Refusal.{Refusal}
@@ -8,8 +8,13 @@ use Rattle.hfs_language.specs.declared.reply.ChangeKind.{ChangeKind}
 use Rattle.hfs_language.specs.declared.reply.ChangeKind.TheVariants as change
 use Rattle.hfs_model.specs.declared.plain.PlainEntry.{PlainEntry}
 use Rattle.hfs_model.specs.declared.plain.PlainTree.{PlainTree}
+use Rattle.hfs_model.specs.Kinds.{to_symlink}
+use Rattle.hfs_model.specs.declared.kinds.KindEdit.{KindEdit}
+use Rattle.hfs_model.specs.declared.kinds.KindEdit.TheVariants as kinds
 use Rattle.hfs_model.specs.Step.{Place, to_make, to_rm, to_rmdir, to_mv, to_ln, reached, is_same_file}
-use Rattle.volume_runs.specs.Run.{Entry, asked_by, is_ok}
+use Rattle.hfs_volume.specs.declared.asked.Asked.{Asked}
+use Rattle.hfs_volume.specs.declared.asked.Asked.TheVariants.{Kind, Plain}
+use Rattle.volume_runs.specs.Run.{Entry, is_ok, wanted_by}
 use Rattle.hfs_volume.specs.TreeOf.{tree_of}
 
 -- a change of what an entry names, at its place
@@ -52,13 +57,22 @@ changes_of line tree (command.SetAttr path name value) = of_entry line change.At
 changes_of line tree (command.DelAttr path name) = of_entry line change.Attribute (reached tree path)
 changes_of line tree _ = []
 
+-- what a command on a symbolic link or a resource fork changes on a tree, where its step doesn't refuse it: a link is made, or a file's content changes
+abbrev pub kind_changes_of : ℕ → PlainTree → KindEdit → List Change
+kind_changes_of line tree (kinds.Symlink path value) = of_made line tree (to_symlink tree path value)
+kind_changes_of line tree (kinds.ResourceWrite path from []) = []
+kind_changes_of line tree (kinds.ResourceWrite path from (byte ∷ value)) = of_entry line change.Content (reached tree path)
+kind_changes_of line tree (kinds.ResourceRead path from long) = []
+
+-- what is changed that was asked for, where its step doesn't refuse it
+abbrev pub changes_asked : ℕ → PlainTree → Option Asked → List Change
+changes_asked line tree None = []
+changes_asked line tree (Some (Plain asked)) = changes_of line tree asked
+changes_asked line tree (Some (Kind asked)) = kind_changes_of line tree asked
+
 -- what an entry of a run tells: its change where it was answered with ok
 abbrev pub changes_by : ℕ → Entry → List Change
-changes_by line entry = if is_ok entry.reply then changes_asked (asked_by entry) else []
-  where
-    changes_asked : Result Command Refusal → List Change
-    changes_asked (Ok asked) = changes_of line (tree_of entry.before) asked
-    changes_asked (Err why) = []
+changes_by line entry = if is_ok entry.reply then changes_asked line (tree_of entry.before) (wanted_by entry) else []
 
 -- what a run tells, whose first line has this number
 unfoldable pub changes_in : ℕ → List Entry → List Change

@@ -13,7 +13,7 @@ use Rattle.hfs_volume.specs.declared.cost.Cost.{Cost}
 use Rattle.hfs_volume.specs.declared.cost.Cost.TheVariants as cost
 use Rattle.hfs_volume.specs.declared.cost.Needs.{Needs}
 use Rattle.hfs_volume.specs.declared.cost.Room.{Room}
-use Rattle.volume_space.specs.Cutting.{IsCut}
+use Rattle.volume_space.specs.Cutting.{AffordsCut}
 use Rattle.hfs_volume.specs.declared.cost.ValueChange.{ValueChange}
 use Rattle.volume_space.specs.Orphans.{AffordsStep, TidiesAs, bare_edits, drop_edits, grows_none}
 use Rattle.volume_space.proofs.BareCost.{bare_cost_is}
@@ -85,16 +85,12 @@ cut_load_by : (refused : Option Refusal) (load : ℕ) (found : Cost) → found �
 cut_load_by None load found is none = refl
 cut_load_by (Some why) load found is none = absurd (true≢false (sym none ∙ ap grows_none is))
 
-cut_steps : (capacity : ℕ) (content : Content) (load : ℕ) → cut_cost (room_with capacity (free_blocks (volume_of content)) (volume_of content)) ≡ cost.Load load (0 ∷ 0 ∷ 0 ∷ []) → (step : Reclaim) → IsCut step → AffordsStep capacity content step
-unfolding reclaim_cost_with
-cut_steps capacity content load is step (inl (id, same)) = record { load = load; affords = ap (reclaim_cost capacity (volume_of content)) same ∙ is }
-cut_steps capacity content load is step (inr (id, kind, same)) = record { load = load; affords = ap (reclaim_cost capacity (volume_of content)) same ∙ is }
-
-pub affords_cut_by : (v : Volume) (content : Content) → IsSettled v content → (found : Cost) → found ≡ cut_cost (room_on blocks.All v) → grows_none found ≡ true → (step : Reclaim) → IsCut step → AffordsStep (capacity_of v) content step
-affords_cut_by v content settled found is none step cut =
-    cut_steps (capacity_of v) content (cut_load (room_with (capacity_of v) (free_blocks (volume_of content)) (volume_of content)))
-    (cut_load_by (load_refusal (cut_load (room_with (capacity_of v) (free_blocks (volume_of content)) (volume_of content))) (room_with (capacity_of v) (free_blocks (volume_of content)) (volume_of content)).capacity)
-    (cut_load (room_with (capacity_of v) (free_blocks (volume_of content)) (volume_of content))) found (is ∙ cut_cost_is v content settled) none) step cut
+pub affords_cut_by : (v : Volume) (content : Content) → IsSettled v content → (found : Cost) → found ≡ cut_cost (room_on blocks.All v) → grows_none found ≡ true → AffordsCut (capacity_of v) (volume_of content)
+affords_cut_by v content settled found is none = record {
+  load = cut_load (room_with (capacity_of v) (free_blocks (volume_of content)) (volume_of content));
+  affords = cut_load_by (load_refusal (cut_load (room_with (capacity_of v) (free_blocks (volume_of content)) (volume_of content))) (room_with (capacity_of v) (free_blocks (volume_of content)) (volume_of content)).capacity)
+      (cut_load (room_with (capacity_of v) (free_blocks (volume_of content)) (volume_of content))) found (is ∙ cut_cost_is v content settled) none;
+}
 
 -- ---- behind reads
 

@@ -1,4 +1,4 @@
--- A cut is the next step of reclaiming: by the laws the volume is sound, its tree is as it was, and no other fork is cut.
+-- A cut of a fork: by the laws the volume is sound, its tree is as it was, and no other fork is cut.
 use Rattle.std.proofs.Common.{◌≡◌, ◌≢◌, ◌⊎◌, inl, inr, ◌<◌, ◌≤◌, ℕ, ◌+◌, ◌-◌, ◌*◌, ◌/◌, ◌%◌, ◌==◌, ◌&&◌, min, Bool, true, false, List, [], ◌∷◌, ◌++◌, length, take, drop, refl, sym, ◌∙◌, ap, subst, arith, ⊎_elim, length-append, length-take}
 use Rattle.std.specs.Prelude.{Contains, IsTrue, map, Option, None, Some}
 use Rattle.std.specs.List.{range_with_len}
@@ -27,10 +27,10 @@ use Rattle.hfs_volume.specs.Forks.{Owned, allocation_id, attributes_id, catalog_
 use Rattle.hfs_volume.specs.Laws.{IsUserFile}
 use Rattle.hfs_volume.specs.Links.{orphans_of}
 use Rattle.hfs_volume.specs.Records.{Placed, overflow_of, entries_of, id_in, id_of, is_link_type, is_placed_at}
-use Rattle.hfs_volume.specs.Reclaim.{CutOrphan, CutShrunk, Does, IsTreeFork, Reclaim, blocks_at, blocks_wanted, next_reclaim}
+use Rattle.hfs_volume.specs.Reclaim.{CutsAlone, IsTreeFork, blocks_at}
 use Rattle.hfs_volume.specs.Sound.{IsSound, IsSoundVolume}
 use Rattle.hfs_volume.specs.TreeOf.{bytes_in, tree_in, tree_of}
-use Rattle.hfs_volume.specs.Writing.{CutsBlocks, IsPutSector, KeepsOthers, OrphanCut, OthersKeepBytes, ShrunkCut}
+use Rattle.hfs_volume.specs.Writing.{CutsBlocks, IsPutSector, KeepsForksBut, KeepsOthers, OrphanCut, OthersKeepBytes, ShrunkCut}
 use Rattle.hfs_volume.proofs.BlockWants.{in_range}
 use Rattle.hfs_volume.proofs.Flat.{found_some}
 use Rattle.hfs_volume.proofs.Hiding.{same_entry}
@@ -38,7 +38,7 @@ use Rattle.hfs_volume.proofs.Rereading.{same_tree}
 use Rattle.hfs_volume.proofs.Sectors.{in_block, in_front}
 use Rattle.hfs_volume.proofs.Untouched.{HasWholeBlocks, whole_blocks}
 use Rattle.volume_base.specs.Changing.{ReplacesRecord}
-use Rattle.volume_space.specs.Cutting.{CutsFile, KeepsTrees, MayGive, PutsGiven, given_back}
+use Rattle.volume_space.specs.Cutting.{CutsOne, KeepsTrees, MayGive, PutsGiven, given_back}
 use Rattle.volume_base.specs.Cutting.{IsCutOf, cut_fork_of, fork_at, with_freed}
 use Rattle.volume_base.specs.Lists.{bits_on, facts_on, lists_of}
 use Rattle.volume_base.specs.Standing.{IsSettled, IsStanding, map_sectors}
@@ -124,9 +124,16 @@ module _ (v x w : Volume) (a c e d : Space) (was : IsStanding v a) (settled : Is
         by s (inl same) (inl later) (inr (inl two)) = inr (subst (IsPutSector a.content) (sym two) put_head)
         by s (inl same) (inl later) (inr (inr has)) = inr (put_map s (subst (λ (l : List ℕ). Contains l s) map_is has))
 
-    pub others : OthersKeepBytes → KeepsOthers file.fields.id (volume_of a.content) (bytes_in a.content) (bytes_in d.content)
-    others law = law file.fields.id kind is_cut.last.left cut.goes.count [] a.content d.content new (sound_here v a was settled) (does v x w a c e d was settled entry file list kind keep cut may unchanged is_kind is_list is_cut no_link there is puts stores replaces stands).puts
+    others_both : OthersKeepBytes → KeepsOthers file.fields.id (volume_of a.content) (bytes_in a.content) (bytes_in d.content) × KeepsForksBut file.fields.id kind a.content d.content
+    others_both law = law file.fields.id kind is_cut.last.left cut.goes.count [] a.content d.content new (sound_here v a was settled) (does v x w a c e d was settled entry file list kind keep cut may unchanged is_kind is_list is_cut no_link there is puts stores replaces stands).puts
         (ap (λ (l : VolumeState). l.head) (volume_now v x w a c e d was settled entry file list kind keep cut may unchanged is_kind is_list is_cut no_link there is puts stores replaces stands)) (ap (λ (l : VolumeState). l.overflow_pairs) (volume_now v x w a c e d was settled entry file list kind keep cut may unchanged is_kind is_list is_cut no_link there is puts stores replaces stands)) agrees
+
+    pub others : OthersKeepBytes → KeepsOthers file.fields.id (volume_of a.content) (bytes_in a.content) (bytes_in d.content)
+    others law = (others_both law).0
+
+    -- and its other fork has its bytes
+    pub other_fork : OthersKeepBytes → KeepsForksBut file.fields.id kind a.content d.content
+    other_fork law = (others_both law).1
 
     -- ---- what is left as it is
 
@@ -180,20 +187,17 @@ module _ (v x w : Volume) (a c e d : Space) (was : IsStanding v a) (settled : Is
 
     -- ---- a file that lost its last name
 
-    module _ (law : OrphanCut) (bytes : OthersKeepBytes) (shrunk : Option ℕ) (next : next_reclaim (volume_of a.content) shrunk ≡ Some (CutOrphan file.fields.id kind)) (orphan : Placed) (waits : Contains (orphans_of (records_of (volume_of a.content))) orphan) (its : id_of orphan ≡ file.fields.id) where
-      by_orphan : IsSoundVolume new × (tree_in new (bytes_in d.content) ≡ tree_in (volume_of a.content) (bytes_in a.content)) × Does (CutOrphan file.fields.id kind) (volume_of a.content) new
+    module _ (law : OrphanCut) (bytes : OthersKeepBytes) (orphan : Placed) (waits : Contains (orphans_of (records_of (volume_of a.content))) orphan) (its : id_of orphan ≡ file.fields.id) where
+      by_orphan : IsSoundVolume new × (tree_in new (bytes_in d.content) ≡ tree_in (volume_of a.content) (bytes_in a.content)) × CutsAlone file.fields.id kind 0 (volume_of a.content) new
       by_orphan = subst (λ n. KeepsOthers n (volume_of a.content) (bytes_in a.content) (bytes_in d.content) → CutsBlocks n kind is_cut.last.left cut.goes.count (volume_of a.content) new
-          → IsSoundVolume new × (tree_in new (bytes_in d.content) ≡ tree_in (volume_of a.content) (bytes_in a.content)) × Does (CutOrphan n kind) (volume_of a.content) new) its
+          → IsSoundVolume new × (tree_in new (bytes_in d.content) ≡ tree_in (volume_of a.content) (bytes_in a.content)) × CutsAlone n kind 0 (volume_of a.content) new) its
           (λ kept cuts. law orphan kind is_cut.last.left cut.goes.count (volume_of a.content) new (bytes_in a.content) (bytes_in d.content) settled.sound waits cuts kept) (others bytes) (does v x w a c e d was settled entry file list kind keep cut may unchanged is_kind is_list is_cut no_link there is puts stores replaces stands)
 
-      pub orphan_done : IsSettled w d.content × CutsFile shrunk a.content d.content
+      pub orphan_done : IsSettled w d.content × CutsOne file.fields.id kind 0 a.content d.content
       orphan_done = (
         settled_now v x w a c e d was settled entry file list kind keep cut may unchanged is_kind is_list is_cut no_link there is puts stores replaces stands by_orphan.0,
         record {
-          step = CutOrphan file.fields.id kind;
-          is_cut = inr (file.fields.id, kind, refl);
-          next = next;
-          does = subst (λ (l : VolumeState). Does (CutOrphan file.fields.id kind) (volume_of a.content) l) (sym (volume_now v x w a c e d was settled entry file list kind keep cut may unchanged is_kind is_list is_cut no_link there is puts stores replaces stands)) (record { cut = by_orphan.2.cut; others = by_orphan.2.others; values = by_orphan.2.values });
+          alone = subst (λ (l : VolumeState). CutsAlone file.fields.id kind 0 (volume_of a.content) l) (sym (volume_now v x w a c e d was settled entry file list kind keep cut may unchanged is_kind is_list is_cut no_link there is puts stores replaces stands)) (record { cut = by_orphan.2.cut; others = by_orphan.2.others; values = by_orphan.2.values });
           keeps = keeps (λ id other tree. by_orphan.2.others id other (inl (λ same. absurd (omega (arith, same, high_id, low_tree id tree)))));
           tree = tree_same by_orphan.1;
         },

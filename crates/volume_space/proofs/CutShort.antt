@@ -5,18 +5,15 @@ use Rattle.sector_disk.specs.Lists.{Content}
 use Rattle.hx_bytes.specs.declared.faults.Trouble.{Trouble}
 use Rattle.hfs_language.specs.declared.refusal.Refusal.{Refusal}
 use Rattle.hfs_volume.specs.Content.{VolumeState, volume_of}
-use Rattle.hfs_volume.specs.Reclaim.{CutShrunk, Reclaim, next_reclaim, reclaim_cost_with}
 use Rattle.hfs_volume.specs.Weight.{cut_cost, free_blocks, room_with}
 use Rattle.hfs_volume.specs.declared.cost.Cost.{Cost}
 use Rattle.hfs_volume.specs.declared.cost.Cost.TheVariants as cost
-use Rattle.hfs_volume.proofs.Flat.{none_or_some}
-use Rattle.volume_runs.specs.Rest.{IsAtRest, IsHeldUp, cut_puts}
 use Rattle.volume_base.specs.Room.{capacity_of, room_on}
 use Rattle.volume_base.specs.Standing.{IsSettled}
 use Rattle.volume_base.specs.declared.room.FreeBlocks.TheVariants as blocks
 use Rattle.volume_base.specs.declared.volume.Volume.{Volume}
 use Rattle.volume_space.specs.CuttingAhead.{IsShortCut}
-use Rattle.volume_space.specs.Orphans.{IsNextShort, IsShort}
+use Rattle.volume_space.specs.Cutting.{RefusesCut}
 use Rattle.volume_space.specs.declared.cutting_ahead.CutAhead.{CutAhead}
 use Rattle.volume_space.proofs.Affording.{cut_cost_is}
 
@@ -26,22 +23,9 @@ pub cut_fine : (v : Volume) (content : Content) → IsSettled v content → (sai
 cut_fine v content settled None found is fine = λ why costs. fine why (is ∙ cut_cost_is v content settled ∙ costs)
 cut_fine v content settled (Some why) found is fine = tt
 
-one_step : (step other : Reclaim) (o : Option Reclaim) → o ≡ Some step → o ≡ Some other → step ≡ other
-one_step step other o first second = let same : Some step ≡ Some other = sym first ∙ second in cc same
-
-module _ (capacity spare id : ℕ) (volume : VolumeState) (next : next_reclaim volume (Some id) ≡ Some (CutShrunk id)) where
-  -- the next step is short, and is the cut
-  pub short_ahead : (free : List Bool) → IsNextShort capacity (Some id) free spare volume → spare < cut_puts (room_with capacity (free_blocks volume) volume)
-  short_ahead free (step, is, short) = subst (IsShort capacity free spare volume) (one_step step (CutShrunk id) (next_reclaim volume (Some id)) is next) short
-
-  held_ahead : ((why : Refusal) → cut_cost (room_with capacity (free_blocks volume) volume) ≡ cost.Refused why → ⊥) → IsHeldUp capacity volume (CutShrunk id) → ⊥
-  unfolding reclaim_cost_with
-  held_ahead fine (why, costs) = fine why costs
-
-  -- where the cut isn't refused, nothing rests
-  pub no_rest : ((why : Refusal) → cut_cost (room_with capacity (free_blocks volume) volume) ≡ cost.Refused why → ⊥) → IsAtRest capacity (Some id) volume → ⊥
-  no_rest fine (inl none) = none_or_some (CutShrunk id) (sym none ∙ next)
-  no_rest fine (inr (step, is, held)) = held_ahead fine (subst (IsHeldUp capacity volume) (one_step step (CutShrunk id) (next_reclaim volume (Some id)) is next) held)
+-- and then nothing rests
+pub no_rest : (capacity : ℕ) (volume : VolumeState) → ((why : Refusal) → cut_cost (room_with capacity (free_blocks volume) volume) ≡ cost.Refused why → ⊥) → RefusesCut capacity volume → ⊥
+no_rest capacity volume fine (why, costs) = fine why costs
 
 -- ---- behind reads
 

@@ -19,38 +19,39 @@ use Rattle.hfs_volume.specs.Forks.{data_kind, extents_of, parts_for, resource_ki
 use Rattle.hfs_volume.specs.Laws.{IsUserFile}
 use Rattle.hfs_volume.specs.Links.{orphans_of}
 use Rattle.hfs_volume.specs.Records.{Placed, entries_of, id_in, id_of, is_link_type, is_placed_at}
-use Rattle.hfs_volume.specs.Reclaim.{CutOrphan, CutShrunk, blocks_wanted, has_surplus_left, least, next_reclaim, orphan_steps, shrunk_step}
+use Rattle.hfs_volume.specs.Reclaim.{blocks_wanted}
 use Rattle.hfs_volume.specs.Writing.{OrphanCut, OthersKeepBytes, ShrunkCut}
 use Rattle.hfs_volume.proofs.Flat.{found_some}
 use Rattle.hfs_volume.proofs.Hiding.{same_entry}
 use Rattle.volume_base.specs.Changing.{ReplacesRecord}
-use Rattle.volume_space.specs.Cutting.{CutsFile, IsNextCut, MayGive, PutsGiven, given_back}
-use Rattle.volume_base.specs.Cutting.{IsCutOf, cut_fork_of, fork_at}
+use Rattle.volume_space.specs.Cutting.{CutsOne, MayCut, MayGive, PutsGiven, given_back}
+use Rattle.volume_base.specs.Cutting.{IsCutOf, cut_fork_of, fork_at, kind_of}
 use Rattle.volume_base.specs.Lists.{lists_of}
 use Rattle.volume_base.specs.Standing.{IsSettled, IsStanding}
 use Rattle.volume_space.specs.Spreading.{StoresExtents}
 use Rattle.volume_base.specs.declared.cutting.Cut.{Cut}
 use Rattle.volume_base.specs.declared.entries.Entry.{Entry}
+use Rattle.volume_base.specs.declared.forks.ForkKind.{ForkKind}
 use Rattle.volume_base.specs.declared.volume.Volume.{Volume}
 use Rattle.volume_space.proofs.CutDone.{entry_there, orphan_done, the_file}
 use Rattle.volume_space.proofs.CutSettled.{found_value, updates}
 use Rattle.volume_space.proofs.CutShrunk.{shrunk_done}
-use Rattle.volume_space.proofs.NextCut.{wanted_is}
-use Rattle.volume_base.proofs.NextDrop.{least_is}
+use Rattle.volume_space.proofs.NextCut.{wanted_of}
+use Rattle.volume_base.proofs.ForkKinds.{kind_is}
 
-module _ (v x w : Volume) (a c e d : Space) (was : IsStanding v a) (settled : IsSettled v a.content) (entry : Entry) (file : FileRecord) (list : List Extent) (kind keep : ℕ) (cut : Cut) (may : MayGive cut.goes v) (unchanged : v.map.changed ≡ none (sectors_for (length v.map.used)))
-    (is_kind : (kind ≡ data_kind) ⊎ (kind ≡ resource_kind)) (is_list : list ≡ extents_of (overflow_in_volume (volume_of a.content)) file.fields.id kind (fork_at kind file)) (is_cut : IsCutOf list (fork_at kind file) keep cut) (no_link : is_link_type file.fields ≡ false)
+module _ (v x w : Volume) (a c e d : Space) (was : IsStanding v a) (settled : IsSettled v a.content) (entry : Entry) (file : FileRecord) (list : List Extent) (k : ForkKind) (keep : ℕ) (cut : Cut) (may : MayGive cut.goes v) (unchanged : v.map.changed ≡ none (sectors_for (length v.map.used)))
+    (is_list : list ≡ extents_of (overflow_in_volume (volume_of a.content)) file.fields.id (kind_of k) (fork_at (kind_of k) file)) (is_cut : IsCutOf list (fork_at (kind_of k) file) keep cut) (no_link : is_link_type file.fields ≡ false)
     (there : value_at (lists_of v a.content).catalog_pairs entry.parent entry.name ≡ Some entry.rec) (is : entry.rec ≡ File file)
-    (puts : PutsGiven (given_back cut.goes v) a.content c.content) (stores : StoresExtents file.fields.id kind cut.stays (given_back cut.goes v) x c.content e.content)
-    (replaces : ReplacesRecord entry (File (with_fork kind (cut_fork_of v.header.block_size (fork_at kind file) cut) file)) x w e.content d.content)
-    (stands : IsStanding w d) (law_shrunk : ShrunkCut) (law_orphan : OrphanCut) (bytes : OthersKeepBytes) (user : (entry.parent ≡ 2) × (is_private_name entry.name ≡ true) → ⊥) (shrunk : Option ℕ) where
+    (puts : PutsGiven (given_back cut.goes v) a.content c.content) (stores : StoresExtents file.fields.id (kind_of k) cut.stays (given_back cut.goes v) x c.content e.content)
+    (replaces : ReplacesRecord entry (File (with_fork (kind_of k) (cut_fork_of v.header.block_size (fork_at (kind_of k) file) cut) file)) x w e.content d.content)
+    (stands : IsStanding w d) (law_shrunk : ShrunkCut) (law_orphan : OrphanCut) (bytes : OthersKeepBytes) (user : (entry.parent ≡ 2) × (is_private_name entry.name ≡ true) → ⊥) where
   number : id_in entry.rec ≡ file.fields.id
   number = ap id_in is
 
   is_user : IsUserFile file.fields.id (volume_of a.content)
   is_user p has same own =
-      let u = updates v x w a c e d was settled entry file list kind keep cut may unchanged is_kind is_list is_cut no_link there is puts stores replaces stands in
-      let one : p ≡ u.entry = same_entry (volume_of a.content).head.next_catalog_id (entries_of (records_of (volume_of a.content))) settled.sound.entries.ids p u.entry has (entry_there v x w a c e d was settled entry file list kind keep cut may unchanged is_kind is_list is_cut no_link there is puts stores replaces stands) (same ∙ sym (the_file v x w a c e d was settled entry file list kind keep cut may unchanged is_kind is_list is_cut no_link there is puts stores replaces stands)) in
+      let u = updates v x w a c e d was settled entry file list (kind_of k) keep cut may unchanged (kind_is k) is_list is_cut no_link there is puts stores replaces stands in
+      let one : p ≡ u.entry = same_entry (volume_of a.content).head.next_catalog_id (entries_of (records_of (volume_of a.content))) settled.sound.entries.ids p u.entry has (entry_there v x w a c e d was settled entry file list (kind_of k) keep cut may unchanged (kind_is k) is_list is_cut no_link there is puts stores replaces stands) (same ∙ sym (the_file v x w a c e d was settled entry file list (kind_of k) keep cut may unchanged (kind_is k) is_list is_cut no_link there is puts stores replaces stands)) in
       let found = found_some (is_placed_at entry.parent entry.name) (records_of (volume_of a.content)) u.entry u.found in
       let both = and_parts (u.entry.parent == entry.parent) (bytes_eq u.entry.name entry.name) found.1 in
       user (
@@ -58,23 +59,21 @@ module _ (v x w : Volume) (a c e d : Space) (was : IsStanding v a) (settled : Is
         ap is_private_name (sym ((bytes_eq-Decides u.entry.name entry.name).0 both.1) ∙ sym (ap (λ (q : Placed). q.name) one)) ∙ own.1,
       )
 
-  -- the blocks that the file's bytes take
-  wanted : blocks_wanted (volume_of a.content) file.fields.id data_kind ≡ parts_for file.data_fork.logical_size (volume_of a.content).head.block_size
-  wanted = wanted_is (volume_of a.content) settled.sound (updates v x w a c e d was settled entry file list kind keep cut may unchanged is_kind is_list is_cut no_link there is puts stores replaces stands).entry (entry_there v x w a c e d was settled entry file list kind keep cut may unchanged is_kind is_list is_cut no_link there is puts stores replaces stands) file (found_value v x w a c e d was settled entry file list kind keep cut may unchanged is_kind is_list is_cut no_link there is puts stores replaces stands (updates v x w a c e d was settled entry file list kind keep cut may unchanged is_kind is_list is_cut no_link there is puts stores replaces stands))
+  -- the blocks that the fork's bytes take
+  wanted : blocks_wanted (volume_of a.content) file.fields.id (kind_of k) ≡ parts_for (fork_at (kind_of k) file).logical_size (volume_of a.content).head.block_size
+  wanted =
+      let u = updates v x w a c e d was settled entry file list (kind_of k) keep cut may unchanged (kind_is k) is_list is_cut no_link there is puts stores replaces stands in
+      wanted_of (volume_of a.content) settled.sound u.entry (entry_there v x w a c e d was settled entry file list (kind_of k) keep cut may unchanged (kind_is k) is_list is_cut no_link there is puts stores replaces stands) file
+      (found_value v x w a c e d was settled entry file list (kind_of k) keep cut may unchanged (kind_is k) is_list is_cut no_link there is puts stores replaces stands u) k
 
-  abbrev Done : Type 0
-  Done = IsSettled w d.content × CutsFile shrunk a.content d.content
+  by_number : MayCut a.content file.fields.id (kind_of k) keep → IsSettled w d.content × CutsOne file.fields.id (kind_of k) keep a.content d.content
+  by_number (inl least) =
+      subst (λ n. IsSettled w d.content × CutsOne file.fields.id (kind_of k) n a.content d.content) (sym least)
+      (shrunk_done v x w a c e d was settled entry file list k keep cut may unchanged is_list is_cut no_link there is puts stores replaces stands (omega (arith, wanted, least)) law_shrunk bytes is_user (omega (arith, least, is_cut.last.least)))
+  by_number (inr (none, (orphan, waits, its))) =
+      subst (λ n. IsSettled w d.content × CutsOne file.fields.id (kind_of k) n a.content d.content) (sym none)
+      (orphan_done v x w a c e d was settled entry file list (kind_of k) keep cut may unchanged (kind_is k) is_list is_cut no_link there is puts stores replaces stands law_orphan bytes orphan waits its)
 
-  by_shrunk : next_reclaim (volume_of a.content) shrunk ≡ Some (CutShrunk file.fields.id) → kind ≡ data_kind → keep ≡ blocks_wanted (volume_of a.content) file.fields.id data_kind → Done
-  by_shrunk next is_data least =
-      subst (λ (k : ℕ). (list ≡ extents_of (overflow_in_volume (volume_of a.content)) file.fields.id k (fork_at k file)) → IsCutOf list (fork_at k file) keep cut → StoresExtents file.fields.id k cut.stays (given_back cut.goes v) x c.content e.content
-      → ReplacesRecord entry (File (with_fork k (cut_fork_of v.header.block_size (fork_at k file) cut) file)) x w e.content d.content → Done) (sym is_data)
-      (λ list_now cut_now stores_now replaces_now. shrunk_done v x w a c e d was settled entry file list keep cut may unchanged list_now cut_now no_link there is puts stores_now replaces_now stands (omega (arith, wanted, least)) law_shrunk bytes is_user shrunk next
-      (omega (arith, least, cut_now.last.least)))
-      is_list is_cut stores replaces
-
-  pub cut_whole : IsNextCut shrunk a.content (id_in entry.rec) kind keep → IsSettled w d.content × CutsFile shrunk a.content d.content
-  cut_whole (inl next) = by_shrunk (next.0 ∙ ap (λ n. Some (CutShrunk n)) number) next.1 (next.2 ∙ ap (λ n. blocks_wanted (volume_of a.content) n data_kind) number)
-  cut_whole (inr next) =
-      let found = least_is (orphans_of (records_of (volume_of a.content))) (id_in entry.rec) next.2 in
-      orphan_done v x w a c e d was settled entry file list kind keep cut may unchanged is_kind is_list is_cut no_link there is puts stores replaces stands law_orphan bytes shrunk (next.0 ∙ ap (λ n. Some (CutOrphan n kind)) number) found.0 found.1 (found.2 ∙ number)
+  pub cut_whole : MayCut a.content (id_in entry.rec) (kind_of k) keep → IsSettled w d.content × CutsOne (id_in entry.rec) (kind_of k) keep a.content d.content
+  cut_whole allowed =
+      subst (λ n. MayCut a.content n (kind_of k) keep → IsSettled w d.content × CutsOne n (kind_of k) keep a.content d.content) (sym number) by_number allowed

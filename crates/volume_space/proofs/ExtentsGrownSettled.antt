@@ -19,7 +19,7 @@ use Rattle.hfs_volume.specs.Links.{private_id}
 use Rattle.hfs_volume.specs.Records.{overflow_of, placed_in}
 use Rattle.hfs_volume.specs.Reclaim.{GrowsTree, GrowsTrees, SameValues, blocks_at}
 use Rattle.hfs_volume.specs.Sound.{IsSoundVolume}
-use Rattle.hfs_volume.specs.TreeOf.{bytes_in, file_bytes, tree_in, tree_of}
+use Rattle.hfs_volume.specs.TreeOf.{bytes_in, tree_in, tree_of}
 use Rattle.hfs_volume.specs.Values.{value_blocks}
 use Rattle.hfs_volume.specs.Writing.{GrowthKeeps}
 use Rattle.hfs_volume.proofs.Rereading.{same_bytes, same_tree}
@@ -28,7 +28,7 @@ use Rattle.volume_base.specs.Lists.{bits_on, lists_of}
 use Rattle.volume_base.specs.Mapping.{HoldsMap}
 use Rattle.volume_base.specs.Standing.{IsSettled, IsStanding, map_sectors, with_attributes_tree}
 use Rattle.volume_base.specs.declared.volume.Volume.{Volume}
-use Rattle.volume_base.proofs.FilesKept.{ReadsAs, allocation_sectors, attributes_apart, attributes_off_extents, attributes_off_map, attributes_sectors, extents_sectors, not_2, not_in_extents, not_in_map}
+use Rattle.volume_base.proofs.FilesKept.{ReadsAs, allocation_sectors, attributes_apart, attributes_off_extents, attributes_off_map, attributes_sectors, both_forks, by_lists, extents_sectors, not_2, not_in_extents, not_in_map}
 use Rattle.volume_space.proofs.GrownSettled.{same_fork}
 use Rattle.volume_space.proofs.GrownBits.{bits_read}
 use Rattle.volume_space.proofs.ExtentsGrownLists.{grows_counted, lists_are_grown, lists_grown}
@@ -36,8 +36,6 @@ use Rattle.volume_space.proofs.GrownRun.{same_length}
 use Rattle.volume_space.proofs.ExtentsGrownStands.{elsewhere, sectors_now}
 use Rattle.volume_base.proofs.Resettling.{bits_at, lists_anew, settles}
 use Rattle.volume_base.proofs.TreesSettled.{header_settled, tree_without}
-use Rattle.cat_records.specs.declared.record.FileRecord.{FileRecord}
-use Rattle.hfs_volume.proofs.Untouched.{data_fork_of}
 use Rattle.hfs_volume.proofs.Bytes.{same_bytes_same_tree}
 use Rattle.volume_space.proofs.ValuesKept.{values_kept}
 
@@ -45,20 +43,12 @@ use Rattle.volume_space.proofs.ValuesKept.{values_kept}
 module _ (lists : VolumeState) (sound : IsSoundVolume lists) (a b : Content) (reads_a : ReadsAs a lists) (reads_b : ReadsAs b lists)
     (agrees : (at : ℕ) → at ≢ 2 → (Contains (extents_sectors lists) at → ⊥) → (Contains (allocation_sectors lists) at → ⊥) → sector b at ≡ sector a at)
   where
-    file_sectors : FileRecord → List ℕ
-    file_sectors file = sectors_of (per_block_of lists.head) (blocks_owned (overflow_in_volume lists) (data_fork_of file))
-
-    by_lists : (content : Content) (file : FileRecord) → ReadsAs content lists → file_bytes content file ≡ take file.data_fork.logical_size (block_bytes content (lists.head.total_blocks * per_block_of lists.head) (sectors_of (per_block_of lists.head) (blocks_owned (overflow_in_volume lists) (data_fork_of file))))
-    unfolding file_bytes
-    by_lists content file reads = λ i. take file.data_fork.logical_size
-        (block_bytes content (reads.total i * (reads.block i / 512)) (sectors_of (reads.block i / 512) (blocks_of (extents_of (map overflow_of (reads.overflow i)) file.fields.id data_kind file.data_fork))))
-
     tree_stays_apart : tree_in lists (bytes_in b) ≡ tree_in lists (bytes_in a)
-    tree_stays_apart = same_bytes_same_tree lists (bytes_in b) (bytes_in a) (λ p file stands is.
-        by_lists b file reads_b
-        ∙ ap (λ (l : List ℕ). take file.data_fork.logical_size l) (same_bytes a b (lists.head.total_blocks * per_block_of lists.head) (sectors_of (per_block_of lists.head) (blocks_owned (overflow_in_volume lists) (data_fork_of file)))
-        (λ at has. agrees at (not_2 lists sound p file stands is at has) (not_in_extents lists sound p file stands is at has) (not_in_map lists sound p file stands is at has)))
-        ∙ sym (by_lists a file reads_a))
+    tree_stays_apart = same_bytes_same_tree lists (bytes_in b) (bytes_in a) (both_forks lists sound a b (λ fork there user.
+        by_lists lists sound fork there user b reads_b
+        ∙ ap (λ (l : List ℕ). take fork.fork.logical_size l) (same_bytes a b (lists.head.total_blocks * per_block_of lists.head) (sectors_of (per_block_of lists.head) (blocks_owned (overflow_in_volume lists) fork))
+        (λ at has. agrees at (not_2 lists sound fork there user at has) (not_in_extents lists sound fork there user at has) (not_in_map lists sound fork there user at has)))
+        ∙ sym (by_lists lists sound fork there user a reads_a)))
         (values_kept lists sound a b reads_a.total reads_a.block reads_b.total reads_b.block (λ at differs not_catalog not_attributes not_extents not_map. agrees at differs not_extents not_map))
 
 module _ (v : Volume) (a b : Space) (was : IsStanding v a) (settled : IsSettled v a.content) (count : ℕ) (run : Extent) (later : BlockMap) (takes : TakesRun count run v.map later) (some : 0 < run.count)

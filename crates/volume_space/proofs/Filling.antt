@@ -77,8 +77,8 @@ module _ (v : Volume) (f : Option Filling) where
   pub laid_with : (committed : Content) → IsLaidOutAs committed v → IsLaidOutAs committed (record v { filling = f })
   laid_with committed was = record { block = was.block; total = was.total }
 
-  pub puts_with : (file : FileRecord) (from : ℕ) (value : List ℕ) (w : Volume) (before after : Content) → PutsValue file from value (record v { filling = f }) w before after → PutsValue file from value v w before after
-  puts_with file from value w before after puts = record {
+  pub puts_with : (kind : ℕ) (file : FileRecord) (from : ℕ) (value : List ℕ) (w : Volume) (before after : Content) → PutsValue kind file from value (record v { filling = f }) w before after → PutsValue kind file from value v w before after
+  puts_with kind file from value w before after puts = record {
     lists = puts.lists;
     fresh = puts.fresh;
     many = puts.many;

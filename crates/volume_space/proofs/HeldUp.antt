@@ -7,12 +7,12 @@ use Rattle.hfs_volume.specs.Content.{VolumeState, records_of, volume_of}
 use Rattle.hfs_language.specs.declared.refusal.Refusal.{Refusal}
 use Rattle.hfs_volume.specs.Cost.{cost_of, cost_or, load_refusal}
 use Rattle.hfs_volume.specs.Links.{orphans_of}
-use Rattle.hfs_volume.specs.Reclaim.{CutOrphan, CutShrunk, DropAttribute, DropOrphan, Reclaim, has_surplus_left, least, next_reclaim, orphan_steps, reclaim_cost, reclaim_cost_with, shrunk_step}
+use Rattle.hfs_volume.specs.Reclaim.{DropAttribute, DropOrphan, Reclaim, has_surplus_left, least, next_reclaim, orphan_steps, reclaim_cost, reclaim_cost_with, shrunk_step}
 use Rattle.hfs_volume.specs.Weight.{cut_cost, cut_load, free_blocks, room_with, value_change}
 use Rattle.hfs_volume.specs.declared.cost.Cost.{Cost}
 use Rattle.hfs_volume.specs.declared.cost.Cost.TheVariants as cost
 use Rattle.volume_runs.specs.Rest.{IsAtRest, IsHeldUp, cut_puts}
-use Rattle.volume_space.specs.Cutting.{IsCut, IsNextCut}
+use Rattle.volume_space.specs.Cutting.{RefusesCut}
 use Rattle.volume_space.specs.Orphans.{bare_edits, drop_edits, grows_none, is_refused}
 use Rattle.volume_base.specs.Room.{capacity_of, free_in, room_on}
 use Rattle.volume_base.specs.Standing.{IsSettled}
@@ -49,13 +49,13 @@ module _ (v : Volume) (content : Content) (settled : IsSettled v content) where
       → (id : ℕ) (name : List ℕ) → change ≡ value_change (volume_of content) id name 0 → IsHeldUp (capacity_of v) (volume_of content) (DropAttribute id name)
   held_bare change found is some id name same = held_cost (capacity_of v) (volume_of content) (DropAttribute id name) found some (bare_cost_is v content settled change found is id name same)
 
-  cut_costs : (step : Reclaim) → IsCut step → reclaim_cost (capacity_of v) (volume_of content) step ≡ cut_cost (room_with (capacity_of v) (free_blocks (volume_of content)) (volume_of content))
-  unfolding reclaim_cost_with
-  cut_costs step (inl (id, same)) = ap (reclaim_cost (capacity_of v) (volume_of content)) same
-  cut_costs step (inr (id, kind, same)) = ap (reclaim_cost (capacity_of v) (volume_of content)) same
-
-  pub held_cut : (found : Cost) → found ≡ cut_cost (room_on blocks.All v) → grows_none found ≡ false → (step : Reclaim) → IsCut step → IsHeldUp (capacity_of v) (volume_of content) step
-  held_cut found is some step cut = held_cost (capacity_of v) (volume_of content) step found (cut_refused (load_refusal (cut_load (room_on blocks.All v)) (room_on blocks.All v).capacity) (cut_load (room_on blocks.All v)) found is some) (cut_costs step cut ∙ sym (cut_cost_is v content settled) ∙ sym is)
+  pub refuses_cut : (found : Cost) → found ≡ cut_cost (room_on blocks.All v) → grows_none found ≡ false → RefusesCut (capacity_of v) (volume_of content)
+  refuses_cut found is some =
+      why_of found (cut_refused (load_refusal (cut_load (room_on blocks.All v)) (room_on blocks.All v).capacity) (cut_load (room_on blocks.All v)) found is some) (sym (cut_cost_is v content settled) ∙ sym is)
+    where
+      why_of : (found : Cost) → is_refused found ≡ true → cut_cost (room_with (capacity_of v) (free_blocks (volume_of content)) (volume_of content)) ≡ found → RefusesCut (capacity_of v) (volume_of content)
+      why_of (cost.Refused why) refused is = (why, is)
+      why_of (cost.Load load grow) refused is = absurd (true≢false (sym refused))
 
 -- ---- by what a cut puts at most
 
@@ -65,11 +65,6 @@ unfolding room_with
 cut_puts_is v content settled = sym (λ i. cut_puts (room_with (capacity_of v) (free_blocks (volume_of content)) (settled.lists i)))
 
 -- ---- the next step
-
--- it is a cut that is held up
-pub rests_cut : (capacity : ℕ) (shrunk : Option ℕ) (content : Content) (id kind keep : ℕ) → IsNextCut shrunk content id kind keep → ((step : Reclaim) → IsCut step → IsHeldUp capacity (volume_of content) step) → IsAtRest capacity shrunk (volume_of content)
-rests_cut capacity shrunk content id kind keep (inl next) held = inr (CutShrunk id, next.0, held (CutShrunk id) (inl (id, refl)))
-rests_cut capacity shrunk content id kind keep (inr next) held = inr (CutOrphan id kind, next.0, held (CutOrphan id kind) (inr (id, kind, refl)))
 
 -- there is none
 pub rests_none : (capacity : ℕ) (shrunk : Option ℕ) (volume : VolumeState) → has_surplus_left volume shrunk ≡ false → least (orphans_of (records_of volume)) ≡ None → IsAtRest capacity shrunk volume

@@ -11,6 +11,7 @@ pub mod BehindTemp
 pub mod CutCalls
 pub mod CutDone
 pub mod CutKept
+pub mod CutNext
 pub mod CutSettled
 pub mod CutShort
 pub mod CutShrunk
@@ -60,6 +61,8 @@ pub mod PutBytes
 pub mod PutDone
 pub mod PutFile
 pub mod PutFork
+pub mod PutForks
+pub mod Rewritten
 pub mod PutHeld
 pub mod PutLists
 pub mod PutLoads

@@ -1,6 +1,6 @@
 -- The next step of reclaiming is a cut: of the file shrunk last where that has blocks past its size, or of the file of the least CNID that waits where
 -- that has blocks.
-use Rattle.std.proofs.Common.{◌≡◌, inl, inr, ℕ, ◌==◌, Bool, true, false, not, List, [], ◌∷◌, length, refl, sym, ◌∙◌, ap, subst}
+use Rattle.std.proofs.Common.{◌≡◌, ◌⊎◌, inl, inr, ℕ, ◌==◌, Bool, true, false, not, List, [], ◌∷◌, length, refl, sym, ◌∙◌, ap, subst}
 use Rattle.std.specs.Prelude.{Contains, IfSome, nat_lt, Option, None, Some, if◌then◌else◌}
 use Rattle.std.specs.Option.{option_map}
 use Rattle.std.proofs.lemmas.Bool.{eqb-true, true≢false}
@@ -27,11 +27,13 @@ use Rattle.hfs_volume.proofs.Flat.{found_some, none_or_some, some_same}
 use Rattle.hfs_volume.proofs.Members.{at_front, behind, each_of, kept_cases}
 use Rattle.hfs_volume.proofs.NodesOf.{entry_of_is}
 use Rattle.hfs_volume.proofs.Sides.{is_entry_of}
-use Rattle.volume_space.specs.Cutting.{IsNextCut, blocks_left, kind_of, surplus_in}
+use Rattle.volume_space.specs.Cutting.{IsNextCut, blocks_left, surplus_in}
+use Rattle.volume_base.specs.Cutting.{fork_at, kind_of}
 use Rattle.volume_base.specs.Entering.{entry_by_id, entry_told, entry_with}
 use Rattle.volume_base.specs.Lists.{lists_of}
 use Rattle.volume_base.specs.Standing.{HoldsTrees, IsSettled}
-use Rattle.volume_space.specs.declared.cutting.ForkKind.TheVariants as kinds
+use Rattle.volume_base.specs.declared.forks.ForkKind.{ForkKind}
+use Rattle.volume_base.specs.declared.forks.ForkKind.TheVariants as kinds
 use Rattle.volume_base.specs.declared.entries.Entry.{Entry}
 use Rattle.volume_space.specs.declared.trimming.Surplus.{Surplus}
 use Rattle.volume_base.specs.declared.volume.Volume.{Volume}
@@ -92,8 +94,17 @@ module _ (volume : VolumeState) (sound : IsSoundVolume volume) (e : Placed) (sta
       ap (λ (l : List ℕ). length l) (λ i. blocks_of (extents_found (overflow_in_volume volume) f.fields.id resource_kind (file_fork resource_kind (found i))))
       ∙ many_are volume sound e stands own_resource (subst (λ (v : CatRecord). Contains (forks_in v) own_resource) (sym is) (behind own_data own_resource (own_resource ∷ []) (at_front own_resource [])))
 
-  pub wanted_is : blocks_wanted volume f.fields.id data_kind ≡ parts_for f.data_fork.logical_size volume.head.block_size
-  wanted_is = rw found refl
+  pub fork_many : (kind : ℕ) → (kind ≡ data_kind) ⊎ (kind ≡ resource_kind) → length (file_blocks volume f.fields.id kind) ≡ (fork_at kind f).total_blocks
+  fork_many kind (inl same) = subst (λ k. length (file_blocks volume f.fields.id k) ≡ (fork_at k f).total_blocks) (sym same) data_many
+  fork_many kind (inr same) = subst (λ k. length (file_blocks volume f.fields.id k) ≡ (fork_at k f).total_blocks) (sym same) resource_many
+
+  -- the blocks that the bytes of a fork take
+  pub wanted_of : (k : ForkKind) → blocks_wanted volume f.fields.id (kind_of k) ≡ parts_for (fork_at (kind_of k) f).logical_size volume.head.block_size
+  wanted_of kinds.Data = rw found refl
+  wanted_of kinds.Resource = rw found refl
+
+  wanted_is : blocks_wanted volume f.fields.id data_kind ≡ parts_for f.data_fork.logical_size volume.head.block_size
+  wanted_is = wanted_of kinds.Data
 
   surplus_is : is_surplus volume f.fields.id ≡ nat_lt (parts_for f.data_fork.logical_size volume.head.block_size) f.data_fork.total_blocks
   surplus_is = λ i. nat_lt (wanted_is i) (data_many i)

@@ -12,14 +12,13 @@ use Rattle.volume_header.specs.declared.header.VolumeHeader.{VolumeHeader}
 use Rattle.std.specs.Prelude.{Option, None, Some}
 use Rattle.hfs_volume.specs.Content.{VolumeState}
 use Rattle.hfs_volume.specs.Cost.{overflow_records}
-use Rattle.hfs_volume.specs.Forks.{data_kind}
-use Rattle.hfs_volume.specs.Weight.{Data, file_extents, free_runs, needs_cut, new_blocks_of, old_blocks_of}
+use Rattle.hfs_volume.specs.Weight.{Data, file_extents, free_runs, needs_cut_in, new_blocks_of, old_blocks_of}
 use Rattle.volume_base.specs.Changing.{catalog_node}
 use Rattle.volume_base.specs.Keeping.{Keeps}
 use Rattle.volume_base.specs.Looking.{ReadsVolume}
 use Rattle.volume_base.specs.Holding.{IsLaidOutAs}
 use Rattle.volume_space.specs.Spreading.{edits_load}
-use Rattle.volume_space.specs.Writing.{PutsAt, PutsValue, blocks_put, can_put, data_load, has_more, is_put_now, may_overflow, most_extents, put_load, spread_put_load}
+use Rattle.volume_space.specs.Writing.{PutsAt, PutsValue, blocks_put, can_put, data_load, has_more, is_put_now_in, may_overflow, most_extents, put_load, spread_put_load}
 use Rattle.volume_base.specs.declared.volume.Volume.{Volume}
 
 -- The same header, the same blocks used and held, and nodes of the same size.
@@ -78,23 +77,23 @@ module _ (v u : Volume) (like : IsAlike v u) where
       λ i. 1 + node_alike i + min (sectors_for (length (like.used i))) (fresh_alike put i / 4096 + 2 * fewest_of (fresh_alike put i) (free_runs (free_alike i)) + ap (λ (h : VolumeHeader). old_blocks_of h.block_size put) like.header i)
 
   -- whether data can be put now
-  pub now_alike : (spare : ℕ) (lists : VolumeState) (o : Option Data) → is_put_now u spare lists o ≡ is_put_now v spare lists o
-  now_alike spare lists None = refl
-  now_alike spare lists (Some put) =
-      λ i. not (needs_cut lists (Some put) || may_overflow (length (file_extents lists put.id data_kind)) (fewest_of (fresh_alike put i) (free_runs (free_alike i))))
+  pub now_alike : (k spare : ℕ) (lists : VolumeState) (o : Option Data) → is_put_now_in k u spare lists o ≡ is_put_now_in k v spare lists o
+  now_alike k spare lists None = refl
+  now_alike k spare lists (Some put) =
+      λ i. not (needs_cut_in k lists (Some put) || may_overflow (length (file_extents lists put.id k)) (fewest_of (fresh_alike put i) (free_runs (free_alike i))))
       && (nat_le (fresh_alike put i) (count_set (free_alike i)) && nat_le (data_alike put i) spare)
 
   pub laid_alike : (committed : Content) → IsLaidOutAs committed v → IsLaidOutAs committed u
   laid_alike committed was = record { block = was.block ∙ sym (ap (λ (h : VolumeHeader). h.block_size) like.header); total = was.total ∙ sym (ap (λ (l : List Bool). length l) like.used) }
 
-  pub puts_alike : (file : FileRecord) (from : ℕ) (value : List ℕ) (w : Volume) (before was after : Content) → before ≡ was → PutsValue file from value u w before after → PutsValue file from value v w was after
-  puts_alike file from value w before was after same puts = from_header (subst (λ (k : VolumeHeader × Content). PutsValue file from value (record u { header = k.0 }) w k.1 after) {x = (u.header, before)} {y = (v.header, was)} (λ i. (like.header i, same i)) puts)
+  pub puts_alike : (kind : ℕ) (file : FileRecord) (from : ℕ) (value : List ℕ) (w : Volume) (before was after : Content) → before ≡ was → PutsValue kind file from value u w before after → PutsValue kind file from value v w was after
+  puts_alike kind file from value w before was after same puts = from_header (subst (λ (k : VolumeHeader × Content). PutsValue kind file from value (record u { header = k.0 }) w k.1 after) {x = (u.header, before)} {y = (v.header, was)} (λ i. (like.header i, same i)) puts)
     where
-      from_header : PutsValue file from value (record u { header = v.header }) w was after → PutsValue file from value v w was after
+      from_header : PutsValue kind file from value (record u { header = v.header }) w was after → PutsValue kind file from value v w was after
       from_header p = record { lists = p.lists; fresh = p.fresh; many = p.many; rewrites = p.rewrites; same_file = p.same_file; makes = p.makes; settles = p.settles; tree = p.tree; now = p.now }
 
-  pub at_alike : (id from : ℕ) (value : List ℕ) (w : Volume) (before was after : Content) → before ≡ was → PutsAt id from value u w before after → PutsAt id from value v w was after
-  at_alike id from value w before was after same puts = from_content (subst (λ (c : Content). PutsAt id from value u w c after) same puts)
+  pub at_alike : (kind id from : ℕ) (value : List ℕ) (w : Volume) (before was after : Content) → before ≡ was → PutsAt kind id from value u w before after → PutsAt kind id from value v w was after
+  at_alike kind id from value w before was after same puts = from_content (subst (λ (c : Content). PutsAt kind id from value u w c after) same puts)
     where
-      from_content : PutsAt id from value u w was after → PutsAt id from value v w was after
-      from_content p = record { file = p.file; number = p.number; stands = p.stands; puts = puts_alike p.file from value w was was after (λ i. was) p.puts }
+      from_content : PutsAt kind id from value u w was after → PutsAt kind id from value v w was after
+      from_content p = record { file = p.file; number = p.number; stands = p.stands; puts = puts_alike kind p.file from value w was was after (λ i. was) p.puts }

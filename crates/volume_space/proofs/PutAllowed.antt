@@ -10,11 +10,10 @@ use Rattle.alloc_bitmap.specs.Map.{free_of}
 use Rattle.file_io.specs.Places.{blocks_for}
 use Rattle.hfs_model.specs.Step.{padded}
 use Rattle.hfs_volume.specs.Content.{VolumeState}
-use Rattle.hfs_volume.specs.Forks.{data_kind}
-use Rattle.hfs_volume.specs.Weight.{Data, file_extents, free_runs, needs_cut, new_blocks_of}
+use Rattle.hfs_volume.specs.Weight.{Data, file_extents, free_runs, needs_cut_in, new_blocks_of}
 use Rattle.hfs_volume.specs.Writing.{resized_bytes, written_bytes}
 use Rattle.volume_base.specs.Changing.{catalog_node}
-use Rattle.volume_space.specs.Writing.{IsAt, blocks_put, can_put, data_load, has_more, is_put_now, may_overflow, put_load}
+use Rattle.volume_space.specs.Writing.{IsAt, blocks_put, can_put, data_load, has_more, is_put_now_in, may_overflow, put_load}
 use Rattle.volume_base.specs.declared.volume.Volume.{Volume}
 use Rattle.volume_space.proofs.PutNumbers.{freed_is, fresh_is}
 
@@ -32,9 +31,9 @@ module _ (v : Volume) (put : Data) (size from long : ℕ) (at : IsAt put size fr
   load_is = λ i. 1 + catalog_node v
       + min (sectors_for (length v.map.used)) (sym (fresh_is put size from (from + long) v.header.block_size at some) i / 4096 + 2 * fewest_of (sym (fresh_is put size from (from + long) v.header.block_size at some) i) (free_runs (free_of v.map)) + sym (freed_is put size from (from + long) v.header.block_size at some) i)
 
-  pub can_is : (spare extents total : ℕ) (lists : VolumeState) → has_more size (from + long) (blocks_for v.header.block_size size) total ≡ needs_cut lists (Some put) → extents ≡ length (file_extents lists put.id data_kind)
-      → can_put v spare extents total size from long ≡ is_put_now v spare lists (Some put)
-  can_is spare extents total lists surplus many =
+  pub can_is : (k spare extents total : ℕ) (lists : VolumeState) → has_more size (from + long) (blocks_for v.header.block_size size) total ≡ needs_cut_in k lists (Some put) → extents ≡ length (file_extents lists put.id k)
+      → can_put v spare extents total size from long ≡ is_put_now_in k v spare lists (Some put)
+  can_is k spare extents total lists surplus many =
       both_ways (has_more size (from + long) (blocks_for v.header.block_size size) total) (may_overflow extents (fewest_of (blocks_put v size from long) (free_runs (free_of v.map)))) (nat_le (blocks_put v size from long) (count_set (free_of v.map))) (nat_le (put_load v size from long) spare)
       ∙ (λ i. not (surplus i || may_overflow (many i) (fewest_of (fresh i) (free_runs (free_of v.map)))) && (nat_le (fresh i) (count_set (free_of v.map)) && nat_le (load_is i) spare))
     where

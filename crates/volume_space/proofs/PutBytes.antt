@@ -25,7 +25,7 @@ use Rattle.hfs_volume.specs.Entries.{IsUserId}
 use Rattle.hfs_volume.specs.Forks.{Owned, allocation_id, blocks_owned, catalog_id, extents_id, data_kind, extents_of, parts_for, per_block_of, reserved_blocks, special_forks}
 use Rattle.hfs_volume.specs.Records.{Overflow, Placed, entries_of, id_in, id_of, overflow_of}
 use Rattle.hfs_volume.specs.Sound.{IsSound, IsSoundVolume}
-use Rattle.hfs_volume.specs.TreeOf.{file_bytes}
+use Rattle.hfs_volume.specs.TreeOf.{bytes_in_fork}
 use Rattle.hfs_volume.specs.Writing.{IsPutSector, written_bytes}
 use Rattle.hfs_volume.proofs.Apart.{among, fork_is_used, not_in_both, not_reserved, reserved_is_used}
 use Rattle.hfs_volume.proofs.BlockWants.{in_range}
@@ -61,12 +61,12 @@ bytes_agree : (a b : Content) (xs : List ℕ) → ((at : ℕ) → Contains xs at
 unfolding sector_bytes
 bytes_agree a b xs same = flat_agree (sector_bytes b) (sector_bytes a) xs (λ at has. ap (λ (l : List ℕ). take 512 (padded_bytes 512 l)) (same at has))
 
--- the bytes of a file, by lists that say where its blocks are
-read_by : (content : Content) (lists : VolumeState) → ReadsAs content lists → (file : FileRecord)
-    → file_bytes content file ≡ take file.data_fork.logical_size (block_bytes content (lists.head.total_blocks * per_block_of lists.head) (sectors_of (per_block_of lists.head) (blocks_of (extents_of (overflow_in_volume lists) file.fields.id data_kind file.data_fork))))
-unfolding file_bytes
-read_by content lists reads file = λ i. take file.data_fork.logical_size
-    (block_bytes content (reads.total i * (reads.block i / 512)) (sectors_of (reads.block i / 512) (blocks_of (extents_of (map overflow_of (reads.overflow i)) file.fields.id data_kind file.data_fork))))
+-- the bytes of a fork, by lists that say where its blocks are
+read_by : (content : Content) (lists : VolumeState) → ReadsAs content lists → (owned : Owned)
+    → bytes_in_fork content owned.id owned.kind owned.fork ≡ take owned.fork.logical_size (block_bytes content (lists.head.total_blocks * per_block_of lists.head) (sectors_of (per_block_of lists.head) (blocks_of (extents_of (overflow_in_volume lists) owned.id owned.kind owned.fork))))
+unfolding bytes_in_fork
+read_by content lists reads owned = λ i. take owned.fork.logical_size
+    (block_bytes content (reads.total i * (reads.block i / 512)) (sectors_of (reads.block i / 512) (blocks_of (extents_of (map overflow_of (reads.overflow i)) owned.id owned.kind owned.fork))))
 
 -- each item of a list passes
 each_low : (xs : List Owned) → AllByRecursion (λ (o : Owned). o.id < 16) xs → (owned : Owned) → Contains xs owned → owned.id < 16
@@ -155,33 +155,27 @@ module _ (content between after : Content) (sound : IsSound content) (fresh : Li
     fresh_apart block has (inl kept_back) = used_apart block has (reserved_is_used lists block kept_back)
     fresh_apart block has (inr special) = used_apart block has (fork_is_used lists special.0 block (special_stands lists special.0 special.1) special.2)
 
-    module _ (p : Placed) (file : FileRecord) (stands : Contains (entries_of (records_of (volume_of content))) p) (value : p.value ≡ File file) where
-      there : Contains (forks_of (volume_of content)) (data_fork_of file)
-      there = file_fork_stands lists p file stands value
+    module _ (owned : Owned) (there : Contains (forks_of (volume_of content)) owned) (high : 16 ≤ owned.id) where
+      low : (special : Owned) → Contains (special_forks (volume_of content).head) special → special.id < 16
+      low special has = each_low (special_forks lists.head) (omega arith, (omega arith, (omega arith, (omega arith, (omega arith, tt))))) special has
 
-      high : 16 ≤ file.fields.id
-      high = file_high lists sound.volume p stands file value
-
-      low : (owned : Owned) → Contains (special_forks (volume_of content).head) owned → owned.id < 16
-      low owned has = each_low (special_forks lists.head) (omega arith, (omega arith, (omega arith, (omega arith, (omega arith, tt))))) owned has
-
-      file_apart : (block : ℕ) → Contains (blocks_owned (overflow_in_volume (volume_of content)) (data_fork_of file)) block → IsSpecialBlock block → ⊥
-      file_apart block has (inl kept_back) = not_reserved lists sound.volume.blocks.forks (data_fork_of file) block kept_back there has
-      file_apart block has (inr special) = not_in_both lists sound.volume.blocks.forks special.0 (data_fork_of file) block (special_stands lists special.0 special.1) there
+      file_apart : (block : ℕ) → Contains (blocks_owned (overflow_in_volume (volume_of content)) owned) block → IsSpecialBlock block → ⊥
+      file_apart block has (inl kept_back) = not_reserved lists sound.volume.blocks.forks owned block kept_back there has
+      file_apart block has (inr special) = not_in_both lists sound.volume.blocks.forks special.0 owned block (special_stands lists special.0 special.1) there
           (λ same. absurd (omega (arith, high, low special.0 special.1, ap (λ (o : Owned). o.id) same))) special.2 has
 
-      module _ (blocks : List ℕ) (cases : (block : ℕ) → Contains blocks block → Contains (blocks_owned (overflow_in_volume (volume_of content)) (data_fork_of file)) block ⊎ Contains fresh block) where
+      module _ (blocks : List ℕ) (cases : (block : ℕ) → Contains blocks block → Contains (blocks_owned (overflow_in_volume (volume_of content)) owned) block ⊎ Contains fresh block) where
         same_there : (s : ℕ) → Contains (sectors_of (per_block_of (volume_of content).head) blocks) s → sector after s ≡ sector between s
         same_there s has = ⊎_elim (λ same. same)
             (λ special. absurd (⊎_elim (λ old. file_apart (s / per) old (special_block s special)) (λ new. fresh_apart (s / per) new (special_block s special)) (cases (s / per) (in_block per blocks s whole.some has))))
             (later.each s)
 
         -- the bytes of a file in these blocks
-        pub bytes_then : (lists_then : VolumeState) → ReadsAs after lists_then → lists_then.head.block_size ≡ (volume_of content).head.block_size → (other : FileRecord)
-            → blocks_of (extents_of (overflow_in_volume lists_then) other.fields.id data_kind other.data_fork) ≡ blocks
+        pub bytes_then : (lists_then : VolumeState) → ReadsAs after lists_then → lists_then.head.block_size ≡ (volume_of content).head.block_size → (other : Owned)
+            → blocks_of (extents_of (overflow_in_volume lists_then) other.id other.kind other.fork) ≡ blocks
             → ((s : ℕ) → Contains (sectors_of (per_block_of (volume_of content).head) blocks) s → s < lists_then.head.total_blocks * per_block_of lists_then.head)
-            → file_bytes after other ≡ take other.data_fork.logical_size (bytes_in between (sectors_of (per_block_of (volume_of content).head) blocks))
+            → bytes_in_fork after other.id other.kind other.fork ≡ take other.fork.logical_size (bytes_in between (sectors_of (per_block_of (volume_of content).head) blocks))
         bytes_then lists_then reads same_size other is inside =
             read_by after lists_then reads other
-            ∙ (λ i. take other.data_fork.logical_size (block_bytes after (lists_then.head.total_blocks * per_block_of lists_then.head) (sectors_of (same_size i / 512) (is i))))
-            ∙ ap (take other.data_fork.logical_size) (bytes_inside after (lists_then.head.total_blocks * per_block_of lists_then.head) (sectors_of per blocks) inside ∙ bytes_agree between after (sectors_of per blocks) same_there)
+            ∙ (λ i. take other.fork.logical_size (block_bytes after (lists_then.head.total_blocks * per_block_of lists_then.head) (sectors_of (same_size i / 512) (is i))))
+            ∙ ap (take other.fork.logical_size) (bytes_inside after (lists_then.head.total_blocks * per_block_of lists_then.head) (sectors_of per blocks) inside ∙ bytes_agree between after (sectors_of per blocks) same_there)

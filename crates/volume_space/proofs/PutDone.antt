@@ -1,5 +1,5 @@
 -- What `write` and `trunc` come to where data was put: the step's tree, a settled volume, and the lists that they speak of.
-use Rattle.std.proofs.Common.{◌≡◌, ◌<◌, ◌≤◌, ℕ, ◌+◌, ◌-◌, ◌||◌, ◌&&◌, not, Bool, true, false, List, [], ◌∷◌, length, refl, sym, ◌∙◌, ap, subst, arith}
+use Rattle.std.proofs.Common.{◌≡◌, inl, ◌<◌, ◌≤◌, ℕ, ◌+◌, ◌-◌, ◌||◌, ◌&&◌, not, Bool, true, false, List, [], ◌∷◌, length, refl, sym, ◌∙◌, ap, subst, arith}
 use Rattle.std.specs.Prelude.{Contains, IsTrue, Some, Ok}
 use Rattle.std.proofs.lemmas.Bool.{and_parts}
 use Rattle.flag_rows.specs.Runs.{fewest_of}
@@ -11,33 +11,29 @@ use Rattle.hfs_language.specs.declared.command.Command.{Command}
 use Rattle.hfs_language.specs.declared.command.Command.TheVariants as command
 use Rattle.hfs_model.specs.Step.{step, to_trunc, to_write}
 use Rattle.hfs_model.specs.declared.plain.PlainNode.{PlainNode}
-use Rattle.volume_header.specs.declared.header.VolumeHeader.{VolumeHeader}
 use Rattle.hfs_volume.specs.Content.{VolumeState, volume_of}
 use Rattle.hfs_volume.specs.Forks.{data_kind}
-use Rattle.hfs_volume.specs.Laws.{IsUserFile}
 use Rattle.hfs_volume.specs.TreeOf.{bytes_in, file_bytes, tree_of}
-use Rattle.hfs_volume.specs.Weight.{Data, data_of, file_extents, first_block, needs_cut, new_blocks_of, old_blocks_of}
+use Rattle.hfs_volume.specs.Weight.{Data, data_of, file_extents, needs_cut}
 use Rattle.hfs_volume.specs.Writing.{MakesBytes, RewritePuts, RewritesFile, TruncDoes, WriteDoes, file_before, resized_bytes, written_bytes}
 use Rattle.hfs_volume.proofs.Bytes.{file_bytes_are}
 use Rattle.volume_base.specs.Standing.{IsSettled, StandsOver}
 use Rattle.volume_space.specs.Writing.{HasData, IsAt, PutsAt, fits_data, fresh_runs, is_put_later, is_put_now, may_overflow}
 use Rattle.volume_base.specs.declared.volume.Volume.{Volume}
 use Rattle.volume_space.proofs.PutAllowed.{zero_last}
-use Rattle.volume_space.proofs.PutFork.{file_high}
+use Rattle.volume_space.proofs.PutForks.{forks_put, rewritten, user_put}
 use Rattle.volume_space.proofs.PutFile.{its, long_is, only}
-use Rattle.volume_space.proofs.PutNumbers.{first_is, freed_is, fresh_is}
-use Rattle.volume_space.proofs.PutUser.{is_users}
 
 -- data that can be put now has no blocks before it that go first
 pub no_cut_now : (v : Volume) (spare : ℕ) (lists : VolumeState) (put : Data) → is_put_now v spare lists (Some put) ≡ true → needs_cut lists (Some put) ≡ false
-no_cut_now v spare lists put now = by (needs_cut lists (Some put)) (may_overflow (length (file_extents lists put.id data_kind)) (fresh_runs v put)) (and_parts (not (is_put_later v lists put)) (fits_data v spare put) now).0
+no_cut_now v spare lists put now = by (needs_cut lists (Some put)) (may_overflow (length (file_extents lists put.id data_kind)) (fresh_runs v put)) (and_parts (not (is_put_later data_kind v lists put)) (fits_data v spare put) now).0
   where
     by : (b c : Bool) → not (b || c) ≡ true → b ≡ false
     by true c is = sym is
     by false c is = refl
 
 module _ (v w : Volume) (a : Space) (after : Content) (holds : StandsOver v a) (tells : IsTrue a.tells) (settled : IsSettled v a.content) (node : PlainNode) (stands : Contains (tree_of a.content).nodes node) (kind : node.folder ≡ false)
-    (from : ℕ) (value : List ℕ) (puts : PutsAt node.id from value v w a.content after)
+    (from : ℕ) (value : List ℕ) (puts : PutsAt data_kind node.id from value v w a.content after)
   where
     abbrev file : FileRecord
     file = puts.file
@@ -48,11 +44,11 @@ module _ (v w : Volume) (a : Space) (after : Content) (holds : StandsOver v a) (
     abbrev block : ℕ
     block = v.header.block_size
 
-    same : (its v a holds tells settled node stands kind).file ≡ puts.file
-    same = only v a holds tells settled node stands kind puts.file puts.stands puts.number
+    same : (its data_kind (inl refl) v a holds tells settled node stands kind).file ≡ puts.file
+    same = only data_kind (inl refl) v a holds tells settled node stands kind puts.file puts.stands puts.number
 
     long : length node.bytes ≡ puts.file.data_fork.logical_size
-    long = long_is v a holds tells settled node stands kind puts.file same
+    long = long_is data_kind (inl refl) v a holds tells settled node stands kind puts.file same
 
     -- ---- the step
 
@@ -73,12 +69,15 @@ module _ (v w : Volume) (a : Space) (after : Content) (holds : StandsOver v a) (
 
     -- a zero that was written where the last byte will be makes the file longer
     module _ (longer : ℕ) (place : from ≡ longer - 1) (zero_is : value ≡ 0 ∷ []) (short : length node.bytes < longer) where
-      before_long : length (file_bytes a.content (file_before puts.puts.rewrites.puts)) ≡ length node.bytes
-      before_long = ap (λ (f : FileRecord). length (file_bytes a.content f)) (puts.puts.same_file ∙ sym same) ∙ sym (ap (λ (l : List ℕ). length l) (its v a holds tells settled node stands kind).bytes)
+      before_long : length ((file_bytes a.content (file_before puts.puts.rewrites.puts)).data_bytes) ≡ length node.bytes
+      before_long = ap (λ (f : FileRecord). length ((file_bytes a.content f).data_bytes)) (puts.puts.same_file ∙ sym same) ∙ sym (ap (λ (l : List ℕ). length l) (its data_kind (inl refl) v a holds tells settled node stands kind).bytes)
+
+      longer_bytes : written_bytes from value (file_bytes a.content (file_before puts.puts.rewrites.puts)).data_bytes ≡ resized_bytes longer (file_bytes a.content (file_before puts.puts.rewrites.puts)).data_bytes
+      longer_bytes = (λ i. written_bytes (place i) (zero_is i) (file_bytes a.content (file_before puts.puts.rewrites.puts)).data_bytes) ∙ zero_last (file_bytes a.content (file_before puts.puts.rewrites.puts)).data_bytes longer (omega (arith, short, before_long))
 
       resized_here : MakesBytes (resized_bytes longer) puts.puts.rewrites (bytes_in a.content) (bytes_in after)
       resized_here = record {
-        made = puts.puts.makes.made ∙ (λ i. written_bytes (place i) (zero_is i) (file_bytes a.content (file_before puts.puts.rewrites.puts))) ∙ zero_last (file_bytes a.content (file_before puts.puts.rewrites.puts)) longer (omega (arith, short, before_long));
+        made = puts.puts.makes.made ∙ (λ i. record (file_bytes a.content (file_before puts.puts.rewrites.puts)) { data_bytes = longer_bytes i });
         others = puts.puts.makes.others;
       }
 
@@ -95,42 +94,13 @@ module _ (v w : Volume) (a : Space) (after : Content) (holds : StandsOver v a) (
     -- ---- the lists
 
     module _ (put : Data) (number : put.id ≡ node.id) (at : IsAt put (length node.bytes) from (from + length value)) (no_cut : needs_cut (volume_of a.content) (Some put) ≡ false) (law : RewritePuts) where
-      here : IsAt put puts.file.data_fork.logical_size from (from + length value)
-      here = subst (λ n. IsAt put n from (from + length value)) long at
-
-      head_is : (volume_of a.content).head ≡ v.header
-      head_is = ap (λ (l : VolumeState). l.head) settled.lists
-
-      some_block : 0 < v.header.block_size
-      some_block = omega (arith, holds.service.least)
-
-      first : first_of v.header.block_size puts.file.data_fork.logical_size from ≡ first_block (volume_of a.content).head.block_size put
-      first = sym (ap (λ (h : VolumeHeader). first_block h.block_size put) head_is ∙ first_is put puts.file.data_fork.logical_size from (from + length value) v.header.block_size here some_block)
-
-      freed : old_end v.header.block_size puts.file.data_fork.logical_size (from + length value) - first_of v.header.block_size puts.file.data_fork.logical_size from ≡ old_blocks_of (volume_of a.content).head.block_size put
-      freed = sym (ap (λ (h : VolumeHeader). old_blocks_of h.block_size put) head_is ∙ freed_is put puts.file.data_fork.logical_size from (from + length value) v.header.block_size here some_block)
-
-      many : length puts.puts.fresh ≡ new_blocks_of (volume_of a.content).head.block_size put
-      many = puts.puts.many ∙ sym (ap (λ (h : VolumeHeader). new_blocks_of h.block_size put) head_is ∙ fresh_is put puts.file.data_fork.logical_size from (from + length value) v.header.block_size here some_block)
-
-      rewritten_to : (new : VolumeState) → puts.puts.lists ≡ new → RewritesFile put.id (first_block (volume_of a.content).head.block_size put) (old_blocks_of (volume_of a.content).head.block_size put) puts.puts.fresh (volume_of a.content) new
-      rewritten_to new is =
-          subst (λ (l : VolumeState). RewritesFile put.id (first_block (volume_of a.content).head.block_size put) (old_blocks_of (volume_of a.content).head.block_size put) puts.puts.fresh (volume_of a.content) l) is
-          (subst (λ n. RewritesFile put.id (first_block (volume_of a.content).head.block_size put) n puts.puts.fresh (volume_of a.content) puts.puts.lists) freed
-          (subst (λ n. RewritesFile put.id n (old_end v.header.block_size puts.file.data_fork.logical_size (from + length value) - first_of v.header.block_size puts.file.data_fork.logical_size from) puts.puts.fresh (volume_of a.content) puts.puts.lists) first
-          (subst (λ id. RewritesFile id (first_of v.header.block_size puts.file.data_fork.logical_size from) (old_end v.header.block_size puts.file.data_fork.logical_size (from + length value) - first_of v.header.block_size puts.file.data_fork.logical_size from) puts.puts.fresh (volume_of a.content) puts.puts.lists)
-          (puts.number ∙ sym number) puts.puts.rewrites)))
-
-      rewritten : RewritesFile put.id (first_block (volume_of a.content).head.block_size put) (old_blocks_of (volume_of a.content).head.block_size put) puts.puts.fresh (volume_of a.content) (volume_of after)
-      rewritten = rewritten_to (volume_of after) (sym puts.puts.now)
-
       pub data_done : (asked : Command) → data_of (tree_of a.content) asked ≡ Some put → HasData asked a.content after
       data_done asked is = record {
         put = put;
         is_asked = is;
         no_cut = no_cut;
         fresh = puts.puts.fresh;
-        rewrites = rewritten;
-        forks = law put puts.puts.fresh (volume_of a.content) (volume_of after) settled.sound (subst (λ id. IsUserFile id (volume_of a.content)) (sym number) (is_users (volume_of a.content) settled.sound (bytes_in a.content) node (its v a holds tells settled node stands kind))) rewritten many;
-        user = subst (λ n. 16 ≤ n) (puts.number ∙ sym number) (file_high (volume_of a.content) settled.sound puts.stands.entry puts.stands.stands puts.file puts.stands.value);
+        rewrites = rewritten data_kind (inl refl) v w a after holds tells settled node stands kind from value puts put number at;
+        forks = forks_put data_kind (inl refl) v w a after holds tells settled node stands kind from value puts put number at law;
+        user = user_put data_kind (inl refl) v w a after holds tells settled node stands kind from value puts put number at;
       }

@@ -1,5 +1,5 @@
 -- Where a put of data is met by what it costs of the blocks that may be taken, it is one that can be made now.
-use Rattle.std.proofs.Common.{◌≡◌, ◌≢◌, ◌<◌, ◌≤◌, ℕ, ◌+◌, ◌-◌, ◌*◌, ◌/◌, ◌==◌, ◌&&◌, ◌||◌, not, min, nat_le, Bool, true, false, List, length, refl, sym, ◌∙◌, ap, arith}
+use Rattle.std.proofs.Common.{◌≡◌, ◌≢◌, ◌⊎◌, ◌<◌, ◌≤◌, ℕ, ◌+◌, ◌-◌, ◌*◌, ◌/◌, ◌==◌, ◌&&◌, ◌||◌, not, min, nat_le, Bool, true, false, List, length, refl, sym, ◌∙◌, ap, arith}
 use Rattle.std.specs.Prelude.{nat_lt, slice_index, Option, None, Some, if◌then◌else◌}
 use Rattle.std.proofs.lemmas.Bool.{and_parts, eqb-true, leb-true, le-leb, ltb-false, ne_eqb, not-true, true≢false}
 use Rattle.std.proofs.lemmas.Nat.{div_below}
@@ -13,21 +13,22 @@ use Rattle.file_io.specs.Places.{blocks_for, first_block, new_blocks, old_end}
 use Rattle.file_io.proofs.PlaceLaws.{blocks_hold}
 use Rattle.hfs_volume.specs.Content.{VolumeState, records_of, volume_of}
 use Rattle.hfs_volume.specs.Cost.{cost_of, depth_of, extents_key, load_of, overflow_records, plan_of, rises, tree_at}
-use Rattle.hfs_volume.specs.Forks.{data_kind, parts_for}
-use Rattle.hfs_volume.specs.Weight.{Data, extents_edits, file_extents, free_runs, needs_cut, new_blocks_of, old_blocks_of, room_with}
+use Rattle.hfs_volume.specs.Forks.{data_kind, parts_for, resource_kind}
+use Rattle.hfs_volume.specs.Weight.{Data, extents_edits, file_extents, free_runs, needs_cut_in, new_blocks_of, old_blocks_of, room_with}
 use Rattle.hfs_volume.specs.declared.cost.Cost.{Cost}
 use Rattle.hfs_volume.specs.declared.cost.Cost.TheVariants as cost
 use Rattle.hfs_volume.specs.declared.cost.Needs.{Needs}
 use Rattle.hfs_volume.specs.declared.cost.Room.{Room}
 use Rattle.tree_weights.specs.Weights.{LoadSaysEnough}
+use Rattle.volume_base.specs.Cutting.{fork_at}
 use Rattle.volume_base.specs.Changing.{catalog_node}
-use Rattle.volume_base.specs.DataWeighing.{needs_data}
+use Rattle.volume_base.specs.DataWeighing.{needs_data_in}
 use Rattle.volume_base.specs.Reading.{HasFile}
 use Rattle.volume_base.specs.Standing.{IsSettled}
 use Rattle.volume_base.specs.declared.volume.Volume.{Volume}
-use Rattle.volume_space.specs.Recording.{records_held}
+use Rattle.volume_space.specs.Recording.{records_in}
 use Rattle.volume_space.specs.Spreading.{is_met_extents}
-use Rattle.volume_space.specs.Writing.{IsAt, blocks_put, can_put, cost_to_put, extents_in, has_more, is_data_met, is_put_met, may_overflow, needs_of_put, put_load}
+use Rattle.volume_space.specs.Writing.{IsAt, blocks_put, can_put, cost_to_put, extents_in, has_more, is_data_met_in, is_put_met, may_overflow, needs_of_put, put_load}
 use Rattle.volume_space.proofs.ExtentRoom.{third_false}
 use Rattle.volume_space.proofs.HeldRecords.{held_is}
 use Rattle.volume_space.proofs.PutAlike.{IsAlike}
@@ -163,10 +164,10 @@ met_alike v u like capacity lists was same spare_then spare records_then records
     freed : old_end u.header.block_size size (from + long) - first_block u.header.block_size size from ≡ old_end v.header.block_size size (from + long) - first_block v.header.block_size size from
     freed = ap (λ (h : VolumeHeader). old_end h.block_size size (from + long) - first_block h.block_size size from) like.header
 
-pub data_met_alike : (v u : Volume) → IsAlike v u → u.capacity ≡ v.capacity → (spare : ℕ) (lists : VolumeState) (o : Option Data) → is_data_met u spare lists o ≡ is_data_met v spare lists o
-data_met_alike v u like capacity spare lists None = refl
-data_met_alike v u like capacity spare lists (Some put) =
-    λ i. not (needs_cut lists (Some put)) && is_met_extents (cost_of (needs_data (free i) lists put) (room_with (capacity i) (free i) lists)) spare
+pub data_met_alike : (k : ℕ) (v u : Volume) → IsAlike v u → u.capacity ≡ v.capacity → (spare : ℕ) (lists : VolumeState) (o : Option Data) → is_data_met_in k u spare lists o ≡ is_data_met_in k v spare lists o
+data_met_alike k v u like capacity spare lists None = refl
+data_met_alike k v u like capacity spare lists (Some put) =
+    λ i. not (needs_cut_in k lists (Some put)) && is_met_extents (cost_of (needs_data_in k (free i) lists put) (room_with (capacity i) (free i) lists)) spare
   where
     free : free_of u.map ≡ free_of v.map
     free = λ i. free_of (record u.map { used = like.used i; held = like.held i })
@@ -179,38 +180,38 @@ some_fresh block size from long some longer =
     let before = div_below (min from size) block (blocks_for block (from + long)) some (omega (arith, blocks_hold block (from + long) some, longer)) in
     omega (arith, before)
 
-module _ (v : Volume) (content : Content) (settled : IsSettled v content) (file : FileRecord) (has : HasFile (records_of (volume_of content)) file)
-    (put : Data) (from long : ℕ) (number : put.id ≡ file.fields.id) (at : IsAt put file.data_fork.logical_size from (from + long)) (some : 0 < v.header.block_size) (longer : 0 < long)
+module _ (k : ℕ) (is_kind : (k ≡ data_kind) ⊎ (k ≡ resource_kind)) (v : Volume) (content : Content) (settled : IsSettled v content) (file : FileRecord) (has : HasFile (records_of (volume_of content)) file)
+    (put : Data) (from long : ℕ) (number : put.id ≡ file.fields.id) (at : IsAt put (fork_at k file).logical_size from (from + long)) (some : 0 < v.header.block_size) (longer : 0 < long)
   where
     head_is : (volume_of content).head ≡ v.header
     head_is = ap (λ (l : VolumeState). l.head) settled.lists
 
-    fresh_are : new_blocks_of (volume_of content).head.block_size put ≡ blocks_put v file.data_fork.logical_size from long
-    fresh_are = ap (λ (h : VolumeHeader). new_blocks_of h.block_size put) head_is ∙ fresh_is put file.data_fork.logical_size from (from + long) v.header.block_size at some
+    fresh_are : new_blocks_of (volume_of content).head.block_size put ≡ blocks_put v (fork_at k file).logical_size from long
+    fresh_are = ap (λ (h : VolumeHeader). new_blocks_of h.block_size put) head_is ∙ fresh_is put (fork_at k file).logical_size from (from + long) v.header.block_size at some
 
-    freed_are : old_blocks_of (volume_of content).head.block_size put ≡ old_end v.header.block_size file.data_fork.logical_size (from + long) - first_block v.header.block_size file.data_fork.logical_size from
-    freed_are = ap (λ (h : VolumeHeader). old_blocks_of h.block_size put) head_is ∙ freed_is put file.data_fork.logical_size from (from + long) v.header.block_size at some
+    freed_are : old_blocks_of (volume_of content).head.block_size put ≡ old_end v.header.block_size (fork_at k file).logical_size (from + long) - first_block v.header.block_size (fork_at k file).logical_size from
+    freed_are = ap (λ (h : VolumeHeader). old_blocks_of h.block_size put) head_is ∙ freed_is put (fork_at k file).logical_size from (from + long) v.header.block_size at some
 
     edits_are : (runs : ℕ)
-        → extents_edits (length (file_extents (volume_of content) put.id data_kind)) runs (blocks_put v file.data_fork.logical_size from long)
-        ≡ records_held (volume_of content) file.fields.id + overflow_records (length (extents_in content file) + 1 + runs)
+        → extents_edits (length (file_extents (volume_of content) put.id k)) runs (blocks_put v (fork_at k file).logical_size from long)
+        ≡ records_in k (volume_of content) file.fields.id + overflow_records (length (extents_in k content file) + 1 + runs)
     edits_are runs =
-        ap (λ b. if b then 0 else overflow_records (length (file_extents (volume_of content) put.id data_kind)) + overflow_records (length (file_extents (volume_of content) put.id data_kind) + 1 + runs))
-        (ne_eqb (blocks_put v file.data_fork.logical_size from long) 0 (λ none. absurd (omega (arith, none, some_fresh v.header.block_size file.data_fork.logical_size from long some longer))))
-        ∙ (λ i. overflow_records (sym (many v content settled file has put from long number at some) i) + overflow_records (sym (many v content settled file has put from long number at some) i + 1 + runs))
-        ∙ ap (λ n. n + overflow_records (length (extents_in content file) + 1 + runs)) (sym (held_is v content settled file has))
+        ap (λ b. if b then 0 else overflow_records (length (file_extents (volume_of content) put.id k)) + overflow_records (length (file_extents (volume_of content) put.id k) + 1 + runs))
+        (ne_eqb (blocks_put v (fork_at k file).logical_size from long) 0 (λ none. absurd (omega (arith, none, some_fresh v.header.block_size (fork_at k file).logical_size from long some longer))))
+        ∙ (λ i. overflow_records (sym (many k is_kind v content settled file has put from long number at some) i) + overflow_records (sym (many k is_kind v content settled file has put from long number at some) i + 1 + runs))
+        ∙ ap (λ n. n + overflow_records (length (extents_in k content file) + 1 + runs)) (sym (held_is k is_kind v content settled file has))
 
-    pub data_is_met : (spare : ℕ) → is_data_met v spare (volume_of content) (Some put) ≡ true
-        → is_put_met v (volume_of content) spare (records_held (volume_of content) file.fields.id) (length (extents_in content file)) file.data_fork.total_blocks file.data_fork.logical_size from long ≡ true
+    pub data_is_met : (spare : ℕ) → is_data_met_in k v spare (volume_of content) (Some put) ≡ true
+        → is_put_met v (volume_of content) spare (records_in k (volume_of content) file.fields.id) (length (extents_in k content file)) (fork_at k file).total_blocks (fork_at k file).logical_size from long ≡ true
     data_is_met spare ok =
-        let one = and_parts (not (needs_cut (volume_of content) (Some put))) (is_met_extents (cost_of (needs_data (free_of v.map) (volume_of content) put) (room_with v.capacity (free_of v.map) (volume_of content))) spare) ok in
+        let one = and_parts (not (needs_cut_in k (volume_of content) (Some put))) (is_met_extents (cost_of (needs_data_in k (free_of v.map) (volume_of content) put) (room_with v.capacity (free_of v.map) (volume_of content))) spare) ok in
         let free = free_of v.map in
-        (λ i. not (surplus v content settled file has put from long number at some i)
+        (λ i. not (surplus k is_kind v content settled file has put from long number at some i)
         && is_met_extents (cost_of (needs_of_put
-        (sym (edits_are (fewest_of (blocks_put v file.data_fork.logical_size from long) (free_runs free))) i) (blocks_put v file.data_fork.logical_size from long)
-        (sym freed_are i) (fewest_of (blocks_put v file.data_fork.logical_size from long) (free_runs free))) (room_with v.capacity free (volume_of content))) spare)
+        (sym (edits_are (fewest_of (blocks_put v (fork_at k file).logical_size from long) (free_runs free))) i) (blocks_put v (fork_at k file).logical_size from long)
+        (sym freed_are i) (fewest_of (blocks_put v (fork_at k file).logical_size from long) (free_runs free))) (room_with v.capacity free (volume_of content))) spare)
         ∙ (λ i. one.0 i
         && is_met_extents (cost_of (needs_of_put
-        (extents_edits (length (file_extents (volume_of content) put.id data_kind)) (fewest_of (sym fresh_are i) (free_runs free)) (sym fresh_are i)) (sym fresh_are i)
+        (extents_edits (length (file_extents (volume_of content) put.id k)) (fewest_of (sym fresh_are i) (free_runs free)) (sym fresh_are i)) (sym fresh_are i)
         (old_blocks_of (volume_of content).head.block_size put) (fewest_of (sym fresh_are i) (free_runs free))) (room_with v.capacity free (volume_of content))) spare)
         ∙ one.1

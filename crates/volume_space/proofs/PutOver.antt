@@ -17,6 +17,7 @@ use Rattle.cat_records.specs.declared.record.FileRecord.{FileRecord}
 use Rattle.sector_disk.specs.Lists.{Content}
 use Rattle.sector_disk.specs.Space.{Space}
 use Rattle.hfs_volume.specs.Weight.{free_runs}
+use Rattle.volume_base.specs.Cutting.{fork_at}
 use Rattle.volume_base.specs.Mapping.{HoldsUnchanged, changed_sectors}
 use Rattle.volume_base.specs.Standing.{IsSettled, IsStanding, attribute_sectors, map_sectors, own_sectors}
 use Rattle.volume_space.specs.Writing.{IsSureToPut, PlacesData, blocks_put}
@@ -55,9 +56,9 @@ module _ (v w : Volume) (a : Space) (size from long : ℕ) (list : List Extent) 
       length-take (behind - start) (drop start (blocks_of list)),
     )
 
-    pub still_unchanged : (c : Content) → IsStanding v a → IsSettled v a.content → (entry : Entry) (file : FileRecord) → file.data_fork.logical_size ≡ size → (value : List ℕ) → length value ≡ long → (total free : ℕ) → PlacesData entry file list from value total free v w a.content c → HoldsUnchanged w c
-    still_unchanged c was settled entry file size_is value long_is total free places =
-        holds_unchanged v w a c was settled entry file list from value total free places (blocks_put v size from long) (λ i. blocks_put v (sym size_is i) from (sym long_is i)) enough unchanged (middle start behind list) old_fits old_used map_is
+    pub still_unchanged : (k : ℕ) (c : Content) → IsStanding v a → IsSettled v a.content → (entry : Entry) (file : FileRecord) → (fork_at k file).logical_size ≡ size → (value : List ℕ) → length value ≡ long → (total free : ℕ) → PlacesData k entry file list from value total free v w a.content c → HoldsUnchanged w c
+    still_unchanged k c was settled entry file size_is value long_is total free places =
+        holds_unchanged k v w a c was settled entry file list from value total free places (blocks_put v size from long) (λ i. blocks_put v (sym size_is i) from (sym long_is i)) enough unchanged (middle start behind list) old_fits old_used map_is
 
 -- what a bound of the sectors is, where its counts are these
 pub bits_are : (v : Volume) (fresh freed n k bits : ℕ) → fresh ≡ n → freed ≡ k → bits ≡ min (sectors_for (length v.map.used)) (fresh / 4096 + 2 * fewest_of fresh (free_runs (free_of v.map)) + freed)

@@ -15,6 +15,7 @@ use Rattle.cat_records.specs.Fits.{FitsFile}
 use Rattle.cat_records.specs.declared.record.CatRecord.TheVariants.{File}
 use Rattle.cat_records.specs.declared.record.FileRecord.{FileRecord}
 use Rattle.volume_base.specs.Changing.{ReplacesRecord}
+use Rattle.volume_base.specs.Cutting.{fork_at}
 use Rattle.volume_base.specs.Lists.{bits_on, lists_of}
 use Rattle.volume_base.specs.Standing.{StandsOver}
 use Rattle.volume_space.specs.Spreading.{SpreadsExtents}
@@ -97,20 +98,25 @@ stands_free free volume a low was = record {
       };
 }
 
-module _ (entry : Entry) (file : FileRecord) (extents : List Extent) (from : ℕ) (value : List ℕ) (total free : ℕ) (v : Volume) (a b m c : Content) (mid kept next : Volume) (later : List Extent) (rec : FileRecord) where
+module _ (k : ℕ) (entry : Entry) (file : FileRecord) (extents : List Extent) (from : ℕ) (value : List ℕ) (total free : ℕ) (v : Volume) (a b m c : Content) (mid kept next : Volume) (later : List Extent) (rec : FileRecord) where
   abbrev size : ℕ
-  size = file.data_fork.logical_size
+  size = (fork_at k file).logical_size
 
   abbrev block : ℕ
   block = v.header.block_size
 
-  pub placed : blocks_of later ≡ take (first_block block size from) (blocks_of extents) ++ blocks_of (fresh_of v.map (blocks_put v size from (length value))) ++ drop (old_end block size (from + length value)) (blocks_of extents)
-      → take (max size (from + length value)) (fork_bytes b block later) ≡ written (take size (fork_bytes a block extents)) from value
-      → (AreApart (blocks_of extents) → mid.map ≡ given (middle (first_block block size from) (old_end block size (from + length value)) extents) (taken (blocks_put v size from (length value)) v.map))
-      → KeepsMap v.map mid.map → AgreesOutside (IsOneOf (sectors_in block (fresh_of v.map (blocks_put v size from (length value))))) a b
-      → lists_of mid b ≡ record (lists_of v a) { bits = bits_on mid } → mid ≡ record v { map = mid.map } → kept ≡ record mid { extents = kept.extents } → SpreadsExtents file.fields.id later mid kept b m → next ≡ record kept { catalog = next.catalog }
-      → ReplacesRecord entry (File rec) kept next m c → FitsFile rec → rec ≡ record_with v.header.modify_date (fork_with (max size (from + length value)) total later file.data_fork) file
-      → PlacesData entry file extents from value total free v (with_free_blocks free next) a c
+  -- what holds behind the stages of a put into a fork of so many bytes
+  abbrev Placing : ℕ → Type 0
+  Placing n =
+      blocks_of later ≡ take (first_block block n from) (blocks_of extents) ++ blocks_of (fresh_of v.map (blocks_put v n from (length value))) ++ drop (old_end block n (from + length value)) (blocks_of extents)
+      → take (max n (from + length value)) (fork_bytes b block later) ≡ written (take n (fork_bytes a block extents)) from value
+      → (AreApart (blocks_of extents) → mid.map ≡ given (middle (first_block block n from) (old_end block n (from + length value)) extents) (taken (blocks_put v n from (length value)) v.map))
+      → KeepsMap v.map mid.map → AgreesOutside (IsOneOf (sectors_in block (fresh_of v.map (blocks_put v n from (length value))))) a b
+      → lists_of mid b ≡ record (lists_of v a) { bits = bits_on mid } → mid ≡ record v { map = mid.map } → kept ≡ record mid { extents = kept.extents } → SpreadsExtents file.fields.id k later mid kept b m → next ≡ record kept { catalog = next.catalog }
+      → ReplacesRecord entry (File rec) kept next m c → FitsFile rec → rec ≡ record_with k v.header.modify_date (fork_with (max n (from + length value)) total later (fork_at k file)) file
+      → PlacesData k entry file extents from value total free v (with_free_blocks free next) a c
+
+  placed : Placing size
   placed blocks bytes map keeps spilled lists mid_is kept_is spreads next_is replaces fits rec_is = record {
     later = later;
     between = b;
@@ -122,8 +128,8 @@ module _ (entry : Entry) (file : FileRecord) (extents : List Extent) (from : ℕ
     keeps = subst (λ (m : BlockMap). KeepsMap v.map m) (sym map_is) keeps;
     spilled = spilled;
     lists = subst (λ (x : Volume). lists_of x b ≡ record (lists_of v a) { bits = bits_on x }) first lists;
-    spreads = subst (λ (k : Volume × Volume). SpreadsExtents file.fields.id later k.0 k.1 b m) {x = (mid, kept)} {y = (with_spill v next.map, with_stored v next.map next.extents)} (λ i. (first i, between i)) spreads;
-    replaces = subst (λ (k : Volume × (Volume × FileRecord)). ReplacesRecord entry (File k.1.1) k.0 k.1.0 m c) {x = (kept, (next, rec))} {y = (with_stored v next.map next.extents, (with_record v next.map next.extents next.catalog, record_with v.header.modify_date (fork_with (max size (from + length value)) total later file.data_fork) file))} (λ i. (between i, (second i, rec_is i))) replaces;
+    spreads = subst (λ (both : Volume × Volume). SpreadsExtents file.fields.id k later both.0 both.1 b m) {x = (mid, kept)} {y = (with_spill v next.map, with_stored v next.map next.extents)} (λ i. (first i, between i)) spreads;
+    replaces = subst (λ (all : Volume × (Volume × FileRecord)). ReplacesRecord entry (File all.1.1) all.0 all.1.0 m c) {x = (kept, (next, rec))} {y = (with_stored v next.map next.extents, (with_record v next.map next.extents next.catalog, record_with k v.header.modify_date (fork_with (max size (from + length value)) total later (fork_at k file)) file))} (λ i. (between i, (second i, rec_is i))) replaces;
     rest = λ i. record (second i) { header = record (second i).header { free_blocks = free } };
   }
     where
@@ -141,3 +147,6 @@ module _ (entry : Entry) (file : FileRecord) (extents : List Extent) (from : ℕ
 
       second : next ≡ with_record v next.map next.extents next.catalog
       second = next_is ∙ (λ i. record (between i) { catalog = next.catalog })
+
+  pub placed_at : (n : ℕ) → n ≡ (fork_at k file).logical_size → Placing n
+  placed_at n is = subst Placing (sym is) placed

@@ -1,7 +1,12 @@
 -- Data is put into a file: its bytes are spilled, its record is replaced, and then the bitmap and the header are put. The volume is settled again, and its lists
 -- are those that the laws speak of.
+use Rattle.volume_base.proofs.ForkKinds.{kind_is}
+use Rattle.std.proofs.Math.Bool.{and-false}
+use Rattle.volume_base.specs.declared.forks.ForkKind.TheVariants as kinds
+use Rattle.volume_base.specs.declared.forks.ForkKind.{ForkKind}
+use Rattle.volume_base.specs.Cutting.{fork_at, kind_of}
 use Rattle.std.proofs.Common.{◌≡◌, ◌⊎◌, inl, inr, ◌<◌, ◌≤◌, ℕ, ◌+◌, ◌*◌, ◌/◌, false, List, [], ◌∷◌, ◌++◌, length, take, drop, refl, sym, ◌∙◌, ap, subst, arith, ⊎_elim, take-append-drop}
-use Rattle.std.specs.Prelude.{Contains, IsTrue, Option, Some}
+use Rattle.std.specs.Prelude.{◌==◌, ◌&&◌, Contains, IsTrue, Option, Some}
 use Rattle.std.specs.Option.{option_map}
 use Rattle.std.proofs.lemmas.List.Elements.{Contains-append_left, Contains-append_right, Contains-append_cases}
 use Rattle.hx_bytes.specs.Fork.{FitsFork}
@@ -32,17 +37,17 @@ use Rattle.hfs_volume.specs.Changes.{FlipsBits, HasSameNodes, with_free}
 use Rattle.hfs_volume.specs.Commands.{AreBytesOf}
 use Rattle.hfs_volume.specs.Content.{VolumeState, block_limit, overflow_in_volume, records_of, volume_of}
 use Rattle.hfs_volume.specs.Data.{AreFresh}
-use Rattle.hfs_volume.specs.Forks.{Owned, allocation_id, attributes_id, blocks_owned, data_kind, extents_of, per_block_of}
+use Rattle.hfs_volume.specs.Forks.{Owned, allocation_id, attributes_id, blocks_owned, data_kind, resource_kind, extents_of, per_block_of}
 use Rattle.hfs_volume.specs.Links.{private_id}
 use Rattle.hfs_volume.specs.Records.{Overflow, Placed, entries_of, is_link_type, placed_in}
 use Rattle.hfs_volume.specs.Sound.{IsSoundVolume}
-use Rattle.hfs_volume.specs.TreeOf.{bytes_in, file_bytes, tree_in, tree_of}
-use Rattle.hfs_volume.specs.Writing.{KeepsOthers, MakesBytes, OthersKeepBytes, RewritesFile, file_before, written_bytes}
+use Rattle.hfs_volume.specs.TreeOf.{bytes_in, bytes_in_fork, file_bytes, tree_in, tree_of}
+use Rattle.hfs_volume.specs.Writing.{KeepsForksBut, KeepsOthers, MakesBytes, OthersKeepBytes, RewritesFork, file_before, in_fork, written_bytes}
 use Rattle.hfs_volume.proofs.Bytes.{file_bytes_are}
 use Rattle.hfs_volume.proofs.Flat.{some_same}
 use Rattle.hfs_volume.proofs.Members.{each_of}
 use Rattle.hfs_volume.proofs.Sectors.{in_block}
-use Rattle.hfs_volume.proofs.Untouched.{HasWholeBlocks, data_fork_of, file_fork_stands, whole_blocks}
+use Rattle.hfs_volume.proofs.Untouched.{HasWholeBlocks, data_fork_of, file_fork_stands, whole_blocks, resource_fork_of, resource_fork_stands}
 use Rattle.volume_base.specs.Changing.{ChangesCatalog}
 use Rattle.volume_base.specs.Lists.{bits_on, facts_on, lists_of}
 use Rattle.volume_base.specs.Mapping.{HoldsMap}
@@ -57,7 +62,7 @@ use Rattle.volume_space.proofs.GrownBits.{bits_read}
 use Rattle.volume_space.proofs.GrownFree.{below_product}
 use Rattle.volume_base.proofs.ListsAgain.{attributes_again}
 use Rattle.volume_space.proofs.PutBytes.{IsSpecial, block_fresh, bytes_then, fresh_apart, put_agrees, written_is}
-use Rattle.volume_space.proofs.PutFork.{file_high}
+use Rattle.volume_space.proofs.PutFork.{file_high, owned_of, owned_stands}
 use Rattle.volume_space.proofs.SpreadForks.{extents_alike}
 use Rattle.volume_space.proofs.PutLists.{before_is, makes, now_blocks, put_is, rewrites}
 use Rattle.volume_base.proofs.Resettling.{bits_at, lists_anew, settles}
@@ -73,13 +78,22 @@ in_take n xs x stands = subst (λ l. Contains l x) (take-append-drop n xs) (Cont
 pub in_drop : (n : ℕ) (xs : List ℕ) (x : ℕ) → Contains (drop n xs) x → Contains xs x
 in_drop n xs x stands = subst (λ l. Contains l x) (take-append-drop n xs) (Contains-append_right (take n xs) (drop n xs) x stands)
 
+-- both forks of a file: the one that was put into is made so, the other one is as it was
+both_made : (k : ForkKind) (fork : ForkRecord) (file : FileRecord) (make : List ℕ → List ℕ) (before after : Content)
+    → bytes_in_fork after file.fields.id (kind_of k) fork ≡ make (bytes_in_fork before file.fields.id (kind_of k) (fork_at (kind_of k) file))
+    → ((resource_kind == kind_of k) ≡ false → bytes_in_fork after file.fields.id resource_kind file.resource_fork ≡ bytes_in_fork before file.fields.id resource_kind file.resource_fork)
+    → ((data_kind == kind_of k) ≡ false → bytes_in_fork after file.fields.id data_kind file.data_fork ≡ bytes_in_fork before file.fields.id data_kind file.data_fork)
+    → file_bytes after (with_data k fork file) ≡ in_fork (kind_of k) make (file_bytes before file)
+both_made kinds.Data fork file make before after made resource own = λ i. record { data_bytes = made i; resource_bytes = resource refl i }
+both_made kinds.Resource fork file make before after made resource own = λ i. record { data_bytes = own refl i; resource_bytes = made i }
+
 -- What was done, stage by stage, to put a value into a file.
-pub record IsPutThrough (v : Volume) (a : Space) (later : BlockMap) (ext cat : Tree) (free : ℕ) (b m c : Content) (e : Space) (n parent : ℕ) (name : List ℕ) (fork : ForkRecord) (file : FileRecord) (from count : ℕ) (more : List Extent) (place : ℕ) (value : List ℕ) : Type 0 where
+pub record IsPutThrough (k : ForkKind) (v : Volume) (a : Space) (later : BlockMap) (ext cat : Tree) (free : ℕ) (b m c : Content) (e : Space) (n parent : ℕ) (name : List ℕ) (fork : ForkRecord) (file : FileRecord) (from count : ℕ) (more : List Extent) (place : ℕ) (value : List ℕ) : Type 0 where
   pub enough : n ≤ count_set (free_of v.map)
   pub spilled : AgreesOutside (IsOneOf (sectors_of (per_block_of v.header) (blocks_of (fresh_of v.map n)))) a.content b
   pub spill_lists : lists_of (with_spill v later) b ≡ record (lists_of v a.content) { bits = bits_on (with_spill v later) }
-  pub spreads : SpreadsExtents file.fields.id more (with_spill v later) (with_stored v later ext) b m
-  pub updates : UpdatesEntry parent name (File (rewritten v.header.modify_date fork file)) (lists_of (with_stored v later ext) m).catalog_pairs (lists_of (with_record v later ext cat) c).catalog_pairs
+  pub spreads : SpreadsExtents file.fields.id (kind_of k) more (with_spill v later) (with_stored v later ext) b m
+  pub updates : UpdatesEntry parent name (File (rewritten k v.header.modify_date fork file)) (lists_of (with_stored v later ext) m).catalog_pairs (lists_of (with_record v later ext cat) c).catalog_pairs
   pub changes : ChangesCatalog (with_stored v later ext) (with_record v later ext cat) m c
   pub there : value_at (lists_of v a.content).catalog_pairs parent name ≡ Some (File file)
   pub no_link : is_link_type file.fields ≡ false
@@ -93,14 +107,14 @@ pub record IsPutThrough (v : Volume) (a : Space) (later : BlockMap) (ext cat : T
   pub gets : fork.extents ≡ eight_at more 0
   pub total : fork.total_blocks ≡ length (blocks_of more)
   pub size_held : fork.logical_size ≤ length (blocks_of more) * v.header.block_size
-  pub blocks : blocks_of more ≡ take from (blocks_of (extents_in a.content file)) ++ (blocks_of (fresh_of v.map n) ++ drop (from + count) (blocks_of (extents_in a.content file)))
-  pub within : from + count ≤ length (blocks_of (extents_in a.content file))
-  pub flips : FlipsBits (blocks_of (fresh_of v.map n)) (take count (drop from (blocks_of (extents_in a.content file)))) (volume_of a.content) (record (volume_of a.content) { bits = bits_on (with_spill v later) })
+  pub blocks : blocks_of more ≡ take from (blocks_of (extents_in (kind_of k) a.content file)) ++ (blocks_of (fresh_of v.map n) ++ drop (from + count) (blocks_of (extents_in (kind_of k) a.content file)))
+  pub within : from + count ≤ length (blocks_of (extents_in (kind_of k) a.content file))
+  pub flips : FlipsBits (blocks_of (fresh_of v.map n)) (take count (drop from (blocks_of (extents_in (kind_of k) a.content file)))) (volume_of a.content) (record (volume_of a.content) { bits = bits_on (with_spill v later) })
   pub counts : free + length (blocks_of (fresh_of v.map n)) ≡ v.header.free_blocks + count
-  pub bytes : take fork.logical_size (bytes_read b v.header.block_size more) ≡ written (take file.data_fork.logical_size (bytes_read a.content v.header.block_size (extents_in a.content file))) place value
+  pub bytes : take fork.logical_size (bytes_read b v.header.block_size more) ≡ written (take (fork_at (kind_of k) file).logical_size (bytes_read a.content v.header.block_size (extents_in (kind_of k) a.content file))) place value
 
-module _ (v : Volume) (a : Space) (was : IsStanding v a) (settled : IsSettled v a.content) (later : BlockMap) (ext cat : Tree) (free : ℕ) (b m c : Content) (e : Space) (n parent : ℕ) (name : List ℕ) (fork : ForkRecord) (file : FileRecord) (from count : ℕ) (more : List Extent)
-    (place : ℕ) (value : List ℕ) (does : IsPutThrough v a later ext cat free b m c e n parent name fork file from count more place value)
+module _ (k : ForkKind) (v : Volume) (a : Space) (was : IsStanding v a) (settled : IsSettled v a.content) (later : BlockMap) (ext cat : Tree) (free : ℕ) (b m c : Content) (e : Space) (n parent : ℕ) (name : List ℕ) (fork : ForkRecord) (file : FileRecord) (from count : ℕ) (more : List Extent)
+    (place : ℕ) (value : List ℕ) (does : IsPutThrough k v a later ext cat free b m c e n parent name fork file from count more place value)
   where
     abbrev w : Volume
     w = with_data_put v later ext cat free
@@ -127,16 +141,16 @@ module _ (v : Volume) (a : Space) (was : IsStanding v a) (settled : IsSettled v 
     pairs_are : (lists_of (with_stored v later ext) m).catalog_pairs ≡ (volume_of a.content).catalog_pairs
     pairs_are = ap (λ (l : VolumeState). l.catalog_pairs) does.spreads.lists ∙ ap (λ (l : VolumeState). l.catalog_pairs) does.spill_lists ∙ sym (ap (λ (l : VolumeState). l.catalog_pairs) settled.lists)
 
-    updated : UpdatesEntry parent name (File (rewritten v.header.modify_date fork file)) (volume_of a.content).catalog_pairs pairs
-    updated = subst (λ (l : List Pair). UpdatesEntry parent name (File (rewritten v.header.modify_date fork file)) l pairs) pairs_are does.updates
+    updated : UpdatesEntry parent name (File (rewritten k v.header.modify_date fork file)) (volume_of a.content).catalog_pairs pairs
+    updated = subst (λ (l : List Pair). UpdatesEntry parent name (File (rewritten k v.header.modify_date fork file)) l pairs) pairs_are does.updates
 
     there_now : value_at (volume_of a.content).catalog_pairs parent name ≡ Some (File file)
     there_now = ap (λ (l : VolumeState). value_at l.catalog_pairs parent name) settled.lists ∙ does.there
 
-    is_record : IsRecordOf v.header.modify_date parent name fork file (volume_of a.content).catalog_pairs pairs
+    is_record : IsRecordOf k v.header.modify_date parent name fork file (volume_of a.content).catalog_pairs pairs
     is_record = made updated
       where
-        made : UpdatesEntry parent name (File (rewritten v.header.modify_date fork file)) (volume_of a.content).catalog_pairs pairs → IsRecordOf v.header.modify_date parent name fork file (volume_of a.content).catalog_pairs pairs
+        made : UpdatesEntry parent name (File (rewritten k v.header.modify_date fork file)) (volume_of a.content).catalog_pairs pairs → IsRecordOf k v.header.modify_date parent name fork file (volume_of a.content).catalog_pairs pairs
         made u = record {
           updates = u;
           value = some_same u.entry.value (File file) (sym (ap (option_map (λ (p : Placed). p.value)) u.found) ∙ there_now);
@@ -156,8 +170,8 @@ module _ (v : Volume) (a : Space) (was : IsStanding v a) (settled : IsSettled v 
     overflow_was : overflow_in_volume (lists_of (with_spill v later) b) ≡ overflow_in_volume (volume_of a.content)
     overflow_was = ap (λ (l : VolumeState). overflow_in_volume l) does.spill_lists ∙ sym (ap (λ (l : VolumeState). overflow_in_volume l) settled.lists)
 
-    holds_it : HoldsFork file.fields.id fork more (overflow_in_volume (volume_of a.content)) (overflow_in_volume (lists_of (with_stored v later ext) m))
-    holds_it = subst (λ (o : List Overflow). HoldsFork file.fields.id fork more o (overflow_in_volume (lists_of (with_stored v later ext) m))) overflow_was (does.spreads.holds fork does.gets)
+    holds_it : HoldsFork file.fields.id (kind_of k) fork more (overflow_in_volume (volume_of a.content)) (overflow_in_volume (lists_of (with_stored v later ext) m))
+    holds_it = subst (λ (o : List Overflow). HoldsFork file.fields.id (kind_of k) fork more o (overflow_in_volume (lists_of (with_stored v later ext) m))) overflow_was (does.spreads.holds fork does.gets)
 
     extents_nodes : HasSameNodes (volume_of a.content).extents_tree (facts_on ext.file)
     extents_nodes = record {
@@ -169,19 +183,19 @@ module _ (v : Volume) (a : Space) (was : IsStanding v a) (settled : IsSettled v 
     are_fresh = fresh_are v a was settled n does.enough
 
     entry_there : Contains (entries_of (records_of (volume_of a.content))) is_record.updates.entry
-    entry_there = stood v.header.modify_date parent name fork file (volume_of a.content) lists_put is_record settled.sound
+    entry_there = stood k v.header.modify_date parent name fork file (volume_of a.content) lists_put is_record settled.sound
 
-    fork_there : Contains (forks_of (volume_of a.content)) (data_fork_of file)
-    fork_there = file_fork_stands (volume_of a.content) is_record.updates.entry file entry_there is_record.value
+    fork_there : Contains (forks_of (volume_of a.content)) (owned_of k file)
+    fork_there = owned_stands k (volume_of a.content) is_record.updates.entry file entry_there is_record.value
 
-    cases : (block : ℕ) → Contains (blocks_of more) block → Contains (blocks_of (extents_in a.content file)) block ⊎ Contains (blocks_of (fresh_of v.map n)) block
-    cases block has = ⊎_elim (λ front. inl (in_take from (blocks_of (extents_in a.content file)) block front))
-        (λ behind. ⊎_elim (λ new. inr new) (λ back. inl (in_drop (from + count) (blocks_of (extents_in a.content file)) block back)) (Contains-append_cases fresh (drop (from + count) (blocks_of (extents_in a.content file))) block behind))
-        (Contains-append_cases (take from (blocks_of (extents_in a.content file))) (fresh ++ drop (from + count) (blocks_of (extents_in a.content file))) block (subst (λ (l : List ℕ). Contains l block) does.blocks has))
+    cases : (block : ℕ) → Contains (blocks_of more) block → Contains (blocks_of (extents_in (kind_of k) a.content file)) block ⊎ Contains (blocks_of (fresh_of v.map n)) block
+    cases block has = ⊎_elim (λ front. inl (in_take from (blocks_of (extents_in (kind_of k) a.content file)) block front))
+        (λ behind. ⊎_elim (λ new. inr new) (λ back. inl (in_drop (from + count) (blocks_of (extents_in (kind_of k) a.content file)) block back)) (Contains-append_cases fresh (drop (from + count) (blocks_of (extents_in (kind_of k) a.content file))) block behind))
+        (Contains-append_cases (take from (blocks_of (extents_in (kind_of k) a.content file))) (fresh ++ drop (from + count) (blocks_of (extents_in (kind_of k) a.content file))) block (subst (λ (l : List ℕ). Contains l block) does.blocks has))
 
     below : (block : ℕ) → Contains (blocks_of more) block → block < (volume_of a.content).head.total_blocks
     below block has = ⊎_elim
-        (λ had. omega (arith, block_below (length v.map.used) (extents_in a.content file) (file_fits v a settled (data_fork_of file) fork_there) block had, settled.blocks, ap (λ (h : VolumeHeader). h.total_blocks) head_is))
+        (λ had. omega (arith, block_below (length v.map.used) (extents_in (kind_of k) a.content file) (file_fits v a settled (owned_of k file) fork_there) block had, settled.blocks, ap (λ (h : VolumeHeader). h.total_blocks) head_is))
         (λ new. each_of (λ (k : ℕ). k < (volume_of a.content).head.total_blocks) fresh are_fresh.inside block new)
         (cases block has)
 
@@ -191,13 +205,13 @@ module _ (v : Volume) (a : Space) (was : IsStanding v a) (settled : IsSettled v 
     counted : free + length (blocks_of (fresh_of v.map n)) ≡ (volume_of a.content).head.free_blocks + count
     counted = does.counts ∙ ap (λ (h : VolumeHeader). h.free_blocks + count) (sym head_is)
 
-    pub rewrites_it : RewritesFile file.fields.id from count (blocks_of (fresh_of v.map n)) (volume_of a.content) lists_put
-    rewrites_it = rewrites from count v.header.modify_date parent name fork file fresh (volume_of a.content) lists_put is_record settled.sound (sym (ap (λ (h : VolumeHeader). h.modify_date) head_is)) nodes free counted refl are_fresh more
+    pub rewrites_it : RewritesFork file.fields.id (kind_of k) from count (blocks_of (fresh_of v.map n)) (volume_of a.content) lists_put
+    rewrites_it = rewrites k from count v.header.modify_date parent name fork file fresh (volume_of a.content) lists_put is_record settled.sound (sym (ap (λ (h : VolumeHeader). h.modify_date) head_is)) nodes free counted refl are_fresh more
         holds_it extents_nodes does.total size_held does.blocks does.within does.flips below
 
     pub before_it : file_before rewrites_it.puts ≡ file
     unfolding rewrites_it
-    before_it = before_is from count v.header.modify_date parent name fork file fresh (volume_of a.content) lists_put is_record settled.sound (sym (ap (λ (h : VolumeHeader). h.modify_date) head_is)) nodes free counted refl are_fresh more
+    before_it = before_is k from count v.header.modify_date parent name fork file fresh (volume_of a.content) lists_put is_record settled.sound (sym (ap (λ (h : VolumeHeader). h.modify_date) head_is)) nodes free counted refl are_fresh more
         holds_it extents_nodes does.total size_held does.blocks does.within does.flips below
 
     -- ---- the content behind it
@@ -242,7 +256,7 @@ module _ (v : Volume) (a : Space) (was : IsStanding v a) (settled : IsSettled v 
     module _ (sound : IsSoundVolume lists_put) where
       pub settled_put : IsSettled (with_data_put v later ext cat free) e.content
       settled_put = settles w e does.stands does.headed bits (volume_of a.content).attributes_tree settled.attributes (subst IsSoundVolume (sym lists_are) sound)
-          (settled.private ∙ sym (private_again v.header.modify_date parent name fork file (volume_of a.content) lists_put is_record settled.sound) ∙ ap (λ (l : VolumeState). private_id (placed_in l.catalog_pairs)) (sym lists_are))
+          (settled.private ∙ sym (private_again k v.header.modify_date parent name fork file (volume_of a.content) lists_put is_record settled.sound) ∙ ap (λ (l : VolumeState). private_id (placed_in l.catalog_pairs)) (sym lists_are))
 
     -- ---- the sectors
 
@@ -251,7 +265,7 @@ module _ (v : Volume) (a : Space) (was : IsStanding v a) (settled : IsSettled v 
 
     -- the forks of special files have the extents that they had
     special_same : (low : ℕ) (special : ForkRecord) → low < 16 → extents_of (overflow_in_volume (lists_of (with_stored v later ext) m)) low data_kind special ≡ extents_of (overflow_in_volume (volume_of a.content)) low data_kind special
-    special_same low special less = extents_alike file.fields.id data_kind (overflow_in_volume (volume_of a.content)) (overflow_in_volume (lists_of (with_stored v later ext) m)) holds_it.others low data_kind special
+    special_same low special less = extents_alike file.fields.id (kind_of k) (overflow_in_volume (volume_of a.content)) (overflow_in_volume (lists_of (with_stored v later ext) m)) holds_it.others low data_kind special
         (λ same. absurd (omega (arith, same, less, file_high (volume_of a.content) settled.sound is_record.updates.entry entry_there file is_record.value)))
 
     map_are : map_sectors w ≡ allocation_sectors (volume_of a.content)
@@ -308,30 +322,44 @@ module _ (v : Volume) (a : Space) (was : IsStanding v a) (settled : IsSettled v 
     -- ---- the bytes
 
     module _ (others_law : OthersKeepBytes) where
-      others : KeepsOthers file.fields.id (volume_of a.content) (bytes_in a.content) (bytes_in e.content)
+      law : KeepsOthers file.fields.id (volume_of a.content) (bytes_in a.content) (bytes_in e.content) × KeepsForksBut file.fields.id (kind_of k) a.content e.content
       unfolding rewrites_it
-      others =
-          let put = put_is from count v.header.modify_date parent name fork file fresh (volume_of a.content) lists_put is_record settled.sound (sym (ap (λ (h : VolumeHeader). h.modify_date) head_is)) nodes free counted refl are_fresh more
+      law =
+          let put = put_is k from count v.header.modify_date parent name fork file fresh (volume_of a.content) lists_put is_record settled.sound (sym (ap (λ (h : VolumeHeader). h.modify_date) head_is)) nodes free counted refl are_fresh more
           holds_it extents_nodes does.total size_held does.blocks does.within does.flips below in
-          others_law file.fields.id data_kind from count fresh a.content e.content rewrites_it.put (sound_here v a was settled) rewrites_it.puts (ap (λ (l : VolumeState). l.head) volume_now ∙ sym put.0) (ap (λ (l : VolumeState). l.overflow_pairs) volume_now ∙ sym put.1)
+          others_law file.fields.id (kind_of k) from count fresh a.content e.content rewrites_it.put (sound_here v a was settled) rewrites_it.puts (ap (λ (l : VolumeState). l.head) volume_now ∙ sym put.0) (ap (λ (l : VolumeState). l.overflow_pairs) volume_now ∙ sym put.1)
           (put_agrees a.content b e.content (sound_here v a was settled) fresh are_fresh spilled later_agrees)
 
-      made : file_bytes e.content (with_data fork file) ≡ written_bytes place value (file_bytes a.content file)
-      made =
-          bytes_then a.content b e.content (sound_here v a was settled) fresh are_fresh spilled later_agrees is_record.updates.entry file entry_there is_record.value (blocks_of more) cases lists_put reads refl (with_data fork file)
-          (now_blocks from count v.header.modify_date parent name fork file fresh (volume_of a.content) lists_put is_record settled.sound (sym (ap (λ (h : VolumeHeader). h.modify_date) head_is)) nodes free counted refl are_fresh more
+      some : 0 < per_block_of (volume_of a.content).head
+      some = (whole_blocks (volume_of a.content).sectors (volume_of a.content).head settled.sound.blocks.header.accepted).some
+
+      high : 16 ≤ file.fields.id
+      high = file_high (volume_of a.content) settled.sound is_record.updates.entry entry_there file is_record.value
+
+      -- the fork has the bytes that are made of its own
+      fork_made : bytes_in_fork e.content file.fields.id (kind_of k) fork ≡ written_bytes place value (bytes_in_fork a.content file.fields.id (kind_of k) (fork_at (kind_of k) file))
+      fork_made =
+          bytes_then a.content b e.content (sound_here v a was settled) fresh are_fresh spilled later_agrees (owned_of k file) fork_there high (blocks_of more) cases lists_put reads refl (record { id = file.fields.id; kind = kind_of k; fork = fork })
+          (now_blocks k from count v.header.modify_date parent name fork file fresh (volume_of a.content) lists_put is_record settled.sound (sym (ap (λ (h : VolumeHeader). h.modify_date) head_is)) nodes free counted refl are_fresh more
           holds_it extents_nodes does.total size_held does.blocks does.within does.flips below)
           (λ s has. below_product s (per_block_of (volume_of a.content).head) (volume_of a.content).head.total_blocks some (below (s / per_block_of (volume_of a.content).head) (in_block (per_block_of (volume_of a.content).head) (blocks_of more) s some has)))
           ∙ ap (λ (h : VolumeHeader). take fork.logical_size (bytes_read b h.block_size more)) head_is
           ∙ does.bytes
-          ∙ ap (λ (h : VolumeHeader). written (take file.data_fork.logical_size (bytes_read a.content h.block_size (extents_in a.content file))) place value) (sym (header_settled v a.content settled))
-          ∙ ap (λ (l : List ℕ). written l place value) (sym (bytes_are a.content settled.sound file is_record.updates.entry entry_there is_record.value))
-          ∙ written_is (file_bytes a.content file) place value
-        where
-          some : 0 < per_block_of (volume_of a.content).head
-          some = (whole_blocks (volume_of a.content).sectors (volume_of a.content).head settled.sound.blocks.header.accepted).some
+          ∙ ap (λ (h : VolumeHeader). written (take (fork_at (kind_of k) file).logical_size (bytes_read a.content h.block_size (extents_in (kind_of k) a.content file))) place value) (sym (header_settled v a.content settled))
+          ∙ ap (λ (l : List ℕ). written l place value) (sym (bytes_are a.content settled.sound (kind_of k) (kind_is k) file is_record.updates.entry entry_there is_record.value))
+          ∙ written_is (bytes_in_fork a.content file.fields.id (kind_of k) (fork_at (kind_of k) file)) place value
+
+      -- and the file's other fork has its own
+      other_same : (other : Owned) → other.id ≡ file.fields.id → Contains (forks_of (volume_of a.content)) other → (other.kind == kind_of k) ≡ false → bytes_in_fork e.content other.id other.kind other.fork ≡ bytes_in_fork a.content other.id other.kind other.fork
+      other_same other number own differs =
+          law.1 is_record.updates.entry file entry_there is_record.value other number own (ap (λ c. (other.id == file.fields.id) && c) differs ∙ and-false (other.id == file.fields.id))
+
+      made : file_bytes e.content (with_data k fork file) ≡ in_fork (kind_of k) (written_bytes place value) (file_bytes a.content file)
+      made = both_made k fork file (written_bytes place value) a.content e.content fork_made
+          (λ none. other_same (resource_fork_of file) refl (resource_fork_stands (volume_of a.content) is_record.updates.entry file entry_there is_record.value) none)
+          (λ none. other_same (data_fork_of file) refl (file_fork_stands (volume_of a.content) is_record.updates.entry file entry_there is_record.value) none)
 
       pub makes_it : MakesBytes (written_bytes place value) rewrites_it (bytes_in a.content) (bytes_in e.content)
       unfolding rewrites_it
-      makes_it = makes from count v.header.modify_date parent name fork file fresh (volume_of a.content) lists_put is_record settled.sound (sym (ap (λ (h : VolumeHeader). h.modify_date) head_is)) nodes free counted refl are_fresh more
-          holds_it extents_nodes does.total size_held does.blocks does.within does.flips below (written_bytes place value) (bytes_in a.content) (bytes_in e.content) made others
+      makes_it = makes k from count v.header.modify_date parent name fork file fresh (volume_of a.content) lists_put is_record settled.sound (sym (ap (λ (h : VolumeHeader). h.modify_date) head_is)) nodes free counted refl are_fresh more
+          holds_it extents_nodes does.total size_held does.blocks does.within does.flips below (written_bytes place value) (bytes_in a.content) (bytes_in e.content) made law.0

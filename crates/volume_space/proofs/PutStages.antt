@@ -1,4 +1,7 @@
 -- A value was put into a file, from stage to stage: what the calls say of it is all that the lemmas on the volume ask for.
+use Rattle.volume_base.specs.declared.forks.ForkKind.TheVariants as kinds
+use Rattle.volume_base.specs.declared.forks.ForkKind.{ForkKind}
+use Rattle.volume_base.specs.Cutting.{fork_at, kind_of}
 use Rattle.std.proofs.Common.{◌≡◌, ◌≢◌, ◌⊎◌, inl, inr, ◌<◌, ◌≤◌, ℕ, ◌+◌, ◌-◌, ◌*◌, ◌/◌, ◌^◌, min, max, true, false, List, [], ◌∷◌, ◌++◌, length, take, drop, refl, sym, ◌∙◌, ap, subst, arith, ⊎_elim, append_assoc, length-append}
 use Rattle.std.specs.Prelude.{Contains, IsTrue, Some, nat_le, slice_index_or, if◌then◌else◌}
 use Rattle.std.proofs.Math.Nat.{mul-le-mul_right}
@@ -35,12 +38,15 @@ use Rattle.hfs_volume.specs.Forks.{data_kind, extents_of}
 use Rattle.hfs_volume.specs.Records.{Placed, entries_of, is_link_type}
 use Rattle.hfs_volume.specs.Writing.{OthersKeepBytes}
 use Rattle.hfs_volume.proofs.Members.{all_of, each_of, first_or_later}
-use Rattle.hfs_volume.proofs.Untouched.{data_fork_of, file_fork_stands}
+use Rattle.volume_space.proofs.PutFork.{owned_of, owned_stands}
+use Rattle.volume_space.proofs.Resized.{record_is}
+use Rattle.hx_bytes.specs.declared.extents.ForkRecord.{ForkRecord}
+use Rattle.hx_bytes.specs.Fork.{FitsFork}
 use Rattle.volume_base.specs.Changing.{PutsHeader}
 use Rattle.volume_base.specs.Lists.{bits_on, lists_of}
 use Rattle.volume_base.specs.Mapping.{HoldsMap, PutsMap}
 use Rattle.volume_base.specs.Standing.{IsSettled, IsStanding, attribute_sectors, file_sectors, map_sectors}
-use Rattle.volume_space.specs.Writing.{IsSureToPut, PlacesData, PutsValue, blocks_put, fork_with, with_spill, extents_in}
+use Rattle.volume_space.specs.Writing.{IsSureToPut, PlacesData, PutsValue, blocks_put, fork_with, record_with, with_record, with_spill, with_stored, extents_in}
 use Rattle.volume_base.specs.declared.entries.Entry.{Entry}
 use Rattle.volume_base.specs.declared.volume.Volume.{Volume}
 use Rattle.alloc_bitmap.proofs.ApartLaws.{times-append}
@@ -131,18 +137,23 @@ pub in_part : (blocks : BlockMap) (all : List ℕ) (first many : ℕ) (part : Li
 in_part blocks all first many part is used = all_of (λ (k : ℕ). slice_index_or blocks.used k false ≡ true) part (λ k has.
     each_of (λ (b : ℕ). slice_index_or blocks.used b false ≡ true) all used k (in_drop first all k (in_take many (drop first all) k (subst (λ (l : List ℕ). Contains l k) is has))))
 
+-- a fork of a file's record that fits
+fits_at : (k : ForkKind) (moment : ℕ) (fork : ForkRecord) (file : FileRecord) → FitsFile (record_with (kind_of k) moment fork file) → FitsFork fork
+fits_at kinds.Data moment fork file fits = fits.data_fork
+fits_at kinds.Resource moment fork file fits = fits.resource_fork
+
 -- ---- the stages
 
-module _ (v w : Volume) (a c d e : Space) (was : IsStanding v a) (settled : IsSettled v a.content) (entry : Entry) (file : FileRecord) (list : List Extent) (from : ℕ) (value : List ℕ) (total free : ℕ)
-    (places : PlacesData entry file list from value total free v w a.content c.content) (sure : IsSureToPut list file.data_fork.logical_size v a) (some : 0 < length value) (enough : blocks_put v file.data_fork.logical_size from (length value) ≤ count_set (free_of v.map))
-    (p : Placed) (stands_there : Contains (entries_of (records_of (volume_of a.content))) p) (value_is : p.value ≡ File file) (list_is : list ≡ extents_in a.content file)
+module _ (k : ForkKind) (v w : Volume) (a c d e : Space) (was : IsStanding v a) (settled : IsSettled v a.content) (entry : Entry) (file : FileRecord) (list : List Extent) (from : ℕ) (value : List ℕ) (total free : ℕ)
+    (places : PlacesData (kind_of k) entry file list from value total free v w a.content c.content) (sure : IsSureToPut list (fork_at (kind_of k) file).logical_size v a) (some : 0 < length value) (enough : blocks_put v (fork_at (kind_of k) file).logical_size from (length value) ≤ count_set (free_of v.map))
+    (p : Placed) (stands_there : Contains (entries_of (records_of (volume_of a.content))) p) (value_is : p.value ≡ File file) (list_is : list ≡ extents_in (kind_of k) a.content file)
     (there : value_at (lists_of v a.content).catalog_pairs entry.parent entry.name ≡ Some (File file)) (no_link : is_link_type file.fields ≡ false) (fits : FitsFile file)
-    (counted : free + blocks_put v file.data_fork.logical_size from (length value) ≡ v.header.free_blocks + (old_end v.header.block_size file.data_fork.logical_size (from + length value) - first_block v.header.block_size file.data_fork.logical_size from))
-    (totals : total + (old_end v.header.block_size file.data_fork.logical_size (from + length value) - first_block v.header.block_size file.data_fork.logical_size from) ≡ file.data_fork.total_blocks + blocks_put v file.data_fork.logical_size from (length value))
+    (counted : free + blocks_put v (fork_at (kind_of k) file).logical_size from (length value) ≡ v.header.free_blocks + (old_end v.header.block_size (fork_at (kind_of k) file).logical_size (from + length value) - first_block v.header.block_size (fork_at (kind_of k) file).logical_size from))
+    (totals : total + (old_end v.header.block_size (fork_at (kind_of k) file).logical_size (from + length value) - first_block v.header.block_size (fork_at (kind_of k) file).logical_size from) ≡ (fork_at (kind_of k) file).total_blocks + blocks_put v (fork_at (kind_of k) file).logical_size from (length value))
     (stands : IsStanding w e) (told : IsTrue d.tells) (map_put : PutsMap w c.content d.content) (header_put : PutsHeader w d.content e.content) (header_within : PutsWithin (2 ∷ []) d e)
   where
     abbrev size : ℕ
-    size = file.data_fork.logical_size
+    size = (fork_at (kind_of k) file).logical_size
 
     abbrev block : ℕ
     block = v.header.block_size
@@ -151,16 +162,16 @@ module _ (v w : Volume) (a c d e : Space) (was : IsStanding v a) (settled : IsSe
     end = from + length value
 
     abbrev start : ℕ
-    start = first_block v.header.block_size file.data_fork.logical_size from
+    start = first_block v.header.block_size (fork_at (kind_of k) file).logical_size from
 
     abbrev behind : ℕ
-    behind = old_end v.header.block_size file.data_fork.logical_size (from + length value)
+    behind = old_end v.header.block_size (fork_at (kind_of k) file).logical_size (from + length value)
 
     abbrev n : ℕ
-    n = blocks_put v file.data_fork.logical_size from (length value)
+    n = blocks_put v (fork_at (kind_of k) file).logical_size from (length value)
 
     abbrev fresh : List ℕ
-    fresh = blocks_of (fresh_of v.map (blocks_put v file.data_fork.logical_size from (length value)))
+    fresh = blocks_of (fresh_of v.map (blocks_put v (fork_at (kind_of k) file).logical_size from (length value)))
 
     fresh_many : length fresh ≡ n
     fresh_many = (picks_chosen (free_of v.map) n enough).count
@@ -183,14 +194,14 @@ module _ (v w : Volume) (a c d e : Space) (was : IsStanding v a) (settled : IsSe
     later_long : length (blocks_of places.later) + (behind - start) ≡ length (blocks_of list) + length fresh
     later_long = ap (λ (l : List ℕ). length l + (behind - start)) blocks_are ∙ long block size from end (blocks_of list) fresh some_block (omega (arith, some)) sure.holds fresh_many
 
-    sizes : HasSizes (volume_of a.content).head (overflow_in_volume (volume_of a.content)) (data_fork_of file)
-    sizes = each_of (HasSizes (volume_of a.content).head (overflow_in_volume (volume_of a.content))) (forks_of (volume_of a.content)) settled.sound.blocks.forks.sizes (data_fork_of file) (file_fork_stands (volume_of a.content) p file stands_there value_is)
+    sizes : HasSizes (volume_of a.content).head (overflow_in_volume (volume_of a.content)) (owned_of k file)
+    sizes = each_of (HasSizes (volume_of a.content).head (overflow_in_volume (volume_of a.content))) (forks_of (volume_of a.content)) settled.sound.blocks.forks.sizes (owned_of k file) (owned_stands k (volume_of a.content) p file stands_there value_is)
 
     total_is : total ≡ length (blocks_of places.later)
     total_is = omega (arith, totals, later_long, fresh_many, sizes.blocks, ap (λ (l : List Extent). length (blocks_of l)) list_is)
 
     list_fits : Fit (length v.map.used) list
-    list_fits = subst (λ (l : List Extent). Fit (length v.map.used) l) (sym list_is) (file_fits v a settled (data_fork_of file) (file_fork_stands (volume_of a.content) p file stands_there value_is))
+    list_fits = subst (λ (l : List Extent). Fit (length v.map.used) l) (sym list_is) (file_fits v a settled (owned_of k file) (owned_stands k (volume_of a.content) p file stands_there value_is))
 
     old_fits : Fit (length v.map.used) (middle start behind list)
     old_fits = fit_back (length v.map.used) start (front behind list) (fit_front (length v.map.used) behind list list_fits)
@@ -231,18 +242,18 @@ module _ (v w : Volume) (a c d e : Space) (was : IsStanding v a) (settled : IsSe
           ((header_within.content told).each s);
     }
 
-    pub put_through : IsPutThrough v a w.map w.extents w.catalog free places.between places.stored c.content e n entry.parent entry.name (fork_with (max size end) total places.later file.data_fork) file start (behind - start) places.later from value
+    pub put_through : IsPutThrough k v a w.map w.extents w.catalog free places.between places.stored c.content e n entry.parent entry.name (fork_with (max size end) total places.later (fork_at (kind_of k) file)) file start (behind - start) places.later from value
     put_through = record {
       enough = enough;
       spilled = places.spilled;
       spill_lists = places.lists;
       spreads = places.spreads;
-      updates = places.replaces.updates;
+      updates = subst (λ (f : FileRecord). UpdatesEntry entry.parent entry.name (File f) (lists_of (with_stored v w.map w.extents) places.stored).catalog_pairs (lists_of (with_record v w.map w.extents w.catalog) c.content).catalog_pairs) (record_is k v.header.modify_date (fork_with (max size end) total places.later (fork_at (kind_of k) file)) file) places.replaces.updates;
       changes = places.replaces.changes;
       there = there;
       no_link = no_link;
       fits = fits;
-      fits_fork = places.fits.data_fork;
+      fits_fork = fits_at k v.header.modify_date (fork_with (max size end) total places.later (fork_at (kind_of k) file)) file places.fits;
       stands = subst (λ (x : Volume). IsStanding x e) places.rest stands;
       headed = header_put.headed ∙ ap (λ (x : Volume). x.header) places.rest;
       map_held = subst (λ (x : Volume). HoldsMap x e.content) places.rest map_held;
@@ -259,16 +270,16 @@ module _ (v w : Volume) (a c d e : Space) (was : IsStanding v a) (settled : IsSe
     }
 
     module _ (others_law : OthersKeepBytes) where
-      pub value_put : PutsValue file from value v w a.content e.content
+      pub value_put : PutsValue (kind_of k) file from value v w a.content e.content
       value_put = record {
-        lists = lists_put v a was settled w.map w.extents w.catalog free places.between places.stored c.content e n entry.parent entry.name (fork_with (max size end) total places.later file.data_fork) file start (behind - start) places.later from value put_through;
+        lists = lists_put k v a was settled w.map w.extents w.catalog free places.between places.stored c.content e n entry.parent entry.name (fork_with (max size end) total places.later (fork_at (kind_of k) file)) file start (behind - start) places.later from value put_through;
         fresh = fresh;
         many = fresh_many;
-        rewrites = rewrites_it v a was settled w.map w.extents w.catalog free places.between places.stored c.content e n entry.parent entry.name (fork_with (max size end) total places.later file.data_fork) file start (behind - start) places.later from value put_through;
-        same_file = before_it v a was settled w.map w.extents w.catalog free places.between places.stored c.content e n entry.parent entry.name (fork_with (max size end) total places.later file.data_fork) file start (behind - start) places.later from value put_through;
-        makes = makes_it v a was settled w.map w.extents w.catalog free places.between places.stored c.content e n entry.parent entry.name (fork_with (max size end) total places.later file.data_fork) file start (behind - start) places.later from value put_through others_law;
+        rewrites = rewrites_it k v a was settled w.map w.extents w.catalog free places.between places.stored c.content e n entry.parent entry.name (fork_with (max size end) total places.later (fork_at (kind_of k) file)) file start (behind - start) places.later from value put_through;
+        same_file = before_it k v a was settled w.map w.extents w.catalog free places.between places.stored c.content e n entry.parent entry.name (fork_with (max size end) total places.later (fork_at (kind_of k) file)) file start (behind - start) places.later from value put_through;
+        makes = makes_it k v a was settled w.map w.extents w.catalog free places.between places.stored c.content e n entry.parent entry.name (fork_with (max size end) total places.later (fork_at (kind_of k) file)) file start (behind - start) places.later from value put_through others_law;
         settles = λ sound. subst (λ (x : Volume). IsSettled x e.content) (sym places.rest)
-            (settled_put v a was settled w.map w.extents w.catalog free places.between places.stored c.content e n entry.parent entry.name (fork_with (max size end) total places.later file.data_fork) file start (behind - start) places.later from value put_through sound);
-        tree = tree_put v a was settled w.map w.extents w.catalog free places.between places.stored c.content e n entry.parent entry.name (fork_with (max size end) total places.later file.data_fork) file start (behind - start) places.later from value put_through;
-        now = volume_is v a was settled w.map w.extents w.catalog free places.between places.stored c.content e n entry.parent entry.name (fork_with (max size end) total places.later file.data_fork) file start (behind - start) places.later from value put_through;
+            (settled_put k v a was settled w.map w.extents w.catalog free places.between places.stored c.content e n entry.parent entry.name (fork_with (max size end) total places.later (fork_at (kind_of k) file)) file start (behind - start) places.later from value put_through sound);
+        tree = tree_put k v a was settled w.map w.extents w.catalog free places.between places.stored c.content e n entry.parent entry.name (fork_with (max size end) total places.later (fork_at (kind_of k) file)) file start (behind - start) places.later from value put_through;
+        now = volume_is k v a was settled w.map w.extents w.catalog free places.between places.stored c.content e n entry.parent entry.name (fork_with (max size end) total places.later (fork_at (kind_of k) file)) file start (behind - start) places.later from value put_through;
       }

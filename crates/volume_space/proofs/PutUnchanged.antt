@@ -19,6 +19,7 @@ use Rattle.sector_disk.specs.Space.{AgreesOutside, Space}
 use Rattle.volume_header.specs.declared.header.VolumeHeader.{VolumeHeader}
 use Rattle.hfs_volume.specs.Content.{VolumeState, volume_of}
 use Rattle.hfs_volume.specs.Forks.{per_block_of}
+use Rattle.volume_base.specs.Cutting.{fork_at}
 use Rattle.volume_base.specs.Lists.{bits_on}
 use Rattle.volume_base.specs.Mapping.{HoldsUnchanged, changed_sectors}
 use Rattle.volume_base.specs.Standing.{IsSettled, IsStanding, attribute_sectors, file_sectors, map_sectors}
@@ -36,8 +37,8 @@ use Rattle.volume_space.proofs.Sounding.{sound_here}
 use Rattle.volume_space.proofs.SpilledBits.{bit_same, bits_long, fresh_are}
 use Rattle.volume_base.proofs.TreesSettled.{header_settled}
 
-module _ (v w : Volume) (a : Space) (c : Content) (was : IsStanding v a) (settled : IsSettled v a.content) (entry : Entry) (file : FileRecord) (list : List Extent) (from : ℕ) (value : List ℕ) (total free : ℕ)
-    (places : PlacesData entry file list from value total free v w a.content c) (n : ℕ) (many : n ≡ blocks_put v file.data_fork.logical_size from (length value)) (enough : n ≤ count_set (free_of v.map))
+module _ (kind : ℕ) (v w : Volume) (a : Space) (c : Content) (was : IsStanding v a) (settled : IsSettled v a.content) (entry : Entry) (file : FileRecord) (list : List Extent) (from : ℕ) (value : List ℕ) (total free : ℕ)
+    (places : PlacesData kind entry file list from value total free v w a.content c) (n : ℕ) (many : n ≡ blocks_put v (fork_at kind file).logical_size from (length value)) (enough : n ≤ count_set (free_of v.map))
     (unchanged : v.map.changed ≡ none (sectors_for (length v.map.used))) (old : List Extent) (old_fits : Fit (length v.map.used) old) (old_used : AreUsed v.map (blocks_of old))
     (map_is : w.map ≡ given old (taken n v.map))
   where
@@ -48,7 +49,7 @@ module _ (v w : Volume) (a : Space) (c : Content) (was : IsStanding v a) (settle
     head_is = ap (λ (l : VolumeState). l.head) settled.lists
 
     spilled : AgreesOutside (IsOneOf (sectors_of (per_block_of (volume_of a.content).head) (blocks_of (fresh_of v.map n)))) a.content places.between
-    spilled = subst (λ (k : VolumeHeader × ℕ). AgreesOutside (IsOneOf (sectors_of (per_block_of k.0) (blocks_of (fresh_of v.map k.1)))) a.content places.between) {x = (v.header, blocks_put v file.data_fork.logical_size from (length value))} {y = ((volume_of a.content).head, n)} (λ i. (sym head_is i, sym many i)) places.spilled
+    spilled = subst (λ (h : VolumeHeader × ℕ). AgreesOutside (IsOneOf (sectors_of (per_block_of h.0) (blocks_of (fresh_of v.map h.1)))) a.content places.between) {x = (v.header, blocks_put v (fork_at kind file).logical_size from (length value))} {y = ((volume_of a.content).head, n)} (λ i. (sym head_is i, sym many i)) places.spilled
 
     map_are : map_sectors v ≡ allocation_sectors (volume_of a.content)
     map_are = (λ i. sectors_of (was.forks.map_per i) (blocks_of (was.forks.map i))) ∙ sym (ap (λ (l : VolumeState). allocation_sectors l) settled.lists)

@@ -1,4 +1,7 @@
 -- `trunc` where it puts no data: where a file's record got another size, the volume is settled again, and its tree is the step's.
+use Rattle.std.proofs.Common.{inl}
+use Rattle.hfs_volume.specs.Forks.{data_kind}
+use Rattle.volume_base.specs.declared.forks.ForkKind.TheVariants as kinds
 use Rattle.std.proofs.Common.{◌≡◌, ◌<◌, ◌≤◌, ℕ, ◌^◌, false, List, [], length, refl, sym, ◌∙◌, ap, subst, arith}
 use Rattle.std.specs.Prelude.{Contains, IsTrue, nat_lt, Option, Some, None, Result, Ok}
 use Rattle.std.specs.Option.{option_map}
@@ -121,11 +124,11 @@ module _ (law : TruncDoes) (v w : Volume) (a b : Space) (settled : IsSettled v a
         (ap id_in (found_value updated) ∙ sym number ∙ its.id ∙ sym (ap id_in its.value)) in
         sym (found_value updated) ∙ ap (λ (p : Placed). p.value) one ∙ its.value
 
-    new_rec : sets.rec ≡ File (rewritten moment sized its.file)
-    new_rec = some_same sets.rec (File (rewritten moment sized its.file)) (sym sets.made ∙ ap (with_size moment size) rec_is)
+    new_rec : sets.rec ≡ File (rewritten kinds.Data moment sized its.file)
+    new_rec = some_same sets.rec (File (rewritten kinds.Data moment sized its.file)) (sym sets.made ∙ ap (with_size moment size) rec_is)
 
-    long : length (file_bytes a.content its.file) ≡ its.file.data_fork.logical_size
-    long = bytes_long a.content settled.sound its.file its.entry its.stands its.value
+    long : length (file_bytes a.content its.file).data_bytes ≡ its.file.data_fork.logical_size
+    long = bytes_long a.content settled.sound data_kind (inl refl) its.file its.entry its.stands its.value
 
     short_fork : size ≤ its.file.data_fork.logical_size
     short_fork = omega (arith, short, ap (λ (l : List ℕ). length l) its.bytes, long)
@@ -133,9 +136,9 @@ module _ (law : TruncDoes) (v w : Volume) (a b : Space) (settled : IsSettled v a
     file_fits : FitsFile its.file
     file_fits = subst FitsRecord rec_is (fits (not_thread moment size entry.rec sets.rec sets.made))
 
-    is_record : IsRecordOf moment entry.parent entry.name (record its.file.data_fork { logical_size = size }) its.file (volume_of a.content).catalog_pairs (lists_of w b.content).catalog_pairs
+    is_record : IsRecordOf kinds.Data moment entry.parent entry.name (record its.file.data_fork { logical_size = size }) its.file (volume_of a.content).catalog_pairs (lists_of w b.content).catalog_pairs
     is_record =
-        let u : UpdatesEntry entry.parent entry.name (File (rewritten moment sized its.file)) (volume_of a.content).catalog_pairs (lists_of w b.content).catalog_pairs =
+        let u : UpdatesEntry entry.parent entry.name (File (rewritten kinds.Data moment sized its.file)) (volume_of a.content).catalog_pairs (lists_of w b.content).catalog_pairs =
         subst (λ (r : CatRecord). UpdatesEntry entry.parent entry.name r (volume_of a.content).catalog_pairs (lists_of w b.content).catalog_pairs) new_rec updated in
         record {
           updates = u;
@@ -175,7 +178,7 @@ module _ (law : TruncDoes) (v w : Volume) (a b : Space) (settled : IsSettled v a
 
     private : private_id (placed_in (lists_of w b.content).catalog_pairs) ≡ private_id (placed_in (lists_of v a.content).catalog_pairs)
     private =
-        private_again moment entry.parent entry.name sized its.file (volume_of a.content) (lists_then a.content w b.content) is_record settled.sound
+        private_again kinds.Data moment entry.parent entry.name sized its.file (volume_of a.content) (lists_then a.content w b.content) is_record settled.sound
         ∙ ap (λ (l : List Pair). private_id (placed_in l)) pairs_are
 
     settled_now : IsSettled w b.content

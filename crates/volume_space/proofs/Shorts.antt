@@ -8,7 +8,7 @@ use Rattle.alloc_bitmap.specs.Map.{free_of}
 use Rattle.hfs_volume.specs.Content.{volume_of}
 use Rattle.hfs_volume.specs.Cost.{cost_of}
 use Rattle.hfs_volume.specs.Forks.{parts_for}
-use Rattle.hfs_volume.specs.Reclaim.{CutOrphan, CutShrunk, DropAttribute, DropOrphan, Reclaim, reclaim_cost_with}
+use Rattle.hfs_volume.specs.Reclaim.{DropAttribute, DropOrphan, reclaim_cost_with}
 use Rattle.hfs_volume.specs.Weight.{free_blocks, room_with, value_change}
 use Rattle.volume_runs.specs.Rest.{cut_puts}
 use Rattle.hfs_volume.specs.declared.cost.Cost.{Cost}
@@ -19,8 +19,8 @@ use Rattle.volume_base.specs.Room.{capacity_of, room_on}
 use Rattle.volume_base.specs.Standing.{IsSettled}
 use Rattle.volume_base.specs.declared.room.FreeBlocks.TheVariants as blocks
 use Rattle.volume_base.specs.declared.volume.Volume.{Volume}
-use Rattle.volume_space.specs.Cutting.{IsCut, IsNextCut, trim_load}
-use Rattle.volume_space.specs.Orphans.{IsNextShort, IsShort, bare_edits}
+use Rattle.volume_space.specs.Cutting.{trim_load}
+use Rattle.volume_space.specs.Orphans.{IsShort, bare_edits}
 use Rattle.volume_space.proofs.BareCost.{bare_cost_by}
 use Rattle.volume_space.proofs.HeldUp.{cut_puts_is}
 use Rattle.volume_space.proofs.PutMet.{not_met}
@@ -41,18 +41,5 @@ trim_is v content settled =
     let sizes : parts_for v.header.total_blocks 4096 ≡ sectors_for (length v.map.used) = omega (arith, settled.blocks) in
     omega (arith, ap (λ n. min n 10) sizes)
 
-pub short_cut : (v : Volume) (content : Content) → IsSettled v content → (spare : ℕ) → spare < trim_load v → (step : Reclaim) → IsCut step → IsShort (capacity_of v) (free_of v.map) spare (volume_of content) step
-short_cut v content settled spare less step cut = by cut
-  where
-    enough : spare < cut_puts (room_with (capacity_of v) (free_blocks (volume_of content)) (volume_of content))
-    enough = omega (arith, less, trim_is v content settled, cut_puts_is v content settled)
-
-    by : IsCut step → IsShort (capacity_of v) (free_of v.map) spare (volume_of content) step
-    by (inl (id, same)) = subst (IsShort (capacity_of v) (free_of v.map) spare (volume_of content)) (sym same) enough
-    by (inr (id, kind, same)) = subst (IsShort (capacity_of v) (free_of v.map) spare (volume_of content)) (sym same) enough
-
--- the next step is such a cut
-pub short_next : (capacity : ℕ) (shrunk : Option ℕ) (free : List Bool) (spare : ℕ) (content : Content) (id kind keep : ℕ) → IsNextCut shrunk content id kind keep → ((step : Reclaim) → IsCut step → IsShort capacity free spare (volume_of content) step)
-    → IsNextShort capacity shrunk free spare (volume_of content)
-short_next capacity shrunk free spare content id kind keep (inl next) short = (CutShrunk id, next.0, short (CutShrunk id) (inl (id, refl)))
-short_next capacity shrunk free spare content id kind keep (inr next) short = (CutOrphan id kind, next.0, short (CutOrphan id kind) (inr (id, kind, refl)))
+pub short_cut : (v : Volume) (content : Content) → IsSettled v content → (spare : ℕ) → spare < trim_load v → spare < cut_puts (room_with (capacity_of v) (free_blocks (volume_of content)) (volume_of content))
+short_cut v content settled spare less = omega (arith, less, trim_is v content settled, cut_puts_is v content settled)

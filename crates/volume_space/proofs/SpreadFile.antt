@@ -41,13 +41,14 @@ use Rattle.overflow.proofs.Cutting.{AreUsed}
 use Rattle.overflow.proofs.Whole.{goes_on_in, pairs_eight, used_by, whole_is}
 use Rattle.volume_base.specs.Changing.{KeepsBlocks}
 use Rattle.volume_base.specs.Cutting.{IsCutOf, IsLastCut, fork_at}
-use Rattle.volume_space.specs.Cutting.{IsForkOf, kind_of}
+use Rattle.volume_space.specs.Cutting.{IsForkOf}
+use Rattle.volume_base.specs.Cutting.{kind_of}
 use Rattle.volume_base.specs.Lists.{lists_of}
 use Rattle.volume_base.specs.Reading.{HasFile}
 use Rattle.volume_base.specs.Standing.{IsSettled}
 use Rattle.volume_base.specs.declared.cutting.Cut.{Cut}
-use Rattle.volume_space.specs.declared.cutting.ForkKind.{ForkKind}
-use Rattle.volume_space.specs.declared.cutting.ForkKind.TheVariants as kinds
+use Rattle.volume_base.specs.declared.forks.ForkKind.{ForkKind}
+use Rattle.volume_base.specs.declared.forks.ForkKind.TheVariants as kinds
 use Rattle.volume_base.specs.declared.entries.Entry.{Entry}
 use Rattle.volume_base.specs.declared.volume.Volume.{Volume}
 use Rattle.volume_base.proofs.CutForks.{fork_owned, front_few, front_used, full_all}
@@ -58,10 +59,6 @@ use Rattle.volume_space.proofs.FewChanges.{AreFew, blocks_both, few_kept, past_e
 use Rattle.volume_base.proofs.NextDrop.{fork_stands}
 
 -- ---- a file and its forks
-
-pub kind_is : (k : ForkKind) → (kind_of k ≡ data_kind) ⊎ (kind_of k ≡ resource_kind)
-kind_is kinds.Data = inl refl
-kind_is kinds.Resource = inr refl
 
 pub eight_in : (k : ForkKind) (file : FileRecord) → FitsFile file → length (fork_at (kind_of k) file).extents.extents ≡ 8
 eight_in kinds.Data file fits = fits.data_fork.extents.eight

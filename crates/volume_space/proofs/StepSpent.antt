@@ -1,6 +1,6 @@
 -- What a step of reclaiming puts.
 use Rattle.std.proofs.Common.{◌≡◌, ◌≤◌, ◌<◌, ℕ, zero, suc, ◌+◌, ◌-◌, ◌*◌, ◌/◌, Bool, true, false, List, [], inl, inr, refl, sym, ◌∙◌, ap, subst, arith, ◌∷◌, min, length}
-use Rattle.volume_space.specs.CuttingAhead.{PutsCut, TakesCutLoad}
+use Rattle.volume_space.specs.CuttingAhead.{TakesCutLoad}
 use Rattle.volume_base.specs.Making.{catalog_cost}
 use Rattle.std.specs.Prelude.{Option, Some, None, IsTrue, not, nat_lt, if◌then◌else◌}
 use Rattle.std.specs.List.{range_with_len}
@@ -32,7 +32,7 @@ use Rattle.volume_base.specs.Room.{capacity_of}
 use Rattle.volume_base.specs.Standing.{IsSettled}
 use Rattle.volume_base.specs.declared.volume.Volume.{Volume}
 use Rattle.volume_base.proofs.Loads.{load_is}
-use Rattle.volume_space.specs.Cutting.{IsNextCut, trim_load}
+use Rattle.volume_space.specs.Cutting.{PutsCut, trim_load}
 use Rattle.volume_space.specs.Orphans.{PutsNext, PutsStep, TakesNextLoad, bare_edits, strip_load}
 use Rattle.volume_space.proofs.EditsTaken.{load_grown}
 use Rattle.volume_space.proofs.HeldUp.{cut_puts_is}
@@ -46,15 +46,8 @@ next_behind before between same capacity first one shrunk file two spare left th
 
 -- ---- a cut
 
-pub cut_spent : (v : Volume) (content : Content) → IsSettled v content → (before after : ℕ) → before ≤ after + trim_load v → (shrunk : Option ℕ) (id kind keep : ℕ) → IsNextCut shrunk content id kind keep → PutsNext (capacity_of v) shrunk (volume_of content) before after
-cut_spent v content settled before after less shrunk id kind keep next = by next
-  where
-    enough : before ≤ after + cut_puts (room_with (capacity_of v) (free_blocks (volume_of content)) (volume_of content))
-    enough = omega (arith, less, trim_is v content settled, cut_puts_is v content settled)
-
-    by : IsNextCut shrunk content id kind keep → PutsNext (capacity_of v) shrunk (volume_of content) before after
-    by (inl step) = inr (CutShrunk id, step.0, enough)
-    by (inr step) = inr (CutOrphan id kind, step.0, enough)
+pub cut_spent : (v : Volume) (content : Content) → IsSettled v content → (before after : ℕ) → before ≤ after + trim_load v → PutsCut (capacity_of v) (volume_of content) before after
+cut_spent v content settled before after less = omega (arith, less, trim_is v content settled, cut_puts_is v content settled)
 
 -- ---- drops
 
@@ -197,12 +190,7 @@ next_within capacity shrunk volume before after (inr (found, at, puts)) step loa
 
 -- ---- a cut ahead of data
 
--- the next step is the cut
-pub past_spent : (capacity id : ℕ) (volume : VolumeState) (shrunk : Option ℕ) → shrunk ≡ Some id → next_reclaim volume (Some id) ≡ Some (CutShrunk id) → (before after : ℕ) → PutsNext capacity shrunk volume before after → PutsCut capacity volume before after
-past_spent capacity id volume shrunk is next before after (inl none) = omega (arith, none)
-past_spent capacity id volume shrunk is next before after (inr (step, at, puts)) =
-    subst (λ s. PutsStep capacity volume s before after) (one_step step (CutShrunk id) (next_reclaim volume shrunk) at (ap (next_reclaim volume) is ∙ next)) puts
-
+-- behind reads
 pub cut_behind : (before between : Content) → between ≡ before → (capacity first : ℕ) → first ≡ capacity → (spare left : ℕ) → left ≡ spare → (after : ℕ) → PutsCut first (volume_of between) left after → PutsCut capacity (volume_of before) spare after
 cut_behind before between same capacity first one spare left three after was =
     subst (λ (k : Content × ℕ × ℕ). PutsCut k.1 (volume_of k.0) k.2 after) {x = (between, first, left)} {y = (before, capacity, spare)} (λ i. (same i, one i, three i)) was

@@ -15,11 +15,12 @@ use Rattle.cat_records.specs.declared.record.FileRecord.{FileRecord}
 use Rattle.hfs_volume.specs.Content.{records_of, volume_of, VolumeState}
 use Rattle.hfs_volume.specs.Records.{overflow_of}
 use Rattle.volume_base.specs.Cutting.{IsLastCut, fork_at}
-use Rattle.volume_space.specs.Cutting.{IsForkOf, PutsGiven, given_back, kind_of, spread_load}
+use Rattle.volume_space.specs.Cutting.{IsForkOf, PutsGiven, given_back, spread_load}
+use Rattle.volume_base.specs.Cutting.{kind_of}
 use Rattle.volume_base.specs.Reading.{HasFile}
 use Rattle.volume_base.specs.Standing.{IsSettled}
 use Rattle.volume_base.specs.declared.cutting.Cut.{Cut}
-use Rattle.volume_space.specs.declared.cutting.ForkKind.{ForkKind}
+use Rattle.volume_base.specs.declared.forks.ForkKind.{ForkKind}
 use Rattle.volume_base.specs.declared.volume.Volume.{Volume}
 use Rattle.volume_space.proofs.SpreadFile.{store_few}
 

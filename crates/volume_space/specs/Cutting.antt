@@ -1,5 +1,5 @@
 -- Blocks at the end of a file's fork, which a step of housekeeping gives back.
-use Rattle.std.specs.Prelude.{◌≡◌, ◌⊎◌, ◌<◌, ◌≤◌, ℕ, ◌+◌, ◌-◌, ◌*◌, ◌/◌, ◌^◌, ◌==◌, min, nat_lt, not, true, false, List, [], ◌∷◌, length, take, drop, Option, None, Some, if◌then◌else◌}
+use Rattle.std.specs.Prelude.{◌≡◌, ◌⊎◌, ◌<◌, ◌≤◌, ℕ, ◌+◌, ◌-◌, ◌*◌, ◌/◌, ◌^◌, ◌==◌, ◌&&◌, min, nat_lt, not, true, false, List, [], ◌∷◌, length, take, drop, Option, None, Some, if◌then◌else◌}
 use Rattle.std.specs.List.{Contains}
 use Rattle.sector_disk.specs.Lists.{Content}
 use Rattle.sector_disk.specs.Space.{AgreesOutside}
@@ -10,13 +10,21 @@ use Rattle.fork_map.specs.Blocks.{blocks_of}
 use Rattle.fork_map.specs.Cut.{front}
 use Rattle.alloc_bitmap.specs.Map.{BlockMap, Have, touched_by}
 use Rattle.hx_bytes.specs.declared.extents.Extent.{Extent}
+use Rattle.hx_bytes.specs.declared.extents.ForkRecord.{ForkRecord}
 use Rattle.cat_records.specs.declared.record.CatRecord.{CatRecord}
 use Rattle.cat_records.specs.declared.record.CatRecord.TheVariants.{Folder, File, Thread}
 use Rattle.cat_records.specs.declared.record.FileRecord.{FileRecord}
 use Rattle.hfs_volume.specs.Content.{VolumeState, overflow_in_volume, records_of, volume_of}
 use Rattle.hfs_volume.specs.Forks.{data_kind, extents_of, parts_for, resource_kind}
 use Rattle.hfs_volume.specs.Links.{orphans_of}
-use Rattle.hfs_volume.specs.Reclaim.{CutOrphan, CutShrunk, Does, IsTreeFork, Reclaim, blocks_at, blocks_wanted, least, next_reclaim}
+use Rattle.hfs_language.specs.declared.refusal.Refusal.{Refusal}
+use Rattle.hfs_volume.specs.Reclaim.{CutOrphan, CutShrunk, CutsAlone, Does, IsTreeFork, Reclaim, blocks_at, blocks_wanted, least, next_reclaim}
+use Rattle.hfs_volume.specs.Records.{Placed, id_of}
+use Rattle.hfs_volume.specs.Weight.{cut_cost, free_blocks, room_with}
+use Rattle.hfs_volume.specs.declared.cost.Cost.TheVariants as cost
+use Rattle.volume_runs.specs.Rest.{cut_puts}
+use Rattle.volume_space.specs.declared.tidying.Tidying.{Tidying}
+use Rattle.volume_space.specs.declared.tidying.Tidying.TheVariants as tidying
 use Rattle.hfs_volume.specs.TreeOf.{tree_of}
 use Rattle.volume_base.specs.Changing.{catalog_node}
 use Rattle.volume_base.specs.Lists.{lists_of}
@@ -24,18 +32,11 @@ use Rattle.volume_base.specs.Mapping.{HoldsMap}
 use Rattle.volume_base.specs.Holding.{HoldsOn}
 use Rattle.volume_base.specs.Standing.{map_sectors}
 use Rattle.volume_base.specs.declared.cutting.Cut.{Cut}
-use Rattle.volume_space.specs.declared.cutting.ForkKind.{ForkKind}
-use Rattle.volume_space.specs.declared.cutting.ForkKind.TheVariants as kinds
+use Rattle.volume_base.specs.declared.forks.ForkKind.{ForkKind}
+use Rattle.volume_base.specs.declared.forks.ForkKind.TheVariants as kinds
 use Rattle.volume_space.specs.declared.trimming.Surplus.{Surplus}
 use Rattle.volume_base.specs.declared.volume.Volume.{Volume}
 use Rattle.volume_base.specs.Cutting.{fork_at, with_freed}
-
--- ---- forks
-
--- the number that stands for a kind of fork
-abbrev pub kind_of : ForkKind → ℕ
-kind_of kinds.Data = data_kind
-kind_of kinds.Resource = resource_kind
 
 -- ---- the run that goes
 -- A list of extents in two parts: those of the blocks in front, and one run at the end, of so many blocks.
@@ -82,6 +83,13 @@ pub record PutsGiven (volume : Volume) (before after : Content) : Type 0 where
   pub lists : lists_of volume after ≡ lists_of volume before
   pub outside : AgreesOutside (λ s. (s ≡ 2) ⊎ Contains (map_sectors volume) s) before after
 
+-- ---- a cut
+-- A file's fork may be cut to no fewer blocks than these: to those that its bytes take, or to none where the file lost its last name.
+abbrev pub MayCut : Content → ℕ → ℕ → ℕ → Type 0
+MayCut content id kind keep =
+    (keep ≡ blocks_wanted (volume_of content) id kind)
+    ⊎ ((keep ≡ 0) × ((orphan : Placed) × Contains (orphans_of (records_of (volume_of content))) orphan × (id_of orphan ≡ id)))
+
 -- ---- the step
 -- The next step of reclaiming cuts this fork of the file with this CNID, to no fewer blocks than these.
 abbrev pub IsNextCut : Option ℕ → Content → ℕ → ℕ → ℕ → Type 0
@@ -103,6 +111,32 @@ pub record KeepsTrees (old new : VolumeState) : Type 0 where
   pub journal : new.journal ≡ old.journal
   pub forks : (id kind : ℕ) → IsTreeFork id → blocks_at new id kind ≡ blocks_at old id kind
 
+-- This fork alone was cut, to no fewer blocks than these, and the tree is as it was.
+pub record CutsOne (id kind keep : ℕ) (before after : Content) : Type 0 where
+  pub alone : CutsAlone id kind keep (volume_of before) (volume_of after)
+  pub keeps : KeepsTrees (volume_of before) (volume_of after)
+  pub tree : tree_of after ≡ tree_of before
+
+-- Nothing is missing for a cut, and no tree has to grow for it.
+pub record AffordsCut (capacity : ℕ) (volume : VolumeState) : Type 0 where
+  pub load : ℕ
+  pub affords : cut_cost (room_with capacity (free_blocks volume) volume) ≡ cost.Load load (0 ∷ 0 ∷ 0 ∷ [])
+
+-- the journal has no room for a cut
+abbrev pub RefusesCut : ℕ → VolumeState → Type 0
+RefusesCut capacity volume = (why : Refusal) × (cut_cost (room_with capacity (free_blocks volume) volume) ≡ cost.Refused why)
+
+-- of the sectors that could be put, no more were put than a cut puts at most
+abbrev pub PutsCut : ℕ → VolumeState → ℕ → ℕ → Type 0
+PutsCut capacity volume before after = before ≤ after + cut_puts (room_with capacity (free_blocks volume) volume)
+
+-- What the cut of a fork came to. Made: the fork was cut, and nothing was missing for it. CommitFirst: nothing was changed, and fewer sectors may be put
+-- than a cut puts at most. Rest: nothing was changed, and the journal has no room for a cut.
+abbrev pub CutsTo : Tidying → ℕ → ℕ → ℕ → ℕ → ℕ → Content → Content → Type 0
+CutsTo tidying.Rest capacity spare id kind keep before after = (after ≡ before) × RefusesCut capacity (volume_of before)
+CutsTo tidying.Made capacity spare id kind keep before after = AffordsCut capacity (volume_of before) × CutsOne id kind keep before after
+CutsTo tidying.CommitFirst capacity spare id kind keep before after = (after ≡ before) × (spare < cut_puts (room_with capacity (free_blocks (volume_of before)) (volume_of before)))
+
 -- The next step of reclaiming was made, and cut a fork.
 pub record CutsFile (shrunk : Option ℕ) (before after : Content) : Type 0 where
   pub step : Reclaim
@@ -119,6 +153,10 @@ surplus_in block (Folder folder) = None
 surplus_in block (File file) =
     if nat_lt (parts_for file.data_fork.logical_size block) file.data_fork.total_blocks then Some (record { kind = kinds.Data; keep = parts_for file.data_fork.logical_size block }) else None
 surplus_in block (Thread thread) = None
+
+-- what a fork of this kind has past its size, where blocks have this size and data up to an end makes it longer
+abbrev pub surplus_ahead : ForkKind → ℕ → ForkRecord → ℕ → Option Surplus
+surplus_ahead kind block fork end = if nat_lt fork.logical_size end && nat_lt (parts_for fork.logical_size block) fork.total_blocks then Some (record { kind = kind; keep = parts_for fork.logical_size block }) else None
 
 -- the fork of a file that has blocks, the data fork first
 abbrev pub blocks_left : CatRecord → Option Surplus

@@ -17,7 +17,7 @@ use Rattle.hfs_model.specs.Sorted.{kept}
 use Rattle.hfs_volume.specs.Blocks.{GoesOn, LieInside}
 use Rattle.hfs_volume.specs.Content.{overflow_in_volume}
 use Rattle.hfs_volume.specs.Cost.{extents_key, tree_load}
-use Rattle.hfs_volume.specs.Forks.{data_kind, extents_of, is_of}
+use Rattle.hfs_volume.specs.Forks.{extents_of, is_of}
 use Rattle.hfs_volume.specs.declared.cost.Cost.{Cost}
 use Rattle.hfs_volume.specs.declared.cost.Cost.TheVariants as cost
 use Rattle.hfs_volume.specs.declared.cost.Needs.{Needs}
@@ -38,17 +38,17 @@ pub record StoresExtents (id kind : ℕ) (extents : List Extent) (old new : Volu
   pub headed : header_of_volume after ≡ header_of_volume before
   pub outside : AgreesOutside (λ s. Contains (sectors_of_tree old.extents.file) s) before after
 
--- A data fork has these blocks by its record and its overflow records, which go on behind it, and all other overflow records are as they were.
-pub record HoldsFork (id : ℕ) (fork : ForkRecord) (more : List Extent) (old new : List Overflow) : Type 0 where
-  pub blocks : blocks_of (extents_of new id data_kind fork) ≡ blocks_of more
-  pub goes_on : GoesOn new (record { id = id; kind = data_kind; fork = fork })
+-- A fork has these blocks by its record and its overflow records, which go on behind it, and all other overflow records are as they were.
+pub record HoldsFork (id kind : ℕ) (fork : ForkRecord) (more : List Extent) (old new : List Overflow) : Type 0 where
+  pub blocks : blocks_of (extents_of new id kind fork) ≡ blocks_of more
+  pub goes_on : GoesOn new (record { id = id; kind = kind; fork = fork })
   pub inside : (total : ℕ) → ((block : ℕ) → Contains (blocks_of more) block → block < total) → LieInside total fork.extents.extents
-  pub others : kept (λ one. not (is_of id data_kind one)) new ≡ kept (λ one. not (is_of id data_kind one)) old
+  pub others : kept (λ one. not (is_of id kind one)) new ≡ kept (λ one. not (is_of id kind one)) old
 
--- The overflow records of a file's data fork go with a record that has the first eight of these extents, and nothing else of the volume is changed; the
+-- The overflow records of a file's fork go with a record that has the first eight of these extents, and nothing else of the volume is changed; the
 -- header wasn't put.
-pub record SpreadsExtents (id : ℕ) (more : List Extent) (old new : Volume) (before after : Content) : Type 0 where
-  pub holds : (fork : ForkRecord) → fork.extents ≡ eight_at more 0 → HoldsFork id fork more (overflow_in_volume (lists_of old before)) (overflow_in_volume (lists_of new after))
+pub record SpreadsExtents (id kind : ℕ) (more : List Extent) (old new : Volume) (before after : Content) : Type 0 where
+  pub holds : (fork : ForkRecord) → fork.extents ≡ eight_at more 0 → HoldsFork id kind fork more (overflow_in_volume (lists_of old before)) (overflow_in_volume (lists_of new after))
   pub lists : lists_of new after ≡ record (lists_of old before) { overflow_pairs = (lists_of new after).overflow_pairs; extents_tree = facts_on new.extents.file }
   pub rest : new ≡ record old { extents = new.extents }
   pub file : IsSameFile old.extents.file new.extents.file

@@ -1,5 +1,5 @@
 -- `write` of bytes and `trunc` to a larger size: data is put into a file.
-use Rattle.std.specs.Prelude.{◌≡◌, ◌<◌, ◌≤◌, ℕ, ◌+◌, ◌-◌, ◌*◌, ◌/◌, ◌==◌, ◌&&◌, ◌||◌, max, min, nat_le, nat_lt, not, Bool, true, false, List, [], ◌∷◌, ◌++◌, length, take, drop, slice_index_or, Option, None, Some}
+use Rattle.std.specs.Prelude.{◌≡◌, ◌<◌, ◌≤◌, ℕ, ◌+◌, ◌-◌, ◌*◌, ◌/◌, ◌==◌, ◌&&◌, ◌||◌, max, min, nat_le, nat_lt, not, Bool, true, false, List, [], ◌∷◌, ◌++◌, length, take, drop, slice_index_or, Option, None, Some, if◌then◌else◌}
 use Rattle.std.specs.List.{All, Contains, list_all}
 use Rattle.hx_bytes.specs.declared.extents.Extent.{Extent}
 use Rattle.hx_bytes.specs.declared.extents.ForkRecord.{ForkRecord}
@@ -19,6 +19,7 @@ use Rattle.flag_rows.specs.Marks.{Fit}
 use Rattle.flag_rows.specs.Runs.{fewest_of}
 use Rattle.alloc_bitmap.specs.Map.{BlockMap, Have, free_of}
 use Rattle.hfs_language.specs.declared.command.Command.{Command}
+use Rattle.hfs_model.specs.declared.plain.PlainNode.{PlainNode}
 use Rattle.hfs_volume.specs.Content.{VolumeState, overflow_in_volume, records_of, volume_of}
 use Rattle.hfs_volume.specs.Cost.{cost_of, overflow_records}
 use Rattle.hfs_volume.specs.Data.{PutsInFork}
@@ -26,15 +27,17 @@ use Rattle.hfs_volume.specs.Forks.{data_kind, extents_of, per_block_of}
 use Rattle.hfs_volume.specs.Records.{Placed, entries_of, is_link_type}
 use Rattle.hfs_volume.specs.Sound.{IsSoundVolume}
 use Rattle.hfs_volume.specs.TreeOf.{bytes_in, tree_in, tree_of}
-use Rattle.hfs_volume.specs.Weight.{Data, data_of, file_extents, first_block, free_runs, needs_cut, new_blocks_of, old_blocks_of, room_with}
-use Rattle.hfs_volume.specs.Writing.{MakesBytes, RewritesFile, file_before, written_bytes}
+use Rattle.hfs_volume.specs.Weight.{Data, data_of, file_extents, first_block, free_runs, needs_cut, needs_cut_in, new_blocks_of, old_blocks_of, room_with}
+use Rattle.hfs_volume.specs.Changes.{with_fork}
+use Rattle.hfs_volume.specs.Writing.{MakesBytes, RewritesFile, RewritesFork, file_before, written_bytes}
 use Rattle.hfs_volume.specs.declared.cost.Cost.{Cost}
 use Rattle.hfs_volume.specs.declared.cost.Needs.{Needs}
+use Rattle.volume_base.specs.Cutting.{fork_at}
 use Rattle.volume_base.specs.Changing.{ReplacesRecord, catalog_node}
-use Rattle.volume_base.specs.DataWeighing.{needs_data}
+use Rattle.volume_base.specs.DataWeighing.{needs_data_in}
 use Rattle.volume_base.specs.Lists.{bits_on, lists_of}
 use Rattle.volume_base.specs.Reading.{HasFile}
-use Rattle.volume_space.specs.Recording.{records_held}
+use Rattle.volume_space.specs.Recording.{records_in}
 use Rattle.volume_space.specs.Spreading.{SpreadsExtents, edits_load, is_met_extents}
 use Rattle.volume_base.specs.Standing.{IsSettled}
 use Rattle.volume_base.specs.declared.entries.Entry.{Entry}
@@ -61,8 +64,12 @@ abbrev pub data_load : Volume → Data → ℕ
 data_load volume put = 1 + catalog_node volume + bits_load volume put
 
 -- the sectors of the extents overflow file that a put of data puts at most: for an edit of each overflow record of the file's fork, and of each that it may get
+abbrev pub records_load_in : ℕ → Volume → VolumeState → Data → ℕ
+records_load_in kind volume lists put = edits_load volume.extents.file.shape (records_in kind lists put.id + overflow_records (length (file_extents lists put.id kind) + 1 + fresh_runs volume put))
+
+-- the same of a data fork
 abbrev pub records_load : Volume → VolumeState → Data → ℕ
-records_load volume lists put = edits_load volume.extents.file.shape (records_held lists put.id + overflow_records (length (file_extents lists put.id data_kind) + 1 + fresh_runs volume put))
+records_load volume lists put = records_load_in data_kind volume lists put
 
 -- whether there are as many free blocks as the data takes, and room to put what it puts, where so many sectors may be put
 abbrev pub fits_data : Volume → ℕ → Data → Bool
@@ -72,22 +79,30 @@ fits_data volume spare put = nat_le (fresh_blocks volume put) (count_set (free_o
 abbrev pub may_overflow : ℕ → ℕ → Bool
 may_overflow extents runs = nat_lt 8 (extents + 1 + runs)
 
--- it is still to come to put data into a file that has blocks past its size, which go first, or whose fork has more than eight extents or may
--- have with the new blocks
-abbrev pub is_put_later : Volume → VolumeState → Data → Bool
-is_put_later volume lists put = needs_cut lists (Some put) || may_overflow (length (file_extents lists put.id data_kind)) (fresh_runs volume put)
+-- it is still to come to put data into a fork of this kind that has blocks past its size, which go first, or more than eight extents, or may have
+-- with the new blocks
+abbrev pub is_put_later : ℕ → Volume → VolumeState → Data → Bool
+is_put_later kind volume lists put = needs_cut_in kind lists (Some put) || may_overflow (length (file_extents lists put.id kind)) (fresh_runs volume put)
 
 -- there is data to put, it isn't still to come to put it, and there is room for it, where so many sectors may be put
+abbrev pub is_put_now_in : ℕ → Volume → ℕ → VolumeState → Option Data → Bool
+is_put_now_in kind volume spare lists None = false
+is_put_now_in kind volume spare lists (Some put) = not (is_put_later kind volume lists put) && fits_data volume spare put
+
+-- the same of a data fork
 abbrev pub is_put_now : Volume → ℕ → VolumeState → Option Data → Bool
-is_put_now volume spare lists None = false
-is_put_now volume spare lists (Some put) = not (is_put_later volume lists put) && fits_data volume spare put
+is_put_now volume spare lists put = is_put_now_in data_kind volume spare lists put
 
 -- there is data to put, no blocks of the file go first, and what the data costs of the blocks that may be taken is a load that so many sectors suffice for,
 -- without growth of the extents overflow file
+abbrev pub is_data_met_in : ℕ → Volume → ℕ → VolumeState → Option Data → Bool
+is_data_met_in kind volume spare lists None = false
+is_data_met_in kind volume spare lists (Some put) =
+    not (needs_cut_in kind lists (Some put)) && is_met_extents (cost_of (needs_data_in kind (free_of volume.map) lists put) (room_with volume.capacity (free_of volume.map) lists)) spare
+
+-- the same of a data fork
 abbrev pub is_data_met : Volume → ℕ → VolumeState → Option Data → Bool
-is_data_met volume spare lists None = false
-is_data_met volume spare lists (Some put) =
-    not (needs_cut lists (Some put)) && is_met_extents (cost_of (needs_data (free_of volume.map) lists put) (room_with volume.capacity (free_of volume.map) lists)) spare
+is_data_met volume spare lists put = is_data_met_in data_kind volume spare lists put
 
 -- The file has the data of a command: it has fresh blocks in place of those from the first that is written on, its size and its dates are others,
 -- and the header counts the free blocks anew; nothing else of the lists is changed, and of all forks this one alone has other blocks.
@@ -105,9 +120,9 @@ pub record HasData (asked : Command) (before after : Content) : Type 0 where
 abbrev pub fork_with : (size total : ℕ) → List Extent → ForkRecord → ForkRecord
 fork_with size total extents fork = record { logical_size = size; clump_size = fork.clump_size; total_blocks = total; extents = eight_at extents 0 }
 
--- the record of a file that has this data fork since this moment
-abbrev pub record_with : (moment : ℕ) → ForkRecord → FileRecord → FileRecord
-record_with moment fork file = record file { fields = record file.fields { changed = moment; attribute = moment }; data_fork = fork }
+-- the record of a file that has this fork since this moment
+abbrev pub record_with : (kind moment : ℕ) → ForkRecord → FileRecord → FileRecord
+record_with kind moment fork file = with_fork kind fork (record file { fields = record file.fields { changed = moment; attribute = moment } })
 
 -- The extents of a file of this size lie in the space, hold its bytes and are in use, none twice, and so is the block of the header; the volume's blocks lie in the space.
 pub record IsSureToPut (extents : List Extent) (size : ℕ) (volume : Volume) (space : Space) : Type 0 where
@@ -138,32 +153,32 @@ abbrev pub blocks_put : Volume → (size from long : ℕ) → ℕ
 blocks_put volume size from long = new_blocks volume.header.block_size size from (from + long)
 
 -- A value was spilled for a file of these extents, and the file's record has the new fork; bitmap and header say so in memory, and neither of them was put.
-pub record PlacesData (entry : Entry) (file : FileRecord) (extents : List Extent) (from : ℕ) (value : List ℕ) (total free : ℕ) (old new : Volume) (before after : Content) : Type 0 where
+pub record PlacesData (kind : ℕ) (entry : Entry) (file : FileRecord) (extents : List Extent) (from : ℕ) (value : List ℕ) (total free : ℕ) (old new : Volume) (before after : Content) : Type 0 where
   pub later : List Extent
   pub between : Content
   pub stored : Content
-  pub blocks : blocks_of later ≡ take (first_of old.header.block_size file.data_fork.logical_size from) (blocks_of extents)
-      ++ blocks_of (fresh_of old.map (blocks_put old file.data_fork.logical_size from (length value)))
-      ++ drop (old_end old.header.block_size file.data_fork.logical_size (from + length value)) (blocks_of extents)
-  pub bytes : take (max file.data_fork.logical_size (from + length value)) (fork_bytes between old.header.block_size later)
-      ≡ written (take file.data_fork.logical_size (fork_bytes before old.header.block_size extents)) from value
+  pub blocks : blocks_of later ≡ take (first_of old.header.block_size (fork_at kind file).logical_size from) (blocks_of extents)
+      ++ blocks_of (fresh_of old.map (blocks_put old (fork_at kind file).logical_size from (length value)))
+      ++ drop (old_end old.header.block_size (fork_at kind file).logical_size (from + length value)) (blocks_of extents)
+  pub bytes : take (max (fork_at kind file).logical_size (from + length value)) (fork_bytes between old.header.block_size later)
+      ≡ written (take (fork_at kind file).logical_size (fork_bytes before old.header.block_size extents)) from value
   pub map : AreApart (blocks_of extents)
-      → new.map ≡ given (middle (first_of old.header.block_size file.data_fork.logical_size from) (old_end old.header.block_size file.data_fork.logical_size (from + length value)) extents) (taken (blocks_put old file.data_fork.logical_size from (length value)) old.map)
-  pub fits : FitsFile (record_with old.header.modify_date (fork_with (max file.data_fork.logical_size (from + length value)) total later file.data_fork) file)
+      → new.map ≡ given (middle (first_of old.header.block_size (fork_at kind file).logical_size from) (old_end old.header.block_size (fork_at kind file).logical_size (from + length value)) extents) (taken (blocks_put old (fork_at kind file).logical_size from (length value)) old.map)
+  pub fits : FitsFile (record_with kind old.header.modify_date (fork_with (max (fork_at kind file).logical_size (from + length value)) total later (fork_at kind file)) file)
   pub keeps : KeepsMap old.map new.map
-  pub spilled : AgreesOutside (IsOneOf (sectors_in old.header.block_size (fresh_of old.map (blocks_put old file.data_fork.logical_size from (length value))))) before between
+  pub spilled : AgreesOutside (IsOneOf (sectors_in old.header.block_size (fresh_of old.map (blocks_put old (fork_at kind file).logical_size from (length value))))) before between
   pub lists : lists_of (with_spill old new.map) between ≡ record (lists_of old before) { bits = bits_on (with_spill old new.map) }
-  pub spreads : SpreadsExtents file.fields.id later (with_spill old new.map) (with_stored old new.map new.extents) between stored
-  pub replaces : ReplacesRecord entry (File (record_with old.header.modify_date (fork_with (max file.data_fork.logical_size (from + length value)) total later file.data_fork) file)) (with_stored old new.map new.extents) (with_record old new.map new.extents new.catalog) stored after
+  pub spreads : SpreadsExtents file.fields.id kind later (with_spill old new.map) (with_stored old new.map new.extents) between stored
+  pub replaces : ReplacesRecord entry (File (record_with kind old.header.modify_date (fork_with (max (fork_at kind file).logical_size (from + length value)) total later (fork_at kind file)) file)) (with_stored old new.map new.extents) (with_record old new.map new.extents new.catalog) stored after
   pub rest : new ≡ with_data_put old new.map new.extents new.catalog free
 
 -- A value was put into a file: these are the lists that the laws of `write` and `trunc` speak of, and the bytes are made so. Where they are a sound volume's, the
 -- volume is settled, and stands for their tree.
-pub record PutsValue (file : FileRecord) (from : ℕ) (value : List ℕ) (old new : Volume) (before after : Content) : Type 0 where
+pub record PutsValue (kind : ℕ) (file : FileRecord) (from : ℕ) (value : List ℕ) (old new : Volume) (before after : Content) : Type 0 where
   pub lists : VolumeState
   pub fresh : List ℕ
-  pub many : length fresh ≡ blocks_put old file.data_fork.logical_size from (length value)
-  pub rewrites : RewritesFile file.fields.id (first_of old.header.block_size file.data_fork.logical_size from) (old_end old.header.block_size file.data_fork.logical_size (from + length value) - first_of old.header.block_size file.data_fork.logical_size from) fresh (volume_of before) lists
+  pub many : length fresh ≡ blocks_put old (fork_at kind file).logical_size from (length value)
+  pub rewrites : RewritesFork file.fields.id kind (first_of old.header.block_size (fork_at kind file).logical_size from) (old_end old.header.block_size (fork_at kind file).logical_size (from + length value) - first_of old.header.block_size (fork_at kind file).logical_size from) fresh (volume_of before) lists
   pub same_file : file_before rewrites.puts ≡ file
   pub makes : MakesBytes (written_bytes from value) rewrites (bytes_in before) (bytes_in after)
   pub settles : IsSoundVolume lists → IsSettled new after
@@ -184,12 +199,12 @@ most_extents extents runs = extents + 1 + runs
 abbrev pub spread_put_load : Volume → (records extents size from long : ℕ) → ℕ
 spread_put_load volume records extents size from long = edits_load volume.extents.file.shape (records + overflow_records (most_extents extents (fewest_of (blocks_put volume size from long) (free_runs (free_of volume.map)))))
 
--- A file's record stands in the lists of a content, its data fork has these extents, and it is no link.
-pub record IsToldFile (file : FileRecord) (extents : List Extent) (content : Content) : Type 0 where
+-- A file's record stands in the lists of a content, its fork of this kind has these extents, and it is no link.
+pub record IsToldFile (kind : ℕ) (file : FileRecord) (extents : List Extent) (content : Content) : Type 0 where
   pub entry : Placed
   pub stands : Contains (entries_of (records_of (volume_of content))) entry
   pub value : entry.value ≡ File file
-  pub extents_are : extents ≡ extents_of (overflow_in_volume (volume_of content)) file.fields.id data_kind file.data_fork
+  pub extents_are : extents ≡ extents_of (overflow_in_volume (volume_of content)) file.fields.id kind (fork_at kind file)
   pub no_link : is_link_type file.fields ≡ false
 
 -- ---- extents that are used, and apart
@@ -230,16 +245,20 @@ pub record IsAt (put : Data) (size from end : ℕ) : Type 0 where
   pub end_is : put.end ≡ end
   pub place : min put.from put.old_size ≡ min from size
 
--- A value was put into the file with this CNID.
-pub record PutsAt (id from : ℕ) (value : List ℕ) (old new : Volume) (before after : Content) : Type 0 where
+-- the bytes of a file's fork as users see them
+abbrev pub bytes_at : ℕ → PlainNode → List ℕ
+bytes_at kind node = if kind == data_kind then node.bytes else node.resource
+
+-- A value was put into the fork of this kind of the file with this CNID.
+pub record PutsAt (kind id from : ℕ) (value : List ℕ) (old new : Volume) (before after : Content) : Type 0 where
   pub file : FileRecord
   pub number : file.fields.id ≡ id
   pub stands : HasFile (records_of (volume_of before)) file
-  pub puts : PutsValue file from value old new before after
+  pub puts : PutsValue kind file from value old new before after
 
--- the extents of a file's data fork
-abbrev pub extents_in : Content → FileRecord → List Extent
-extents_in content file = extents_of (overflow_in_volume (volume_of content)) file.fields.id data_kind file.data_fork
+-- the extents of a file's fork
+abbrev pub extents_in : ℕ → Content → FileRecord → List Extent
+extents_in kind content file = extents_of (overflow_in_volume (volume_of content)) file.fields.id kind (fork_at kind file)
 
 -- what data needs: so many edits of the extents overflow file, one record updated in place, and blocks of so many runs in the place of others
 abbrev pub needs_of_put : (edits fresh freed runs : ℕ) → Needs

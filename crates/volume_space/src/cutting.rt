@@ -12,15 +12,15 @@ ghost use Rattle.file_io.specs.Places.{AreUsed};
 ghost use Rattle.flag_rows.specs.Bits.{sectors_for};
 ghost use Rattle.fork_map.specs.Blocks.{AreNumbers, blocks_of};
 ghost use Rattle.hfs_volume.specs.Changes.{with_fork};
-ghost use Rattle.hfs_volume.specs.Entries.{AreSpelled};
 ghost use Rattle.hfs_volume.specs.Records.{id_in, is_link_type, is_thread};
 ghost use Rattle.hx_bytes.specs.Fork.{FitsFork};
 ghost use Rattle.hfs_model.specs.Step.{is_private_name};
 ghost use Rattle.overflow.specs.Records.{no_extent};
 ghost use Rattle.volume_header.specs.Header.{FitsHeader};
-ghost use Rattle.volume_base.specs.Frame.{Edits};
-ghost use Rattle.volume_base.specs.Changing.{HasRoomToUpdate, ReplacesRecord, catalog_node};
-ghost use Rattle.volume_space.specs.Cutting.{CutsFile, IsForkOf, IsNextCut, IsSplit, MayGive, PutsGiven, given_back, given_load, kind_of, trim_load};
+ghost use Rattle.volume_base.specs.Frame.{Edits, MayUpdate};
+ghost use Rattle.volume_base.specs.Changing.{ReplacesRecord, catalog_node};
+ghost use Rattle.volume_space.specs.Cutting.{CutsOne, IsForkOf, IsSplit, MayCut, MayGive, PutsGiven, given_back, given_load, trim_load};
+ghost use Rattle.volume_base.specs.Cutting.{kind_of};
 ghost use Rattle.volume_base.specs.Holding.{KeepsUsed};
 ghost use Rattle.volume_base.specs.Cutting.{IsCutOf, IsLastCut, cut_fork_of, fork_at, shorter_fork, with_freed};
 ghost use Rattle.volume_base.specs.Keeping.{shrunk_of};
@@ -30,7 +30,7 @@ ghost use Rattle.volume_base.specs.Standing.{IsSettled, StandsOver, own_sectors}
 ghost use Rattle.volume_base.specs.Touching.{Touches};
 
 use crate::growing::first_eight;
-use crate::storing::{count_spread_sectors, fits_spread, number_of, store_extents};
+use crate::storing::{count_spread_sectors, fits_spread, store_extents};
 use alloc_bitmap::Bitmap;
 use cat_records::{CatRecord, FileRecord};
 use fork_map::ExtentList;
@@ -41,28 +41,11 @@ use hfs_volume::{
 use hx_bytes::{Extent, ForkRecord, OutOfMemory, Trouble};
 use sector_disk::SectorSpace;
 use std::alloc::Global;
-use volume_base::{Cut, Entry, Volume, put_map};
+use volume_base::{Cut, Entry, ForkKind, Volume, fork_of, number_of, put_map};
 use volume_header::VolumeHeader;
 
 /// How many blocks a step cuts at most.
 const MOST_BLOCKS: u128 = 32_768;
-
-/// Which fork of a file (TN1150, "Catalog File Data").
-#[derive(Clone, Copy)]
-pub(crate) enum ForkKind {
-    Data,
-    Resource,
-}
-
-/// A fork of a file.
-pub(crate) fn fork_of(kind: ForkKind, file: &FileRecord) -> ForkRecord
-    ensures { result ≡ fork_at (kind_of kind) file.now }
-{
-    match kind {
-        ForkKind::Data => file.data_fork,
-        ForkKind::Resource => file.resource_fork,
-    }
-}
 
 /// The record of a file that has another fork.
 fn with_fork(kind: ForkKind, file: &FileRecord, fork: ForkRecord) -> CatRecord
@@ -350,14 +333,10 @@ fn put_shorter<P: SectorSpace>(
     kind: ForkKind,
     cut: &Cut,
 ) -> Result<(), Trouble>
-    requires stands { StandsOver volume.old (P.SectorView.space space.old) }
-    requires spelled { IsTrue (P.SectorView.space space.old).tells → AreSpelled (lists_of volume.old (P.SectorView.space space.old).content).catalog_pairs }
-    requires name { length entry.now.name ≤ 255 }
+    requires ready { MayUpdate volume.old entry.now (P.SectorView.space space.old) }
     requires is { entry.now.rec ≡ File file.now }
-    requires there { IsTrue (P.SectorView.space space.old).tells → value_at (lists_of volume.old (P.SectorView.space space.old).content).catalog_pairs entry.now.parent entry.now.name ≡ Some entry.now.rec }
     requires fits { FitsFile file.now }
     requires less { cut.now.goes.count ≤ (fork_at (kind_of kind) file.now).total_blocks }
-    requires room { HasRoomToUpdate volume.old (P.SectorView.space space.old) }
     ensures rest { volume.new ≡ record volume.old { catalog = volume.new.catalog } }
     ensures replaces { IsTrue (P.SectorView.space space.old).tells → OnOk result (ReplacesRecord entry.now (File (with_fork (kind_of kind) (cut_fork_of volume.old.header.block_size (fork_at (kind_of kind) file.now) cut.now) file.now)) volume.old volume.new (P.SectorView.space space.old).content (P.SectorView.space space.new).content) }
     ensures edits { Edits P.SectorView.space P.SectorView.follows (catalog_node volume.old) volume.old volume.new space.old space.new result }
@@ -394,12 +373,12 @@ pub(crate) fn cut_fork<P: SectorSpace>(
     requires gives { MayGive cut.now.goes volume.old }
     requires no_link { is_link_type file.now.fields ≡ false }
     requires user { (entry.now.parent ≡ 2) × (is_private_name entry.now.name ≡ true) → ⊥ }
-    requires next { IsTrue (P.SectorView.space space.old).tells → IsNextCut (shrunk_of volume.old) (P.SectorView.space space.old).content (id_in entry.now.rec) (kind_of kind) _keep }
+    requires may { IsTrue (P.SectorView.space space.old).tells → MayCut (P.SectorView.space space.old).content (id_in entry.now.rec) (kind_of kind) _keep }
     requires unchanged { volume.old.map.changed ≡ none (sectors_for (length volume.old.map.used)) }
     requires room { trim_load volume.old ≤ (P.SectorView.space space.old).spare }
     ensures stands { OnOk result (StandsOver volume.new (P.SectorView.space space.new)) }
     ensures cuts { IsTrue (P.SectorView.space space.old).tells
-        → OnOk result (IsSettled volume.new (P.SectorView.space space.new).content × CutsFile (shrunk_of volume.old) (P.SectorView.space space.old).content (P.SectorView.space space.new).content) }
+        → OnOk result (IsSettled volume.new (P.SectorView.space space.new).content × CutsOne (id_in entry.now.rec) (kind_of kind) _keep (P.SectorView.space space.old).content (P.SectorView.space space.new).content) }
     ensures used { KeepsUsed volume.old volume.new }
     ensures service { IsInService volume.new (P.SectorView.space space.new) }
     ensures touches { (committed : Content) → Touches committed (λ s. Contains (own_sectors volume.old) s) (P.SectorView.space space.old) (P.SectorView.space space.new) }

@@ -49,7 +49,7 @@ fn extent_or_none(extents: &[Extent], at: usize) -> Extent
 }
 
 /// The first eight extents of a list, with unused ones where it has fewer.
-pub(crate) fn first_eight(extents: &[Extent]) -> ExtentRecord
+pub fn first_eight(extents: &[Extent]) -> ExtentRecord
     ensures same { result ≡ eight_at extents.now 0 }
     ensures fits { FitsExtents result }
 {

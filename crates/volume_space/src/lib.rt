@@ -29,11 +29,12 @@ mod zeroing;
 
 pub use ahead::{Growth, WhichTree, grow_tree};
 pub use awaiting::{TreeWanted, next_growth};
-pub use cutting_ahead::{CutAhead, cut_ahead};
+pub use cutting_ahead::{CutAhead, cut_fork_ahead};
 pub use growable::{can_grow_attributes, can_grow_catalog, can_grow_extents};
-pub use growing::grow_catalog;
+pub use growing::{first_eight, grow_catalog};
 pub use growing_attributes::grow_attributes;
 pub use growing_extents::grow_extents;
+pub use putting::put_data;
 pub use resizing::shorten;
 pub use tidying::{Tidying, tidy};
 pub use valuing::spill_value;

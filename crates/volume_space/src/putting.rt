@@ -15,31 +15,32 @@ ghost use Rattle.flag_rows.specs.Bits.{count_set, sectors_for};
 ghost use Rattle.flag_rows.specs.Runs.{fewest_of};
 ghost use Rattle.hfs_model.specs.declared.plain.PlainNode.{PlainNode};
 ghost use Rattle.hfs_volume.specs.TreeOf.{tree_of};
-ghost use Rattle.hfs_volume.specs.Weight.{Data, free_runs, needs_cut};
+ghost use Rattle.hfs_volume.specs.Weight.{Data, free_runs, needs_cut_in};
 ghost use Rattle.hfs_volume.specs.Aside.{IsJournalSector};
 ghost use Rattle.volume_cost.specs.Sizes.{AreSmall};
 ghost use Rattle.volume_base.specs.Changing.{catalog_node};
 ghost use Rattle.volume_base.specs.Frame.{Looked, Serves};
 ghost use Rattle.volume_base.specs.Lists.{lists_of};
-ghost use Rattle.hfs_volume.specs.Content.{overflow_in_volume, records_of, volume_of};
+ghost use Rattle.hfs_volume.specs.Content.{records_of, volume_of};
 ghost use Rattle.hfs_volume.specs.Cost.{overflow_records};
-ghost use Rattle.hfs_volume.specs.Forks.{data_kind, extents_of};
+ghost use Rattle.volume_base.specs.Cutting.{fork_at};
+ghost use Rattle.volume_base.specs.Cutting.{kind_of};
 ghost use Rattle.hfs_volume.specs.Records.{is_thread};
 ghost use Rattle.volume_base.specs.Reading.{HasFile};
 ghost use Rattle.volume_base.specs.Service.{IsInService};
-ghost use Rattle.volume_space.specs.Recording.{records_held};
+ghost use Rattle.volume_space.specs.Recording.{records_in};
 ghost use Rattle.volume_base.specs.Holding.{IsLaidOutAs};
 ghost use Rattle.volume_space.specs.Spreading.{edits_load, is_met_extents};
 ghost use Rattle.volume_base.specs.Holding.{HoldsOn};
 ghost use Rattle.volume_base.specs.Standing.{IsSettled, StandsOver, own_sectors};
 ghost use Rattle.volume_base.specs.Touching.{Touches};
-ghost use Rattle.volume_space.specs.Writing.{AreHad, IsAt, IsSureToPut, IsToldFile, PlacesData, PutsAt, PutsValue, are_apart, blocks_put, can_put, cost_to_put, data_load, ends_before, extents_in, fork_with, has_more, is_apart_from, is_data_met, is_put_met, is_put_now, may_overflow, most_extents, needs_of_put, put_load, record_with, records_load, spread_put_load};
+ghost use Rattle.volume_space.specs.Writing.{AreHad, IsAt, IsSureToPut, IsToldFile, PlacesData, PutsAt, PutsValue, are_apart, blocks_put, bytes_at, can_put, cost_to_put, data_load, ends_before, extents_in, fork_with, has_more, is_apart_from, is_data_met_in, is_put_met, is_put_now_in, may_overflow, most_extents, needs_of_put, put_load, record_with, records_load_in, spread_put_load};
 ghost use Rattle.volume_space.specs.Zeroing.{HasFilled};
 
 use crate::growing::first_eight;
 use crate::resizing::with_change;
 use crate::spilling::spill;
-use crate::storing::{count_edits, count_records, is_met, store_later};
+use crate::storing::{count_edits, count_records, fork_extents, is_met, store_later};
 use crate::zeroing::{blocks_for, done_within};
 use alloc_bitmap::Bitmap;
 use cat_records::{CatRecord, FileRecord};
@@ -50,7 +51,8 @@ use sector_disk::SectorSpace;
 use std::alloc::Global;
 use tree_weights::{a_load_says_enough, trees_grow_by_enough};
 use volume_base::{
-    DATA, Entry, FreeBlocks, Volume, all_inside, is_measured, load_extents, put_map, size_held,
+    Entry, ForkKind, FreeBlocks, Volume, all_inside, fork_of, is_measured, number_of, put_map,
+    size_held,
 };
 use volume_cost::cost;
 
@@ -255,26 +257,37 @@ fn are_apart(extents: &[Extent]) -> bool
     true
 }
 
-/// The record of a file that has this size in so many blocks of these extents, since this moment.
+/// The record of a file whose fork has this size in so many blocks of these extents, since this moment.
 fn with_data(
+    kind: ForkKind,
     moment: u32,
     size: u64,
     total: u32,
     extents: &[Extent],
     file: &FileRecord,
 ) -> FileRecord
-    ensures same { result ≡ record_with moment (fork_with size total extents.now file.now.data_fork) file.now }
+    ensures same { result ≡ record_with (kind_of kind) moment (fork_with size total extents.now (fork_at (kind_of kind) file.now)) file.now }
     ensures fits { FitsFile file.now → FitsFile result }
 {
-    FileRecord {
-        fields: with_change(moment, &file.fields),
-        data_fork: ForkRecord {
-            logical_size: size,
-            clump_size: file.data_fork.clump_size,
-            total_blocks: total,
-            extents: first_eight(extents),
+    let old = fork_of(kind, file);
+    let fork = ForkRecord {
+        logical_size: size,
+        clump_size: old.clump_size,
+        total_blocks: total,
+        extents: first_eight(extents),
+    };
+    let fields = with_change(moment, &file.fields);
+    match kind {
+        ForkKind::Data => FileRecord {
+            fields,
+            data_fork: fork,
+            resource_fork: file.resource_fork,
         },
-        resource_fork: file.resource_fork,
+        ForkKind::Resource => FileRecord {
+            fields,
+            data_fork: file.data_fork,
+            resource_fork: fork,
+        },
     }
 }
 
@@ -492,6 +505,7 @@ fn place_data<P: SectorSpace>(
     space: &mut P,
     entry: &Entry,
     file: &FileRecord,
+    kind: ForkKind,
     list: &ExtentList,
     from: u64,
     value: &[u8],
@@ -504,26 +518,26 @@ fn place_data<P: SectorSpace>(
 ) -> Result<(), Trouble>
     requires stands { StandsOver volume.old (P.SectorView.space space.old) }
     requires settled { IsTrue (P.SectorView.space space.old).tells → IsSettled volume.old (P.SectorView.space space.old).content }
-    requires few_zeros { zeroed ≤ zero_blocks volume.old.header.block_size file.now.data_fork.logical_size (from / volume.old.header.block_size) }
+    requires few_zeros { zeroed ≤ zero_blocks volume.old.header.block_size (fork_at (kind_of kind) file.now).logical_size (from / volume.old.header.block_size) }
     requires zeros { IsTrue (P.SectorView.space space.old).tells →
-        HoldZeros (P.SectorView.space space.old).content (sectors_in volume.old.header.block_size (fresh_of volume.old.map (blocks_put volume.old file.now.data_fork.logical_size from (length value.now)))) (zeros_at volume.old.header.block_size file.now.data_fork.logical_size from (from + length value.now) * (volume.old.header.block_size / 512)) (zeroed * (volume.old.header.block_size / 512)) }
+        HoldZeros (P.SectorView.space space.old).content (sectors_in volume.old.header.block_size (fresh_of volume.old.map (blocks_put volume.old (fork_at (kind_of kind) file.now).logical_size from (length value.now)))) (zeros_at volume.old.header.block_size (fork_at (kind_of kind) file.now).logical_size from (from + length value.now) * (volume.old.header.block_size / 512)) (zeroed * (volume.old.header.block_size / 512)) }
     requires closed { IsTrue (P.SectorView.space space.old).tells → (at : ℕ) → (P.SectorView.space space.old).closed at → IsJournalSector (P.SectorView.space space.old).content at }
-    requires sure { IsSureToPut list.now file.now.data_fork.logical_size volume.old (P.SectorView.space space.old) }
+    requires sure { IsSureToPut list.now (fork_at (kind_of kind) file.now).logical_size volume.old (P.SectorView.space space.old) }
     requires some { 0 < length value.now }
     requires small { from + length value.now ≤ 2 ^ 40 }
-    requires free { blocks_put volume.old file.now.data_fork.logical_size from (length value.now) ≤ count_set (free_of volume.old.map) }
+    requires free { blocks_put volume.old (fork_at (kind_of kind) file.now).logical_size from (length value.now) ≤ count_set (free_of volume.old.map) }
     requires name { length entry.now.name ≤ 255 }
     requires there { IsTrue (P.SectorView.space space.old).tells → value_at (lists_of volume.old (P.SectorView.space space.old).content).catalog_pairs entry.now.parent entry.now.name ≡ Some entry.now.rec }
     requires kind { entry.now.rec ≡ File file.now }
     requires fits { FitsFile file.now }
-    requires told { IsTrue (P.SectorView.space space.old).tells → IsToldFile file.now list.now (P.SectorView.space space.old).content }
+    requires told { IsTrue (P.SectorView.space space.old).tells → IsToldFile (kind_of kind) file.now list.now (P.SectorView.space space.old).content }
     requires short { spread ≡ false → length list.now < 8 }
-    requires counted { IsTrue (P.SectorView.space space.old).tells → records ≡ records_held (lists_of volume.old (P.SectorView.space space.old).content) file.now.fields.id }
+    requires counted { IsTrue (P.SectorView.space space.old).tells → records ≡ records_in (kind_of kind) (lists_of volume.old (P.SectorView.space space.old).content) file.now.fields.id }
     ensures growth { OnOk result (volume.new.filling ≡ volume.old.filling) }
     ensures stands { OnOk result (StandsOver volume.new (P.SectorView.space space.new)) }
     ensures service { IsInService volume.new (P.SectorView.space space.new) }
-    ensures places { IsTrue (P.SectorView.space space.old).tells → OnOk result (PlacesData entry.now file.now list.now from value.now total free volume.old volume.new (P.SectorView.space space.old).content (P.SectorView.space space.new).content) }
-    ensures map { OnOk result (volume.new.map ≡ given (middle (first_block volume.old.header.block_size file.now.data_fork.logical_size from) (old_end volume.old.header.block_size file.now.data_fork.logical_size (from + length value.now)) list.now) (taken (blocks_put volume.old file.now.data_fork.logical_size from (length value.now)) volume.old.map)) }
+    ensures places { IsTrue (P.SectorView.space space.old).tells → OnOk result (PlacesData (kind_of kind) entry.now file.now list.now from value.now total free volume.old volume.new (P.SectorView.space space.old).content (P.SectorView.space space.new).content) }
+    ensures map { OnOk result (volume.new.map ≡ given (middle (first_block volume.old.header.block_size (fork_at (kind_of kind) file.now).logical_size from) (old_end volume.old.header.block_size (fork_at (kind_of kind) file.now).logical_size (from + length value.now)) list.now) (taken (blocks_put volume.old (fork_at (kind_of kind) file.now).logical_size from (length value.now)) volume.old.map)) }
     ensures own { own_sectors volume.new ≡ own_sectors volume.old }
     ensures same { (volume.new.private ≡ volume.old.private) × (volume.new.shrunk ≡ volume.old.shrunk) × (volume.new.capacity ≡ volume.old.capacity) }
     ensures commit { (committed : Content) → HoldsOn committed volume.old → IsLaidOutAs committed volume.old → Touches committed (λ s. Contains (own_sectors volume.old) s) (P.SectorView.space space.old) (P.SectorView.space space.new) }
@@ -533,7 +547,8 @@ fn place_data<P: SectorSpace>(
     ensures cause { HasTroubleCause (P.SectorView.space space.old).faults (P.SectorView.space space.new).faults result }
 {
     let moment = volume.header.modify_date;
-    let size = file.data_fork.logical_size;
+    let fork = fork_of(kind, file);
+    let size = fork.logical_size;
     let long = size.max(from + value.len() as u64);
     let later = spill(volume, alloc, space, list, size, from, value, zeroed)?;
     store_later(
@@ -541,6 +556,7 @@ fn place_data<P: SectorSpace>(
         alloc,
         space,
         file.fields.id,
+        number_of(kind),
         list,
         &later,
         spread,
@@ -550,7 +566,7 @@ fn place_data<P: SectorSpace>(
     if !volume.fits_update(space) {
         return Err(Trouble::Memory);
     }
-    let rec = with_data(moment, long, total, later.as_slice(), file);
+    let rec = with_data(kind, moment, long, total, later.as_slice(), file);
     volume.replace(alloc, space, entry, &CatRecord::File(rec))?;
     volume.header.free_blocks = free;
     Ok(())
@@ -563,6 +579,7 @@ fn put_zeroed<P: SectorSpace>(
     space: &mut P,
     entry: &Entry,
     file: &FileRecord,
+    kind: ForkKind,
     list: &ExtentList,
     from: u64,
     value: &[u8],
@@ -572,44 +589,45 @@ fn put_zeroed<P: SectorSpace>(
 ) -> Result<(), Trouble>
     requires stands { StandsOver volume.old (P.SectorView.space space.old) }
     requires settled { IsTrue (P.SectorView.space space.old).tells → IsSettled volume.old (P.SectorView.space space.old).content }
-    requires few_zeros { zeroed ≤ zero_blocks volume.old.header.block_size file.now.data_fork.logical_size (from / volume.old.header.block_size) }
+    requires few_zeros { zeroed ≤ zero_blocks volume.old.header.block_size (fork_at (kind_of kind) file.now).logical_size (from / volume.old.header.block_size) }
     requires zeros { IsTrue (P.SectorView.space space.old).tells →
-        HoldZeros (P.SectorView.space space.old).content (sectors_in volume.old.header.block_size (fresh_of volume.old.map (blocks_put volume.old file.now.data_fork.logical_size from (length value.now)))) (zeros_at volume.old.header.block_size file.now.data_fork.logical_size from (from + length value.now) * (volume.old.header.block_size / 512)) (zeroed * (volume.old.header.block_size / 512)) }
+        HoldZeros (P.SectorView.space space.old).content (sectors_in volume.old.header.block_size (fresh_of volume.old.map (blocks_put volume.old (fork_at (kind_of kind) file.now).logical_size from (length value.now)))) (zeros_at volume.old.header.block_size (fork_at (kind_of kind) file.now).logical_size from (from + length value.now) * (volume.old.header.block_size / 512)) (zeroed * (volume.old.header.block_size / 512)) }
     requires closed { IsTrue (P.SectorView.space space.old).tells → (at : ℕ) → (P.SectorView.space space.old).closed at → IsJournalSector (P.SectorView.space space.old).content at }
     requires unchanged { volume.old.map.changed ≡ none (sectors_for (length volume.old.map.used)) }
     requires some { 0 < length value.now }
     requires small { from + length value.now ≤ 2 ^ 40 }
     requires countable { length list.now < 2 ^ 60 }
-    requires free { blocks_put volume.old file.now.data_fork.logical_size from (length value.now) ≤ count_set (free_of volume.old.map) }
+    requires free { blocks_put volume.old (fork_at (kind_of kind) file.now).logical_size from (length value.now) ≤ count_set (free_of volume.old.map) }
     requires short { spread ≡ false → length list.now < 8 }
     requires name { length entry.now.name ≤ 255 }
     requires there { IsTrue (P.SectorView.space space.old).tells → value_at (lists_of volume.old (P.SectorView.space space.old).content).catalog_pairs entry.now.parent entry.now.name ≡ Some entry.now.rec }
     requires kind { entry.now.rec ≡ File file.now }
     requires fits { FitsFile file.now }
-    requires told { IsTrue (P.SectorView.space space.old).tells → IsToldFile file.now list.now (P.SectorView.space space.old).content }
-    requires room { put_load volume.old file.now.data_fork.logical_size from (length value.now) ≤ (P.SectorView.space space.old).spare }
-    requires counted { IsTrue (P.SectorView.space space.old).tells → records ≡ records_held (lists_of volume.old (P.SectorView.space space.old).content) file.now.fields.id }
+    requires told { IsTrue (P.SectorView.space space.old).tells → IsToldFile (kind_of kind) file.now list.now (P.SectorView.space space.old).content }
+    requires room { put_load volume.old (fork_at (kind_of kind) file.now).logical_size from (length value.now) ≤ (P.SectorView.space space.old).spare }
+    requires counted { IsTrue (P.SectorView.space space.old).tells → records ≡ records_in (kind_of kind) (lists_of volume.old (P.SectorView.space space.old).content) file.now.fields.id }
     ensures growth { OnOk result (volume.new.filling ≡ volume.old.filling) }
     ensures stands { OnOk result (StandsOver volume.new (P.SectorView.space space.new)) }
     ensures service { IsInService volume.new (P.SectorView.space space.new) }
-    ensures puts { IsTrue (P.SectorView.space space.old).tells → OnOk result (PutsValue file.now from value.now volume.old volume.new (P.SectorView.space space.old).content (P.SectorView.space space.new).content) }
+    ensures puts { IsTrue (P.SectorView.space space.old).tells → OnOk result (PutsValue (kind_of kind) file.now from value.now volume.old volume.new (P.SectorView.space space.old).content (P.SectorView.space space.new).content) }
     ensures same { (volume.new.private ≡ volume.old.private) × (volume.new.shrunk ≡ volume.old.shrunk) × (volume.new.capacity ≡ volume.old.capacity) }
     ensures commit { (committed : Content) → HoldsOn committed volume.old → IsLaidOutAs committed volume.old → Touches committed (λ s. Contains (own_sectors volume.old) s) (P.SectorView.space space.old) (P.SectorView.space space.new) }
     ensures holds { (committed : Content) → HoldsOn committed volume.old → OnOk result (HoldsOn committed volume.new) }
-    ensures spent { IsTrue (P.SectorView.space space.old).tells → (P.SectorView.space space.old).spare ≤ (P.SectorView.space space.new).spare + put_load volume.old file.now.data_fork.logical_size from (length value.now) + spread_put_load volume.old records (length list.now) file.now.data_fork.logical_size from (length value.now) }
+    ensures spent { IsTrue (P.SectorView.space space.old).tells → (P.SectorView.space space.old).spare ≤ (P.SectorView.space space.new).spare + put_load volume.old (fork_at (kind_of kind) file.now).logical_size from (length value.now) + spread_put_load volume.old records (length list.now) (fork_at (kind_of kind) file.now).logical_size from (length value.now) }
     ensures space { SameSpace (P.SectorView.space space.old) (P.SectorView.space space.new) }
     ensures below { P.SectorView.follows space.old space.new }
     ensures cause { HasTroubleCause (P.SectorView.space space.old).faults (P.SectorView.space space.new).faults result }
 {
     other_files_keep_their_bytes();
-    let size = file.data_fork.logical_size;
+    let fork = fork_of(kind, file);
+    let size = fork.logical_size;
     let end = from + value.len() as u64;
     if !is_sure(volume, space, list, size) {
         return Err(Trouble::Memory);
     }
     let counts = count_blocks(volume.header.block_size, Place { size, from, end });
     let head = volume.header.free_blocks;
-    let Some(sums) = count_sums(head, file.data_fork.total_blocks, counts) else {
+    let Some(sums) = count_sums(head, fork.total_blocks, counts) else {
         return Err(Trouble::Memory);
     };
     if !are_small(counts) {
@@ -619,7 +637,7 @@ fn put_zeroed<P: SectorSpace>(
     let runs = volume.map.fewest(counts.fresh as u32);
     let most = most_extents(list.len(), runs);
     place_data(
-        volume, alloc, space, entry, file, list, from, value, zeroed, sums.total, sums.free,
+        volume, alloc, space, entry, file, kind, list, from, value, zeroed, sums.total, sums.free,
         spread, records, most,
     )?;
     if !has_room(bits, space.spare()) {
@@ -638,6 +656,7 @@ fn put_over<P: SectorSpace>(
     space: &mut P,
     entry: &Entry,
     file: &FileRecord,
+    kind: ForkKind,
     list: &ExtentList,
     from: u64,
     value: &[u8],
@@ -652,88 +671,65 @@ fn put_over<P: SectorSpace>(
     requires some { 0 < length value.now }
     requires small { from + length value.now ≤ 2 ^ 40 }
     requires countable { length list.now < 2 ^ 60 }
-    requires free { blocks_put volume.old file.now.data_fork.logical_size from (length value.now) ≤ count_set (free_of volume.old.map) }
+    requires free { blocks_put volume.old (fork_at (kind_of kind) file.now).logical_size from (length value.now) ≤ count_set (free_of volume.old.map) }
     requires short { spread ≡ false → length list.now < 8 }
     requires name { length entry.now.name ≤ 255 }
     requires there { IsTrue (P.SectorView.space space.old).tells → value_at (lists_of volume.old (P.SectorView.space space.old).content).catalog_pairs entry.now.parent entry.now.name ≡ Some entry.now.rec }
     requires kind { entry.now.rec ≡ File file.now }
     requires fits { FitsFile file.now }
-    requires told { IsTrue (P.SectorView.space space.old).tells → IsToldFile file.now list.now (P.SectorView.space space.old).content }
-    requires room { put_load volume.old file.now.data_fork.logical_size from (length value.now) ≤ (P.SectorView.space space.old).spare }
-    requires counted { IsTrue (P.SectorView.space space.old).tells → records ≡ records_held (lists_of volume.old (P.SectorView.space space.old).content) file.now.fields.id }
+    requires told { IsTrue (P.SectorView.space space.old).tells → IsToldFile (kind_of kind) file.now list.now (P.SectorView.space space.old).content }
+    requires room { put_load volume.old (fork_at (kind_of kind) file.now).logical_size from (length value.now) ≤ (P.SectorView.space space.old).spare }
+    requires counted { IsTrue (P.SectorView.space space.old).tells → records ≡ records_in (kind_of kind) (lists_of volume.old (P.SectorView.space space.old).content) file.now.fields.id }
     ensures dropped { OnOk result (volume.new.filling ≡ None) }
     ensures stands { OnOk result (StandsOver volume.new (P.SectorView.space space.new)) }
     ensures service { IsInService volume.new (P.SectorView.space space.new) }
-    ensures puts { IsTrue (P.SectorView.space space.old).tells → OnOk result (PutsValue file.now from value.now volume.old volume.new (P.SectorView.space space.old).content (P.SectorView.space space.new).content) }
+    ensures puts { IsTrue (P.SectorView.space space.old).tells → OnOk result (PutsValue (kind_of kind) file.now from value.now volume.old volume.new (P.SectorView.space space.old).content (P.SectorView.space space.new).content) }
     ensures same { (volume.new.private ≡ volume.old.private) × (volume.new.shrunk ≡ volume.old.shrunk) × (volume.new.capacity ≡ volume.old.capacity) }
     ensures commit { (committed : Content) → HoldsOn committed volume.old → IsLaidOutAs committed volume.old → Touches committed (λ s. Contains (own_sectors volume.old) s) (P.SectorView.space space.old) (P.SectorView.space space.new) }
     ensures holds { (committed : Content) → HoldsOn committed volume.old → OnOk result (HoldsOn committed volume.new) }
-    ensures spent { IsTrue (P.SectorView.space space.old).tells → (P.SectorView.space space.old).spare ≤ (P.SectorView.space space.new).spare + put_load volume.old file.now.data_fork.logical_size from (length value.now) + spread_put_load volume.old records (length list.now) file.now.data_fork.logical_size from (length value.now) }
+    ensures spent { IsTrue (P.SectorView.space space.old).tells → (P.SectorView.space space.old).spare ≤ (P.SectorView.space space.new).spare + put_load volume.old (fork_at (kind_of kind) file.now).logical_size from (length value.now) + spread_put_load volume.old records (length list.now) (fork_at (kind_of kind) file.now).logical_size from (length value.now) }
     ensures space { SameSpace (P.SectorView.space space.old) (P.SectorView.space space.new) }
     ensures below { P.SectorView.follows space.old space.new }
     ensures cause { HasTroubleCause (P.SectorView.space space.old).faults (P.SectorView.space space.new).faults result }
 {
     let block = volume.header.block_size;
-    let size = file.data_fork.logical_size;
+    let fork = fork_of(kind, file);
+    let size = fork.logical_size;
     let end = from + value.len() as u64;
     let gap = (from / u64::from(block)).saturating_sub(blocks_for(block, size));
     let zeroed = done_within(volume, file.fields.id, size, size.max(end), gap);
     volume.filling = None;
     put_zeroed(
-        volume, alloc, space, entry, file, list, from, value, zeroed, spread, records,
+        volume, alloc, space, entry, file, kind, list, from, value, zeroed, spread, records,
     )
 }
 
-/// The extents of a file's data fork.
-fn data_extents<P: SectorSpace>(
-    volume: &mut Volume,
-    alloc: Global,
-    space: &mut P,
-    file: &FileRecord,
-) -> Result<ExtentList, Trouble>
-    requires serves { Serves volume.old (P.SectorView.space space.old) }
-    requires there { IsTrue (P.SectorView.space space.old).tells → HasFile (records_of (volume_of (P.SectorView.space space.old).content)) file.now }
-    ensures found { IsTrue (P.SectorView.space space.old).tells → IfOk result (λ list. list ≡ extents_of (overflow_in_volume (volume_of (P.SectorView.space space.old).content)) file.now.fields.id data_kind file.now.data_fork) }
-    ensures looked { Looked P.SectorView.space P.SectorView.follows volume.old volume.new space.old space.new result }
-    ensures rest { volume.new ≡ record volume.old { extents = volume.new.extents } }
-    ensures serves { Serves volume.new (P.SectorView.space space.new) }
-{
-    load_extents(
-        alloc,
-        &mut volume.extents.file,
-        &mut volume.extents.desk,
-        space,
-        file.fields.id,
-        DATA,
-        &file.data_fork,
-    )
-}
-
-/// The extents of a file's data fork, and how many overflow records it has.
+/// The extents of a file's fork, and how many overflow records it has.
 #[derive(Drop)]
-struct DataFork {
+struct FoundFork {
     list: ExtentList,
     records: u64,
 }
 
-/// The data fork of a file.
-fn data_fork<P: SectorSpace>(
+/// A fork of a file.
+fn find_fork<P: SectorSpace>(
     volume: &mut Volume,
     alloc: Global,
     space: &mut P,
     file: &FileRecord,
-) -> Result<DataFork, Trouble>
+    kind: ForkKind,
+) -> Result<FoundFork, Trouble>
     requires serves { Serves volume.old (P.SectorView.space space.old) }
     requires fits { FitsFile file.now }
-    requires told { IsTrue (P.SectorView.space space.old).tells → IsToldFile file.now (extents_in (P.SectorView.space space.old).content file.now) (P.SectorView.space space.old).content }
-    ensures found { IsTrue (P.SectorView.space space.old).tells → IfOk result (λ fork. fork.list ≡ extents_in (P.SectorView.space space.old).content file.now) }
-    ensures counted { IsTrue (P.SectorView.space space.old).tells → IfOk result (λ fork. fork.records ≡ records_held (volume_of (P.SectorView.space space.old).content) file.now.fields.id) }
+    requires told { IsTrue (P.SectorView.space space.old).tells → IsToldFile (kind_of kind) file.now (extents_in (kind_of kind) (P.SectorView.space space.old).content file.now) (P.SectorView.space space.old).content }
+    ensures found { IsTrue (P.SectorView.space space.old).tells → IfOk result (λ fork. fork.list ≡ extents_in (kind_of kind) (P.SectorView.space space.old).content file.now) }
+    ensures counted { IsTrue (P.SectorView.space space.old).tells → IfOk result (λ fork. fork.records ≡ records_in (kind_of kind) (volume_of (P.SectorView.space space.old).content) file.now.fields.id) }
     ensures looked { Looked P.SectorView.space P.SectorView.follows volume.old volume.new space.old space.new result }
     ensures serves { Serves volume.new (P.SectorView.space space.new) }
 {
-    let list = data_extents(volume, alloc, space, file)?;
+    let list = fork_extents(volume, alloc, space, file, kind)?;
     let records = count_records(list.len());
-    Ok(DataFork { list, records })
+    Ok(FoundFork { list, records })
 }
 
 /// Puts a value into a file where that can be done now, and says whether it did.
@@ -743,6 +739,7 @@ fn put_in_file<P: SectorSpace>(
     space: &mut P,
     entry: &Entry,
     file: &FileRecord,
+    kind: ForkKind,
     from: u64,
     value: &[u8],
 ) -> Result<bool, Trouble>
@@ -757,27 +754,26 @@ fn put_in_file<P: SectorSpace>(
     requires there { IsTrue (P.SectorView.space space.old).tells → value_at (lists_of volume.old (P.SectorView.space space.old).content).catalog_pairs entry.now.parent entry.now.name ≡ Some entry.now.rec }
     requires kind { entry.now.rec ≡ File file.now }
     requires fits { FitsFile file.now }
-    requires told { IsTrue (P.SectorView.space space.old).tells → IsToldFile file.now (extents_in (P.SectorView.space space.old).content file.now) (P.SectorView.space space.old).content }
+    requires told { IsTrue (P.SectorView.space space.old).tells → IsToldFile (kind_of kind) file.now (extents_in (kind_of kind) (P.SectorView.space space.old).content file.now) (P.SectorView.space space.old).content }
     ensures filled { OnOk result (HasFilled volume.new (P.SectorView.space space.new)) }
     ensures stands { OnOk result (StandsOver volume.new (P.SectorView.space space.new)) }
     ensures service { IsInService volume.new (P.SectorView.space space.new) }
-    ensures exactly { IsTrue (P.SectorView.space space.old).tells → IfOk result (λ put. put ≡ false → can_put volume.old (P.SectorView.space space.old).spare (length (extents_in (P.SectorView.space space.old).content file.now)) file.now.data_fork.total_blocks file.now.data_fork.logical_size from (length value.now) ≡ false) }
-    ensures met { IsTrue (P.SectorView.space space.old).tells → IfOk result (λ put. put ≡ false → is_put_met volume.old (volume_of (P.SectorView.space space.old).content) (P.SectorView.space space.old).spare (records_held (volume_of (P.SectorView.space space.old).content) file.now.fields.id) (length (extents_in (P.SectorView.space space.old).content file.now)) file.now.data_fork.total_blocks file.now.data_fork.logical_size from (length value.now) ≡ false) }
-    ensures no_cut { IsTrue (P.SectorView.space space.old).tells → IfOk result (λ put. IsTrue put → has_more file.now.data_fork.logical_size (from + length value.now) (blocks_for volume.old.header.block_size file.now.data_fork.logical_size) file.now.data_fork.total_blocks ≡ false) }
-    ensures puts { IsTrue (P.SectorView.space space.old).tells → IfOk result (λ put. IsTrue put → PutsValue file.now from value.now volume.old volume.new (P.SectorView.space space.old).content (P.SectorView.space space.new).content) }
+    ensures exactly { IsTrue (P.SectorView.space space.old).tells → IfOk result (λ put. put ≡ false → can_put volume.old (P.SectorView.space space.old).spare (length (extents_in (kind_of kind) (P.SectorView.space space.old).content file.now)) (fork_at (kind_of kind) file.now).total_blocks (fork_at (kind_of kind) file.now).logical_size from (length value.now) ≡ false) }
+    ensures met { IsTrue (P.SectorView.space space.old).tells → IfOk result (λ put. put ≡ false → is_put_met volume.old (volume_of (P.SectorView.space space.old).content) (P.SectorView.space space.old).spare (records_in (kind_of kind) (volume_of (P.SectorView.space space.old).content) file.now.fields.id) (length (extents_in (kind_of kind) (P.SectorView.space space.old).content file.now)) (fork_at (kind_of kind) file.now).total_blocks (fork_at (kind_of kind) file.now).logical_size from (length value.now) ≡ false) }
+    ensures no_cut { IsTrue (P.SectorView.space space.old).tells → IfOk result (λ put. IsTrue put → has_more (fork_at (kind_of kind) file.now).logical_size (from + length value.now) (blocks_for volume.old.header.block_size (fork_at (kind_of kind) file.now).logical_size) (fork_at (kind_of kind) file.now).total_blocks ≡ false) }
+    ensures puts { IsTrue (P.SectorView.space space.old).tells → IfOk result (λ put. IsTrue put → PutsValue (kind_of kind) file.now from value.now volume.old volume.new (P.SectorView.space space.old).content (P.SectorView.space space.new).content) }
     ensures waits { IsTrue (P.SectorView.space space.old).tells → IfOk result (λ put. put ≡ false → IsSettled volume.new (P.SectorView.space space.new).content × ((P.SectorView.space space.new).content ≡ (P.SectorView.space space.old).content)) }
     ensures same { (volume.new.private ≡ volume.old.private) × (volume.new.shrunk ≡ volume.old.shrunk) × (volume.new.capacity ≡ volume.old.capacity) }
     ensures commit { (committed : Content) → HoldsOn committed volume.old → IsLaidOutAs committed volume.old → Touches committed (λ s. Contains (own_sectors volume.old) s) (P.SectorView.space space.old) (P.SectorView.space space.new) }
     ensures holds { (committed : Content) → HoldsOn committed volume.old → OnOk result (HoldsOn committed volume.new) }
-    ensures spent { IsTrue (P.SectorView.space space.old).tells → ((P.SectorView.space space.old).spare ≤ (P.SectorView.space space.new).spare) ⊎ ((has_more file.now.data_fork.logical_size (from + length value.now) (blocks_for volume.old.header.block_size file.now.data_fork.logical_size) file.now.data_fork.total_blocks ≡ false) × ((P.SectorView.space space.old).spare ≤ (P.SectorView.space space.new).spare + put_load volume.old file.now.data_fork.logical_size from (length value.now) + spread_put_load volume.old (records_held (volume_of (P.SectorView.space space.old).content) file.now.fields.id) (length (extents_in (P.SectorView.space space.old).content file.now)) file.now.data_fork.logical_size from (length value.now))) }
+    ensures spent { IsTrue (P.SectorView.space space.old).tells → ((P.SectorView.space space.old).spare ≤ (P.SectorView.space space.new).spare) ⊎ ((has_more (fork_at (kind_of kind) file.now).logical_size (from + length value.now) (blocks_for volume.old.header.block_size (fork_at (kind_of kind) file.now).logical_size) (fork_at (kind_of kind) file.now).total_blocks ≡ false) × ((P.SectorView.space space.old).spare ≤ (P.SectorView.space space.new).spare + put_load volume.old (fork_at (kind_of kind) file.now).logical_size from (length value.now) + spread_put_load volume.old (records_in (kind_of kind) (volume_of (P.SectorView.space space.old).content) file.now.fields.id) (length (extents_in (kind_of kind) (P.SectorView.space space.old).content file.now)) (fork_at (kind_of kind) file.now).logical_size from (length value.now))) }
     ensures space { SameSpace (P.SectorView.space space.old) (P.SectorView.space space.new) }
     ensures below { P.SectorView.follows space.old space.new }
     ensures cause { HasTroubleCause (P.SectorView.space space.old).faults (P.SectorView.space space.new).faults result }
 {
-    let size = file.data_fork.logical_size;
-    let total = file.data_fork.total_blocks;
-    let fork = data_fork(volume, alloc, space, file)?;
-    let extents = fork.list.len();
+    let fork = fork_of(kind, file);
+    let found = find_fork(volume, alloc, space, file, kind)?;
+    let extents = found.list.len();
     if !are_countable(extents) {
         return Err(Trouble::Memory);
     }
@@ -785,9 +781,9 @@ fn put_in_file<P: SectorSpace>(
         volume,
         space,
         extents,
-        fork.records,
-        total,
-        size,
+        found.records,
+        fork.total_blocks,
+        fork.logical_size,
         from,
         value.len(),
     );
@@ -798,11 +794,12 @@ fn put_in_file<P: SectorSpace>(
             space,
             entry,
             file,
-            &fork.list,
+            kind,
+            &found.list,
             from,
             value,
             spread,
-            fork.records,
+            found.records,
         )?;
         return Ok(true);
     }
@@ -815,6 +812,7 @@ fn put_in_entry<P: SectorSpace>(
     alloc: Global,
     space: &mut P,
     entry: &Entry,
+    kind: ForkKind,
     from: u64,
     value: &[u8],
 ) -> Result<bool, Trouble>
@@ -828,39 +826,40 @@ fn put_in_entry<P: SectorSpace>(
     requires name { length entry.now.name ≤ 255 }
     requires there { IsTrue (P.SectorView.space space.old).tells → value_at (lists_of volume.old (P.SectorView.space space.old).content).catalog_pairs entry.now.parent entry.now.name ≡ Some entry.now.rec }
     requires fits { is_thread entry.now.rec ≡ false → FitsRecord entry.now.rec }
-    requires told { IsTrue (P.SectorView.space space.old).tells → (file : FileRecord) → entry.now.rec ≡ File file → IsToldFile file (extents_in (P.SectorView.space space.old).content file) (P.SectorView.space space.old).content }
+    requires told { IsTrue (P.SectorView.space space.old).tells → (file : FileRecord) → entry.now.rec ≡ File file → IsToldFile (kind_of kind) file (extents_in (kind_of kind) (P.SectorView.space space.old).content file) (P.SectorView.space space.old).content }
     ensures filled { OnOk result (HasFilled volume.new (P.SectorView.space space.new)) }
     ensures stands { OnOk result (StandsOver volume.new (P.SectorView.space space.new)) }
     ensures service { IsInService volume.new (P.SectorView.space space.new) }
     ensures exactly { IsTrue (P.SectorView.space space.old).tells → (file : FileRecord) → entry.now.rec ≡ File file
-        → IfOk result (λ put. put ≡ false → can_put volume.old (P.SectorView.space space.old).spare (length (extents_in (P.SectorView.space space.old).content file)) file.data_fork.total_blocks file.data_fork.logical_size from (length value.now) ≡ false) }
+        → IfOk result (λ put. put ≡ false → can_put volume.old (P.SectorView.space space.old).spare (length (extents_in (kind_of kind) (P.SectorView.space space.old).content file)) (fork_at (kind_of kind) file).total_blocks (fork_at (kind_of kind) file).logical_size from (length value.now) ≡ false) }
     ensures met { IsTrue (P.SectorView.space space.old).tells → (file : FileRecord) → entry.now.rec ≡ File file
-        → IfOk result (λ put. put ≡ false → is_put_met volume.old (volume_of (P.SectorView.space space.old).content) (P.SectorView.space space.old).spare (records_held (volume_of (P.SectorView.space space.old).content) file.fields.id) (length (extents_in (P.SectorView.space space.old).content file)) file.data_fork.total_blocks file.data_fork.logical_size from (length value.now) ≡ false) }
+        → IfOk result (λ put. put ≡ false → is_put_met volume.old (volume_of (P.SectorView.space space.old).content) (P.SectorView.space space.old).spare (records_in (kind_of kind) (volume_of (P.SectorView.space space.old).content) file.fields.id) (length (extents_in (kind_of kind) (P.SectorView.space space.old).content file)) (fork_at (kind_of kind) file).total_blocks (fork_at (kind_of kind) file).logical_size from (length value.now) ≡ false) }
     ensures no_cut { IsTrue (P.SectorView.space space.old).tells → (file : FileRecord) → entry.now.rec ≡ File file
-        → IfOk result (λ put. IsTrue put → has_more file.data_fork.logical_size (from + length value.now) (blocks_for volume.old.header.block_size file.data_fork.logical_size) file.data_fork.total_blocks ≡ false) }
-    ensures puts { IsTrue (P.SectorView.space space.old).tells → (file : FileRecord) → entry.now.rec ≡ File file → IfOk result (λ put. IsTrue put → PutsValue file from value.now volume.old volume.new (P.SectorView.space space.old).content (P.SectorView.space space.new).content) }
+        → IfOk result (λ put. IsTrue put → has_more (fork_at (kind_of kind) file).logical_size (from + length value.now) (blocks_for volume.old.header.block_size (fork_at (kind_of kind) file).logical_size) (fork_at (kind_of kind) file).total_blocks ≡ false) }
+    ensures puts { IsTrue (P.SectorView.space space.old).tells → (file : FileRecord) → entry.now.rec ≡ File file → IfOk result (λ put. IsTrue put → PutsValue (kind_of kind) file from value.now volume.old volume.new (P.SectorView.space space.old).content (P.SectorView.space space.new).content) }
     ensures waits { IsTrue (P.SectorView.space space.old).tells → IfOk result (λ put. put ≡ false → IsSettled volume.new (P.SectorView.space space.new).content × ((P.SectorView.space space.new).content ≡ (P.SectorView.space space.old).content)) }
     ensures same { (volume.new.private ≡ volume.old.private) × (volume.new.shrunk ≡ volume.old.shrunk) × (volume.new.capacity ≡ volume.old.capacity) }
     ensures commit { (committed : Content) → HoldsOn committed volume.old → IsLaidOutAs committed volume.old → Touches committed (λ s. Contains (own_sectors volume.old) s) (P.SectorView.space space.old) (P.SectorView.space space.new) }
     ensures holds { (committed : Content) → HoldsOn committed volume.old → OnOk result (HoldsOn committed volume.new) }
-    ensures spent { IsTrue (P.SectorView.space space.old).tells → (file : FileRecord) → entry.now.rec ≡ File file → ((P.SectorView.space space.old).spare ≤ (P.SectorView.space space.new).spare) ⊎ ((has_more file.data_fork.logical_size (from + length value.now) (blocks_for volume.old.header.block_size file.data_fork.logical_size) file.data_fork.total_blocks ≡ false) × ((P.SectorView.space space.old).spare ≤ (P.SectorView.space space.new).spare + put_load volume.old file.data_fork.logical_size from (length value.now) + spread_put_load volume.old (records_held (volume_of (P.SectorView.space space.old).content) file.fields.id) (length (extents_in (P.SectorView.space space.old).content file)) file.data_fork.logical_size from (length value.now))) }
+    ensures spent { IsTrue (P.SectorView.space space.old).tells → (file : FileRecord) → entry.now.rec ≡ File file → ((P.SectorView.space space.old).spare ≤ (P.SectorView.space space.new).spare) ⊎ ((has_more (fork_at (kind_of kind) file).logical_size (from + length value.now) (blocks_for volume.old.header.block_size (fork_at (kind_of kind) file).logical_size) (fork_at (kind_of kind) file).total_blocks ≡ false) × ((P.SectorView.space space.old).spare ≤ (P.SectorView.space space.new).spare + put_load volume.old (fork_at (kind_of kind) file).logical_size from (length value.now) + spread_put_load volume.old (records_in (kind_of kind) (volume_of (P.SectorView.space space.old).content) file.fields.id) (length (extents_in (kind_of kind) (P.SectorView.space space.old).content file)) (fork_at (kind_of kind) file).logical_size from (length value.now))) }
     ensures space { SameSpace (P.SectorView.space space.old) (P.SectorView.space space.new) }
     ensures below { P.SectorView.follows space.old space.new }
     ensures cause { HasTroubleCause (P.SectorView.space space.old).faults (P.SectorView.space space.new).faults result }
 {
     match &entry.rec {
         CatRecord::Folder(_folder) => Ok(false),
-        CatRecord::File(file) => put_in_file(volume, alloc, space, entry, file, from, value),
+        CatRecord::File(file) => put_in_file(volume, alloc, space, entry, file, kind, from, value),
         CatRecord::Thread(_thread) => Ok(false),
     }
 }
 
 /// Puts a value into the file with a CNID where that can be done now, and says whether it did.
-pub(crate) fn put_data<P: SectorSpace>(
+pub fn put_data<P: SectorSpace>(
     volume: &mut Volume,
     alloc: Global,
     space: &mut P,
     id: u32,
+    kind: ForkKind,
     from: u64,
     value: &[u8],
 ) -> Result<bool, Trouble>
@@ -875,25 +874,25 @@ pub(crate) fn put_data<P: SectorSpace>(
     ensures stands { OnOk result (StandsOver volume.new (P.SectorView.space space.new)) }
     ensures service { IsInService volume.new (P.SectorView.space space.new) }
     ensures exactly { IsTrue (P.SectorView.space space.old).tells → (node : PlainNode) → Contains (tree_of (P.SectorView.space space.old).content).nodes node → node.id ≡ id → node.folder ≡ false
-        → (put : Data) → put.id ≡ id → IsAt put (length node.bytes) from (from + length value.now) → IfOk result (λ said. said ≡ false → is_put_now volume.old (P.SectorView.space space.old).spare (volume_of (P.SectorView.space space.old).content) (Some put) ≡ false) }
+        → (put : Data) → put.id ≡ id → IsAt put (length (bytes_at (kind_of kind) node)) from (from + length value.now) → IfOk result (λ said. said ≡ false → is_put_now_in (kind_of kind) volume.old (P.SectorView.space space.old).spare (volume_of (P.SectorView.space space.old).content) (Some put) ≡ false) }
     ensures met { IsTrue (P.SectorView.space space.old).tells → (node : PlainNode) → Contains (tree_of (P.SectorView.space space.old).content).nodes node → node.id ≡ id → node.folder ≡ false
-        → (put : Data) → put.id ≡ id → IsAt put (length node.bytes) from (from + length value.now) → IfOk result (λ said. said ≡ false → is_data_met volume.old (P.SectorView.space space.old).spare (volume_of (P.SectorView.space space.old).content) (Some put) ≡ false) }
+        → (put : Data) → put.id ≡ id → IsAt put (length (bytes_at (kind_of kind) node)) from (from + length value.now) → IfOk result (λ said. said ≡ false → is_data_met_in (kind_of kind) volume.old (P.SectorView.space space.old).spare (volume_of (P.SectorView.space space.old).content) (Some put) ≡ false) }
     ensures no_cut { IsTrue (P.SectorView.space space.old).tells → (node : PlainNode) → Contains (tree_of (P.SectorView.space space.old).content).nodes node → node.id ≡ id → node.folder ≡ false
-        → (put : Data) → put.id ≡ id → IsAt put (length node.bytes) from (from + length value.now) → IfOk result (λ said. IsTrue said → needs_cut (volume_of (P.SectorView.space space.old).content) (Some put) ≡ false) }
-    ensures puts { IsTrue (P.SectorView.space space.old).tells → IfOk result (λ said. IsTrue said → PutsAt id from value.now volume.old volume.new (P.SectorView.space space.old).content (P.SectorView.space space.new).content) }
+        → (put : Data) → put.id ≡ id → IsAt put (length (bytes_at (kind_of kind) node)) from (from + length value.now) → IfOk result (λ said. IsTrue said → needs_cut_in (kind_of kind) (volume_of (P.SectorView.space space.old).content) (Some put) ≡ false) }
+    ensures puts { IsTrue (P.SectorView.space space.old).tells → IfOk result (λ said. IsTrue said → PutsAt (kind_of kind) id from value.now volume.old volume.new (P.SectorView.space space.old).content (P.SectorView.space space.new).content) }
     ensures waits { IsTrue (P.SectorView.space space.old).tells → IfOk result (λ said. said ≡ false → IsSettled volume.new (P.SectorView.space space.new).content × ((P.SectorView.space space.new).content ≡ (P.SectorView.space space.old).content)) }
     ensures same { (volume.new.private ≡ volume.old.private) × (volume.new.shrunk ≡ volume.old.shrunk) × (volume.new.capacity ≡ volume.old.capacity) }
     ensures commit { (committed : Content) → HoldsOn committed volume.old → IsLaidOutAs committed volume.old → Touches committed (λ s. Contains (own_sectors volume.old) s) (P.SectorView.space space.old) (P.SectorView.space space.new) }
     ensures holds { (committed : Content) → HoldsOn committed volume.old → OnOk result (HoldsOn committed volume.new) }
-    ensures spent { IsTrue (P.SectorView.space space.old).tells → (node : PlainNode) → Contains (tree_of (P.SectorView.space space.old).content).nodes node → node.id ≡ id → node.folder ≡ false → (put : Data) → put.id ≡ id → IsAt put (length node.bytes) from (from + length value.now)
-        → ((P.SectorView.space space.old).spare ≤ (P.SectorView.space space.new).spare) ⊎ ((needs_cut (volume_of (P.SectorView.space space.old).content) (Some put) ≡ false) × ((P.SectorView.space space.old).spare ≤ (P.SectorView.space space.new).spare + data_load volume.old put + records_load volume.old (volume_of (P.SectorView.space space.old).content) put)) }
+    ensures spent { IsTrue (P.SectorView.space space.old).tells → (node : PlainNode) → Contains (tree_of (P.SectorView.space space.old).content).nodes node → node.id ≡ id → node.folder ≡ false → (put : Data) → put.id ≡ id → IsAt put (length (bytes_at (kind_of kind) node)) from (from + length value.now)
+        → ((P.SectorView.space space.old).spare ≤ (P.SectorView.space space.new).spare) ⊎ ((needs_cut_in (kind_of kind) (volume_of (P.SectorView.space space.old).content) (Some put) ≡ false) × ((P.SectorView.space space.old).spare ≤ (P.SectorView.space space.new).spare + data_load volume.old put + records_load_in (kind_of kind) volume.old (volume_of (P.SectorView.space space.old).content) put)) }
     ensures space { SameSpace (P.SectorView.space space.old) (P.SectorView.space space.new) }
     ensures below { P.SectorView.follows space.old space.new }
     ensures cause { HasTroubleCause (P.SectorView.space space.old).faults (P.SectorView.space space.new).faults result }
 {
     volume.keep();
     match volume.entry(alloc, space, id)? {
-        Some(entry) => put_in_entry(volume, alloc, space, &entry, from, value),
+        Some(entry) => put_in_entry(volume, alloc, space, &entry, kind, from, value),
         None => Ok(false),
     }
 }

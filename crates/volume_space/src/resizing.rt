@@ -1,10 +1,9 @@
 //! `trunc` where it puts no data: to the size that a file has, or to a smaller one.
-ghost use Rattle.std.specs.Prelude.{◌≡◌, ◌<◌, ◌≤◌, ◌+◌, ℕ, List, None, Ok, Some, false, true, IsTrue, nat_lt, if◌then◌else◌, IfNone, IfOk, IfSome, length, OnOk};
+ghost use Rattle.std.specs.Prelude.{◌≡◌, ◌<◌, ◌≤◌, ◌+◌, ℕ, List, None, Ok, Some, false, true, IsTrue, nat_lt, IfNone, IfOk, IfSome, length, OnOk, if◌then◌else◌};
 ghost use Rattle.std.specs.List.{Contains};
 ghost use Rattle.sector_disk.specs.Lists.{Content};
 ghost use Rattle.btree_edit.specs.Causes.{HasTroubleCause};
 ghost use Rattle.catalog.specs.Entries.{IsOfKind};
-ghost use Rattle.catalog.specs.Pairs.{value_at};
 ghost use Rattle.cat_records.specs.Fits.{FitsEntry, FitsRecord};
 ghost use Rattle.hfs_language.specs.Written.{FitsPath};
 ghost use Rattle.hfs_language.specs.declared.command.Command.TheVariants as command;
@@ -12,16 +11,14 @@ ghost use Rattle.hfs_language.specs.declared.reply.Reply.TheVariants as reply;
 ghost use Rattle.hfs_model.specs.Step.{is_refusal, step, step_line, to_trunc};
 ghost use Rattle.hfs_model.specs.declared.plain.PlainNode.{PlainNode};
 ghost use Rattle.hfs_volume.specs.Content.{volume_of};
-ghost use Rattle.hfs_volume.specs.Entries.{AreSpelled};
 ghost use Rattle.hfs_volume.specs.Records.{is_file, is_thread};
 ghost use Rattle.hfs_volume.specs.TreeOf.{tree_of};
 ghost use Rattle.hfs_volume.specs.Weight.{weight};
 ghost use Rattle.hfs_volume.specs.declared.cost.Cost.TheVariants as cost;
-ghost use Rattle.volume_base.specs.Frame.{Edits, Serves};
+ghost use Rattle.volume_base.specs.Frame.{Edits, MayUpdate, Serves};
 ghost use Rattle.volume_base.specs.Changing.{HasRoomToUpdate, catalog_node};
 ghost use Rattle.volume_base.specs.Refusing.{facts_or};
 ghost use Rattle.volume_base.specs.Keeping.{shrunk_of};
-ghost use Rattle.volume_base.specs.Lists.{lists_of};
 ghost use Rattle.volume_base.specs.Looking.{ReadsVolume};
 ghost use Rattle.volume_space.specs.Resizing.{IsShortened, SetsSize, puts_data, with_size};
 ghost use Rattle.volume_base.specs.Resizing.{shrunk_then};
@@ -87,12 +84,8 @@ fn put_size<P: SectorSpace>(
     entry: &Entry,
     size: u64,
 ) -> Result<(), Trouble>
-    requires stands { StandsOver volume.old (P.SectorView.space space.old) }
-    requires spelled { IsTrue (P.SectorView.space space.old).tells → AreSpelled (lists_of volume.old (P.SectorView.space space.old).content).catalog_pairs }
-    requires name { length entry.now.name ≤ 255 }
-    requires there { IsTrue (P.SectorView.space space.old).tells → value_at (lists_of volume.old (P.SectorView.space space.old).content).catalog_pairs entry.now.parent entry.now.name ≡ Some entry.now.rec }
+    requires ready { MayUpdate volume.old entry.now (P.SectorView.space space.old) }
     requires fits { is_thread entry.now.rec ≡ false → FitsRecord entry.now.rec }
-    requires room { HasRoomToUpdate volume.old (P.SectorView.space space.old) }
     ensures rest { volume.new ≡ record volume.old { catalog = volume.new.catalog } }
     ensures sets { IsTrue (P.SectorView.space space.old).tells → is_file entry.now.rec ≡ true
         → OnOk result (SetsSize volume.old.header.modify_date size entry.now volume.old volume.new (P.SectorView.space space.old).content (P.SectorView.space space.new).content) }

@@ -20,18 +20,19 @@ ghost use Rattle.hfs_volume.specs.Records.{overflow_of};
 ghost use Rattle.overflow.specs.Reading.{HasExtents, fork_records};
 ghost use Rattle.overflow.specs.Room.{HasStoreRoom, edits_for};
 ghost use Rattle.volume_cost.specs.Sizes.{AreSmall};
-ghost use Rattle.volume_space.specs.Cutting.{IsForkOf, kind_of, spread_load};
+ghost use Rattle.volume_space.specs.Cutting.{IsForkOf, spread_load};
+ghost use Rattle.volume_base.specs.Cutting.{kind_of};
 ghost use Rattle.volume_base.specs.Frame.{Looked, Serves};
 ghost use Rattle.volume_base.specs.Lists.{lists_of};
 ghost use Rattle.volume_base.specs.Reading.{HasFile};
 ghost use Rattle.volume_base.specs.Service.{IsInService};
-ghost use Rattle.volume_space.specs.Recording.{records_held};
+ghost use Rattle.volume_space.specs.Recording.{records_in};
 ghost use Rattle.volume_space.specs.Spreading.{SpreadsExtents, StoresExtents, edits_load, is_met_extents, needs_extents, ChangesFew, light_load};
 ghost use Rattle.volume_base.specs.Spreading.{StoresFork};
 ghost use Rattle.volume_base.specs.Standing.{StandsOver, own_sectors};
 ghost use Rattle.volume_base.specs.Touching.{Touches};
 
-use crate::cutting::{ForkKind, count_blocks, fork_of};
+use crate::cutting::count_blocks;
 use btree_edit::Desk;
 use btree_file::{TreeFile, TreeOn};
 use btree_node::TreeShape;
@@ -45,19 +46,8 @@ use std::alloc::Global;
 use tree_weights::{
     a_load_is_of_parts, a_load_says_enough, commands_have_room, edits_take_their_load,
 };
-use volume_base::{FreeBlocks, Volume, is_measured, load_extents};
+use volume_base::{ForkKind, FreeBlocks, Volume, fork_of, is_measured, load_extents, number_of};
 use volume_cost::cost;
-
-/// The number that stands for a kind of fork in keys (TN1150, "Extents Overflow File Keys").
-pub(crate) fn number_of(kind: ForkKind) -> u8
-    ensures same { result ≡ kind_of kind }
-    ensures kind { (result ≡ 0) ⊎ (result ≡ 255) }
-{
-    match kind {
-        ForkKind::Data => 0,
-        ForkKind::Resource => 255,
-    }
-}
 
 /// Whether a CNID is one that files of users have.
 pub(crate) fn is_user_id(id: u32) -> bool
@@ -317,11 +307,12 @@ pub(crate) fn fits_extent_edits<P: SectorSpace>(volume: &Volume, space: &P, edit
     is_met(cost(&needs_of_extents(edits), &room), space.spare())
 }
 
-/// Whether the overflow records of a file's data fork, of which there are so many, can be made those of other extents, of which there may be so many.
+/// Whether the overflow records of a file's fork, of which there are so many, can be made those of other extents, of which there may be so many.
 fn can_spread<P: SectorSpace>(
     volume: &Volume,
     space: &P,
     id: u32,
+    kind: u8,
     records: u64,
     later: &ExtentList,
     most: u64,
@@ -330,8 +321,8 @@ fn can_spread<P: SectorSpace>(
     ensures full { IsTrue result → is_full later.now ≡ true }
     ensures few { IsTrue result → length (blocks_of later.now) < 2 ^ 32 }
     ensures most { IsTrue result → length later.now ≤ most }
-    ensures room { IsTrue result → (names : List ℕ) → IsTrue (P.SectorView.space space.now).tells → records ≡ length (fork_records id 0 (state_of names volume.now.extents.file (P.SectorView.space space.now)))
-        → HasStoreRoom (state_of names volume.now.extents.file (P.SectorView.space space.now)) id 0 later.now }
+    ensures room { IsTrue result → (names : List ℕ) → IsTrue (P.SectorView.space space.now).tells → records ≡ length (fork_records id kind (state_of names volume.now.extents.file (P.SectorView.space space.now)))
+        → HasStoreRoom (state_of names volume.now.extents.file (P.SectorView.space space.now)) id kind later.now }
 {
     if !is_user_id(id) {
         return false;
@@ -356,16 +347,17 @@ fn keep_extents<P: SectorSpace>(
     volume: &mut Volume,
     space: &mut P,
     _id: u32,
+    _kind: u8,
     _list: &ExtentList,
     later: &ExtentList,
 ) -> Result<(), Trouble>
     requires stands { StandsOver volume.old (P.SectorView.space space.old) }
     requires short { length _list.now < 8 }
-    requires has { IsTrue (P.SectorView.space space.old).tells → HasExtents (map overflow_of (lists_of volume.old (P.SectorView.space space.old).content).overflow_pairs) _id 0 _list.now }
+    requires has { IsTrue (P.SectorView.space space.old).tells → HasExtents (map overflow_of (lists_of volume.old (P.SectorView.space space.old).content).overflow_pairs) _id _kind _list.now }
     ensures stands { OnOk result (StandsOver volume.new (P.SectorView.space space.new)) }
     ensures service { IsInService volume.new (P.SectorView.space space.new) }
     ensures rest { volume.new ≡ record volume.old { extents = volume.new.extents } }
-    ensures spreads { IsTrue (P.SectorView.space space.old).tells → OnOk result (SpreadsExtents _id later.now volume.old volume.new (P.SectorView.space space.old).content (P.SectorView.space space.new).content) }
+    ensures spreads { IsTrue (P.SectorView.space space.old).tells → OnOk result (SpreadsExtents _id _kind later.now volume.old volume.new (P.SectorView.space space.old).content (P.SectorView.space space.new).content) }
     ensures own { own_sectors volume.new ≡ own_sectors volume.old }
     ensures touches { (committed : Content) → Touches committed (λ s. Contains (own_sectors volume.old) s) (P.SectorView.space space.old) (P.SectorView.space space.new) }
     ensures spent { (P.SectorView.space space.old).spare ≤ (P.SectorView.space space.new).spare }
@@ -384,38 +376,41 @@ fn spread_extents<P: SectorSpace>(
     alloc: Global,
     space: &mut P,
     id: u32,
+    kind: u8,
     list: &ExtentList,
     later: &ExtentList,
     records: u64,
     most: u64,
 ) -> Result<(), Trouble>
     requires stands { StandsOver volume.old (P.SectorView.space space.old) }
-    requires has { IsTrue (P.SectorView.space space.old).tells → HasExtents (map overflow_of (lists_of volume.old (P.SectorView.space space.old).content).overflow_pairs) id 0 list.now }
-    requires counted { IsTrue (P.SectorView.space space.old).tells → records ≡ records_held (lists_of volume.old (P.SectorView.space space.old).content) id }
+    requires kind { (kind ≡ 0) ⊎ (kind ≡ 255) }
+    requires has { IsTrue (P.SectorView.space space.old).tells → HasExtents (map overflow_of (lists_of volume.old (P.SectorView.space space.old).content).overflow_pairs) id kind list.now }
+    requires counted { IsTrue (P.SectorView.space space.old).tells → records ≡ records_in kind (lists_of volume.old (P.SectorView.space space.old).content) id }
     ensures stands { OnOk result (StandsOver volume.new (P.SectorView.space space.new)) }
     ensures service { IsInService volume.new (P.SectorView.space space.new) }
     ensures rest { volume.new ≡ record volume.old { extents = volume.new.extents } }
-    ensures spreads { IsTrue (P.SectorView.space space.old).tells → OnOk result (SpreadsExtents id later.now volume.old volume.new (P.SectorView.space space.old).content (P.SectorView.space space.new).content) }
+    ensures spreads { IsTrue (P.SectorView.space space.old).tells → OnOk result (SpreadsExtents id kind later.now volume.old volume.new (P.SectorView.space space.old).content (P.SectorView.space space.new).content) }
     ensures own { own_sectors volume.new ≡ own_sectors volume.old }
     ensures touches { (committed : Content) → Touches committed (λ s. Contains (own_sectors volume.old) s) (P.SectorView.space space.old) (P.SectorView.space space.new) }
     ensures spent { IsTrue (P.SectorView.space space.old).tells → (P.SectorView.space space.old).spare ≤ (P.SectorView.space space.new).spare + edits_load volume.old.extents.file.shape (records + overflow_records most) }
     ensures below { P.SectorView.follows space.old space.new }
     ensures cause { HasTroubleCause (P.SectorView.space space.old).faults (P.SectorView.space space.new).faults result }
 {
-    if !can_spread(volume, space, id, records, later, most) {
+    if !can_spread(volume, space, id, kind, records, later, most) {
         return Err(Trouble::Memory);
     }
-    store_extents(volume, alloc, space, id, 0, list, later)?;
+    store_extents(volume, alloc, space, id, kind, list, later)?;
     Ok(())
 }
 
-/// Makes the overflow records of a file's data fork go with a record of the first eight of these extents, of which there may be so many. Where it isn't
+/// Makes the overflow records of a file's fork go with a record of the first eight of these extents, of which there may be so many. Where it isn't
 /// spread it has none, and had none before.
 pub(crate) fn store_later<P: SectorSpace>(
     volume: &mut Volume,
     alloc: Global,
     space: &mut P,
     id: u32,
+    kind: u8,
     list: &ExtentList,
     later: &ExtentList,
     spread: bool,
@@ -424,12 +419,13 @@ pub(crate) fn store_later<P: SectorSpace>(
 ) -> Result<(), Trouble>
     requires stands { StandsOver volume.old (P.SectorView.space space.old) }
     requires short { spread ≡ false → length list.now < 8 }
-    requires has { IsTrue (P.SectorView.space space.old).tells → HasExtents (map overflow_of (lists_of volume.old (P.SectorView.space space.old).content).overflow_pairs) id 0 list.now }
-    requires counted { IsTrue (P.SectorView.space space.old).tells → records ≡ records_held (lists_of volume.old (P.SectorView.space space.old).content) id }
+    requires kind { (kind ≡ 0) ⊎ (kind ≡ 255) }
+    requires has { IsTrue (P.SectorView.space space.old).tells → HasExtents (map overflow_of (lists_of volume.old (P.SectorView.space space.old).content).overflow_pairs) id kind list.now }
+    requires counted { IsTrue (P.SectorView.space space.old).tells → records ≡ records_in kind (lists_of volume.old (P.SectorView.space space.old).content) id }
     ensures stands { OnOk result (StandsOver volume.new (P.SectorView.space space.new)) }
     ensures service { IsInService volume.new (P.SectorView.space space.new) }
     ensures rest { volume.new ≡ record volume.old { extents = volume.new.extents } }
-    ensures spreads { IsTrue (P.SectorView.space space.old).tells → OnOk result (SpreadsExtents id later.now volume.old volume.new (P.SectorView.space space.old).content (P.SectorView.space space.new).content) }
+    ensures spreads { IsTrue (P.SectorView.space space.old).tells → OnOk result (SpreadsExtents id kind later.now volume.old volume.new (P.SectorView.space space.old).content (P.SectorView.space space.new).content) }
     ensures own { own_sectors volume.new ≡ own_sectors volume.old }
     ensures touches { (committed : Content) → Touches committed (λ s. Contains (own_sectors volume.old) s) (P.SectorView.space space.old) (P.SectorView.space space.new) }
     ensures spent { IsTrue (P.SectorView.space space.old).tells → (P.SectorView.space space.old).spare ≤ (P.SectorView.space space.new).spare + edits_load volume.old.extents.file.shape (records + overflow_records most) }
@@ -437,7 +433,7 @@ pub(crate) fn store_later<P: SectorSpace>(
     ensures cause { HasTroubleCause (P.SectorView.space space.old).faults (P.SectorView.space space.new).faults result }
 {
     if spread {
-        return spread_extents(volume, alloc, space, id, list, later, records, most);
+        return spread_extents(volume, alloc, space, id, kind, list, later, records, most);
     }
-    keep_extents(volume, space, id, list, later)
+    keep_extents(volume, space, id, kind, list, later)
 }

@@ -9,20 +9,20 @@ ghost use Rattle.hfs_model.specs.Step.{is_private_name};
 ghost use Rattle.hfs_volume.specs.Content.{records_of, volume_of};
 ghost use Rattle.hfs_volume.specs.Forks.{parts_for};
 ghost use Rattle.hfs_volume.specs.Links.{orphans_of};
-ghost use Rattle.hfs_volume.specs.Reclaim.{Reclaim, has_surplus_left, least};
+ghost use Rattle.hfs_volume.specs.Reclaim.{has_surplus_left, least};
 ghost use Rattle.hfs_volume.specs.Records.{id_in, is_link_type, is_thread};
-ghost use Rattle.volume_runs.specs.Rest.{IsHeldUp};
-ghost use Rattle.volume_space.specs.Cutting.{IsCut, IsForkOf, IsNextCut, MayGive, blocks_left, kind_of, surplus_in};
+ghost use Rattle.volume_space.specs.Cutting.{AffordsCut, CutsTo, IsForkOf, IsNextCut, MayCut, MayGive, PutsCut, RefusesCut, blocks_left, surplus_in};
+ghost use Rattle.volume_base.specs.Cutting.{kind_of};
 ghost use Rattle.volume_base.specs.Frame.{Serves};
 ghost use Rattle.volume_base.specs.Cutting.{IsCutOf, fork_at};
 ghost use Rattle.volume_base.specs.Keeping.{shrunk_of};
 ghost use Rattle.volume_base.specs.Lists.{lists_of};
-ghost use Rattle.volume_space.specs.Orphans.{AffordsStep, TidiesAs, PutsNext};
+ghost use Rattle.volume_space.specs.Orphans.{TidiesAs, PutsNext};
 ghost use Rattle.volume_base.specs.Frame.{Frees};
 ghost use Rattle.volume_base.specs.Room.{capacity_of};
 ghost use Rattle.volume_base.specs.Standing.{IsSettled};
 
-use crate::cutting::{ForkKind, cut_fork, cut_of, fits_cut, fork_of};
+use crate::cutting::{cut_fork, cut_of, fits_cut};
 use crate::orphans::is_link;
 use crate::storing::{fork_extents, is_user_id};
 use crate::tidying::{Tidying, grows_none, tidy_unshrunk};
@@ -31,7 +31,7 @@ use fork_map::ExtentList;
 use hx_bytes::Trouble;
 use sector_disk::SectorSpace;
 use std::alloc::Global;
-use volume_base::{Cut, Entry, FreeBlocks, ROOT, Volume, is_private_name};
+use volume_base::{Cut, Entry, ForkKind, FreeBlocks, ROOT, Volume, fork_of, is_private_name};
 use volume_cost::cut_cost;
 
 /// A fork that is to be cut, and how many of its first blocks stay at least.
@@ -42,7 +42,7 @@ pub(crate) struct Surplus {
 }
 
 /// How many blocks so many bytes take.
-fn count_wanted(size: u64, block: u32) -> u128
+pub(crate) fn count_wanted(size: u64, block: u32) -> u128
     requires { 0 < block }
     ensures { result ≡ parts_for size block }
 {
@@ -50,7 +50,7 @@ fn count_wanted(size: u64, block: u32) -> u128
 }
 
 /// Whether a fork of so many blocks has more than these.
-fn is_exceeded(wanted: u128, total: u32) -> bool
+pub(crate) fn is_exceeded(wanted: u128, total: u32) -> bool
     ensures { result ≡ nat_lt wanted total }
 {
     wanted < u128::from(total)
@@ -131,8 +131,8 @@ pub(crate) fn has_id(rec: &CatRecord, id: u32) -> bool
 
 /// Whether the journal has room for a cut.
 fn affords_cut(volume: &Volume) -> bool
-    ensures affords { (content : Content) → IsSettled volume.now content → IsTrue result → (step : Reclaim) → IsCut step → AffordsStep (capacity_of volume.now) content step }
-    ensures held_up { (content : Content) → IsSettled volume.now content → result ≡ false → (step : Reclaim) → IsCut step → IsHeldUp (capacity_of volume.now) (volume_of content) step }
+    ensures affords { (content : Content) → IsSettled volume.now content → IsTrue result → AffordsCut (capacity_of volume.now) (volume_of content) }
+    ensures refused { (content : Content) → IsSettled volume.now content → result ≡ false → RefusesCut (capacity_of volume.now) (volume_of content) }
 {
     grows_none(cut_cost(&volume.room(FreeBlocks::All)))
 }
@@ -159,9 +159,9 @@ fn tidy_part<P: SectorSpace>(
     requires list { IsTrue (P.SectorView.space space.old).tells → IsForkOf list.now (kind_of surplus.kind) file.now (P.SectorView.space space.old).content }
     requires cut { IsCutOf list.now (fork_at (kind_of surplus.kind) file.now) surplus.keep cut.now }
     requires gives { MayGive cut.now.goes volume.old }
-    requires next { IsTrue (P.SectorView.space space.old).tells → IsNextCut (shrunk_of volume.old) (P.SectorView.space space.old).content (id_in entry.now.rec) (kind_of surplus.kind) surplus.keep }
-    ensures tidied { IsTrue (P.SectorView.space space.old).tells → IfOk result (λ came. TidiesAs came (capacity_of volume.old) (shrunk_of volume.old) (free_of volume.old.map) (P.SectorView.space space.old).spare (P.SectorView.space space.old).content (P.SectorView.space space.new).content) }
-    ensures spent { IsTrue (P.SectorView.space space.old).tells → PutsNext (capacity_of volume.old) (shrunk_of volume.old) (volume_of (P.SectorView.space space.old).content) (P.SectorView.space space.old).spare (P.SectorView.space space.new).spare }
+    requires may { IsTrue (P.SectorView.space space.old).tells → MayCut (P.SectorView.space space.old).content (id_in entry.now.rec) (kind_of surplus.kind) surplus.keep }
+    ensures came { IsTrue (P.SectorView.space space.old).tells → IfOk result (λ came. CutsTo came (capacity_of volume.old) (P.SectorView.space space.old).spare (id_in entry.now.rec) (kind_of surplus.kind) surplus.keep (P.SectorView.space space.old).content (P.SectorView.space space.new).content) }
+    ensures spent { IsTrue (P.SectorView.space space.old).tells → PutsCut (capacity_of volume.old) (volume_of (P.SectorView.space space.old).content) (P.SectorView.space space.old).spare (P.SectorView.space space.new).spare }
     ensures frees { Frees P.SectorView.space P.SectorView.follows volume.old volume.new space.old space.new result }
     ensures serves { OnOk result (Serves volume.new (P.SectorView.space space.new)) }
 {
@@ -206,9 +206,9 @@ fn tidy_extents<P: SectorSpace>(
     requires user { (entry.now.parent ≡ 2) × (is_private_name entry.now.name ≡ true) → ⊥ }
     requires number { 16 ≤ file.now.fields.id }
     requires list { IsTrue (P.SectorView.space space.old).tells → IsForkOf list.now (kind_of surplus.kind) file.now (P.SectorView.space space.old).content }
-    requires next { IsTrue (P.SectorView.space space.old).tells → IsNextCut (shrunk_of volume.old) (P.SectorView.space space.old).content (id_in entry.now.rec) (kind_of surplus.kind) surplus.keep }
-    ensures tidied { IsTrue (P.SectorView.space space.old).tells → IfOk result (λ came. TidiesAs came (capacity_of volume.old) (shrunk_of volume.old) (free_of volume.old.map) (P.SectorView.space space.old).spare (P.SectorView.space space.old).content (P.SectorView.space space.new).content) }
-    ensures spent { IsTrue (P.SectorView.space space.old).tells → PutsNext (capacity_of volume.old) (shrunk_of volume.old) (volume_of (P.SectorView.space space.old).content) (P.SectorView.space space.old).spare (P.SectorView.space space.new).spare }
+    requires may { IsTrue (P.SectorView.space space.old).tells → MayCut (P.SectorView.space space.old).content (id_in entry.now.rec) (kind_of surplus.kind) surplus.keep }
+    ensures came { IsTrue (P.SectorView.space space.old).tells → IfOk result (λ came. CutsTo came (capacity_of volume.old) (P.SectorView.space space.old).spare (id_in entry.now.rec) (kind_of surplus.kind) surplus.keep (P.SectorView.space space.old).content (P.SectorView.space space.new).content) }
+    ensures spent { IsTrue (P.SectorView.space space.old).tells → PutsCut (capacity_of volume.old) (volume_of (P.SectorView.space space.old).content) (P.SectorView.space space.old).spare (P.SectorView.space space.new).spare }
     ensures frees { Frees P.SectorView.space P.SectorView.follows volume.old volume.new space.old space.new result }
     ensures serves { OnOk result (Serves volume.new (P.SectorView.space space.new)) }
 {
@@ -231,9 +231,9 @@ fn tidy_fork<P: SectorSpace>(
     requires there { IsTrue (P.SectorView.space space.old).tells → value_at (lists_of volume.old (P.SectorView.space space.old).content).catalog_pairs entry.now.parent entry.now.name ≡ Some entry.now.rec }
     requires is { entry.now.rec ≡ File file.now }
     requires fits { FitsFile file.now }
-    requires next { IsTrue (P.SectorView.space space.old).tells → IsNextCut (shrunk_of volume.old) (P.SectorView.space space.old).content (id_in entry.now.rec) (kind_of surplus.kind) surplus.keep }
-    ensures tidied { IsTrue (P.SectorView.space space.old).tells → IfOk result (λ came. TidiesAs came (capacity_of volume.old) (shrunk_of volume.old) (free_of volume.old.map) (P.SectorView.space space.old).spare (P.SectorView.space space.old).content (P.SectorView.space space.new).content) }
-    ensures spent { IsTrue (P.SectorView.space space.old).tells → PutsNext (capacity_of volume.old) (shrunk_of volume.old) (volume_of (P.SectorView.space space.old).content) (P.SectorView.space space.old).spare (P.SectorView.space space.new).spare }
+    requires may { IsTrue (P.SectorView.space space.old).tells → MayCut (P.SectorView.space space.old).content (id_in entry.now.rec) (kind_of surplus.kind) surplus.keep }
+    ensures came { IsTrue (P.SectorView.space space.old).tells → IfOk result (λ came. CutsTo came (capacity_of volume.old) (P.SectorView.space space.old).spare (id_in entry.now.rec) (kind_of surplus.kind) surplus.keep (P.SectorView.space space.old).content (P.SectorView.space space.new).content) }
+    ensures spent { IsTrue (P.SectorView.space space.old).tells → PutsCut (capacity_of volume.old) (volume_of (P.SectorView.space space.old).content) (P.SectorView.space space.old).spare (P.SectorView.space space.new).spare }
     ensures frees { Frees P.SectorView.space P.SectorView.follows volume.old volume.new space.old space.new result }
     ensures serves { OnOk result (Serves volume.new (P.SectorView.space space.new)) }
 {
@@ -262,9 +262,9 @@ pub(crate) fn tidy_cut<P: SectorSpace>(
     requires name { length entry.now.name ≤ 255 }
     requires there { IsTrue (P.SectorView.space space.old).tells → value_at (lists_of volume.old (P.SectorView.space space.old).content).catalog_pairs entry.now.parent entry.now.name ≡ Some entry.now.rec }
     requires fits { is_thread entry.now.rec ≡ false → FitsRecord entry.now.rec }
-    requires next { IsTrue (P.SectorView.space space.old).tells → IsNextCut (shrunk_of volume.old) (P.SectorView.space space.old).content (id_in entry.now.rec) (kind_of surplus.kind) surplus.keep }
-    ensures tidied { IsTrue (P.SectorView.space space.old).tells → IfOk result (λ came. TidiesAs came (capacity_of volume.old) (shrunk_of volume.old) (free_of volume.old.map) (P.SectorView.space space.old).spare (P.SectorView.space space.old).content (P.SectorView.space space.new).content) }
-    ensures spent { IsTrue (P.SectorView.space space.old).tells → PutsNext (capacity_of volume.old) (shrunk_of volume.old) (volume_of (P.SectorView.space space.old).content) (P.SectorView.space space.old).spare (P.SectorView.space space.new).spare }
+    requires may { IsTrue (P.SectorView.space space.old).tells → MayCut (P.SectorView.space space.old).content (id_in entry.now.rec) (kind_of surplus.kind) surplus.keep }
+    ensures came { IsTrue (P.SectorView.space space.old).tells → IfOk result (λ came. CutsTo came (capacity_of volume.old) (P.SectorView.space space.old).spare (id_in entry.now.rec) (kind_of surplus.kind) surplus.keep (P.SectorView.space space.old).content (P.SectorView.space space.new).content) }
+    ensures spent { IsTrue (P.SectorView.space space.old).tells → PutsCut (capacity_of volume.old) (volume_of (P.SectorView.space space.old).content) (P.SectorView.space space.old).spare (P.SectorView.space space.new).spare }
     ensures frees { Frees P.SectorView.space P.SectorView.follows volume.old volume.new space.old space.new result }
     ensures serves { OnOk result (Serves volume.new (P.SectorView.space space.new)) }
 {

@@ -31,7 +31,7 @@ use hfs_volume::{rewrite_puts_its_blocks_alone, trunc_does_its_step, write_does_
 use hx_bytes::Trouble;
 use sector_disk::SectorSpace;
 use std::alloc::Global;
-use volume_base::{Volume, against_trunc, against_write};
+use volume_base::{ForkKind, Volume, against_trunc, against_write};
 
 /// Whether so many bytes are none.
 fn is_nothing(long: usize) -> bool
@@ -99,7 +99,7 @@ fn write_told<P: SectorSpace>(
     if is_nothing(value.len()) {
         return Ok(None);
     }
-    let put = put_data(volume, alloc, space, told.id, from, value)?;
+    let put = put_data(volume, alloc, space, told.id, ForkKind::Data, from, value)?;
     if put {
         return Ok(Some(Reply::Ok));
     }
@@ -149,7 +149,15 @@ fn lengthen_told<P: SectorSpace>(
     if is_no_longer(size, told.size) {
         return Ok(None);
     }
-    let put = put_data(volume, alloc, space, told.id, size - 1, &[0])?;
+    let put = put_data(
+        volume,
+        alloc,
+        space,
+        told.id,
+        ForkKind::Data,
+        size - 1,
+        &[0],
+    )?;
     if put {
         return Ok(Some(Reply::Ok));
     }

@@ -132,7 +132,7 @@ module _ (id : ℕ) (Changes : EntryFields → EntryFields → Type 0) (old new 
       (ap file_forks parts.is ∙ forks_swapped does.entry (with_fields (λ _. does.after) does.entry.value) change.forks parts.front parts.back ∙ sym (ap file_forks parts.was)))
 
 pub mode_keeps : (id mode : ℕ) (old new : VolumeState) → ChangesMode id mode old new → Keeps old new
-mode_keeps id mode old new does = fields_keep id (HasNewMode mode old.head.modify_date) old new does
+mode_keeps id mode old new does = fields_keep id (HasNewMode does.folder mode old.head.modify_date) old new does.does
 
 -- another moment
 moment_blocks : (moment : ℕ) (old : VolumeState) (id kind : ℕ) → blocks_at (at_moment moment old) id kind ≡ blocks_at old id kind

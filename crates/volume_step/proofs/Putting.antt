@@ -1,13 +1,9 @@
 -- `write` of bytes and `trunc` to a larger size: what they answer, and what watchers are told.
-use Rattle.std.proofs.Common.{◌≡◌, ◌≢◌, ◌<◌, ◌≤◌, ℕ, ◌*◌, ◌/◌, inl, Bool, true, false, List, [], ◌∷◌, length, take, refl, sym, ◌∙◌, ap, subst, arith, map}
-use Rattle.std.specs.Prelude.{◌||◌, nat_lt, is_some, not, Option, Some, None, Result, Ok, Err, if◌then◌else◌}
-use Rattle.std.proofs.Math.Nat.{div-le_self}
+use Rattle.std.proofs.Common.{◌≡◌, ◌≢◌, ℕ, inl, Bool, true, false, List, [], ◌∷◌, length, refl, sym, ◌∙◌, ap, subst, arith}
+use Rattle.std.specs.Prelude.{◌||◌, nat_lt, is_some, Option, Some, None, Result, Ok, Err, if◌then◌else◌}
 use Rattle.std.proofs.lemmas.Bool.{le-ltb, ltb-true, true≢false}
-use Rattle.std.proofs.lemmas.List.{take_all}
-use Rattle.jnl_format.specs.Keeping.{IsSame}
 use Rattle.jnl_format.specs.Recovery.{Content}
 use Rattle.volume_header.specs.Refusal.{is_locked}
-use Rattle.volume_header.specs.declared.header.VolumeHeader.{VolumeHeader}
 use Rattle.hfs_language.specs.declared.command.Command.{Command}
 use Rattle.hfs_language.specs.declared.command.Command.TheVariants as command
 use Rattle.hfs_language.specs.declared.refusal.Refusal.{Refusal}
@@ -20,100 +16,23 @@ use Rattle.hfs_model.specs.Step.{is_private_path, only_reads, reached, step_line
 use Rattle.hfs_model.specs.declared.plain.PlainEntry.{PlainEntry}
 use Rattle.hfs_model.specs.declared.plain.PlainNode.{PlainNode}
 use Rattle.hfs_model.specs.declared.plain.PlainTree.{PlainTree}
-use Rattle.hx_bytes.specs.declared.extents.ForkRecord.{ForkRecord}
-use Rattle.fork_map.specs.Blocks.{blocks_of}
-use Rattle.hfs_model.specs.Sorted.{kept}
-use Rattle.hfs_volume.specs.Content.{VolumeState, overflow_in_volume, volume_of}
+use Rattle.hfs_volume.specs.Content.{VolumeState, volume_of}
 use Rattle.hfs_volume.specs.Data.{PutsInFork, PutsInValues}
-use Rattle.hfs_volume.specs.Forks.{all_forks, attributes_id, blocks_owned, catalog_id, data_kind, extents_id, is_of}
-use Rattle.hfs_volume.specs.Reclaim.{GrowsBy, GrowsTrees, blocks_at, SameValues}
+use Rattle.hfs_volume.specs.Forks.{data_kind}
+use Rattle.hfs_volume.specs.Reclaim.{SameValues}
 use Rattle.hfs_volume.specs.Sound.{IsSound}
 use Rattle.hfs_volume.specs.TreeOf.{tree_of}
 use Rattle.hfs_volume.specs.Weight.{Data, changes_nothing, data_of, grown_data, needs_cut, written_data}
-use Rattle.hfs_volume.specs.Changes.{with_free}
-use Rattle.hfs_volume.specs.Writing.{RewritesFile}
 use Rattle.hfs_volume.proofs.Reaching.{then_ok, unless_ok}
 use Rattle.volume_runs.specs.Run.{DoesLine, reply_to, shrunk_by}
 use Rattle.volume_runs.specs.Told.{changes_of, of_entry}
 use Rattle.volume_space.specs.Writing.{HasData}
-use Rattle.volume_space.proofs.SpreadForks.{extents_alike}
 use Rattle.volume_step.specs.Steps.{Affords, KeepsJournal, StepsTo}
 use Rattle.volume_step.specs.declared.outcome.Outcome.TheVariants as outcome
 use Rattle.volume_step.proofs.Done.{line_free, line_ok, or_none, reached_node}
 use Rattle.volume_step.proofs.Idle.{works_unread}
 use Rattle.volume_step.proofs.Served.{Comes, changes_told, reply_step, steps}
-use Rattle.hfs_volume.specs.Records.{attribute_of}
-use Rattle.hfs_volume.specs.Values.{value_blocks}
-use Rattle.btree_node.specs.Levels.{Pair}
-
--- ---- the lists
-
-same_numbers : (free next : ℕ) (head : VolumeHeader) → IsSame head (with_free free next head)
-same_numbers free next head = record { signature = refl; version = refl; last_mounted = refl; info_block = refl; block_size = refl; total_blocks = refl; bit_12 = refl; bit_13 = refl; bit_15 = refl }
-
-nothing : (size block : ℕ) → 0 * size / block ≡ 0
-nothing size block = omega (arith, div-le_self (0 * size) block)
-
-stays : (more : ℕ) (old new : List ℕ) → more ≡ 0 → new ≡ old → GrowsBy more old new
-stays more old new none same = record {
-  front = ap (take (length old)) same ∙ take_all (length old) old (omega arith);
-  longer = omega (arith, none, ap (λ (l : List ℕ). length l) same);
-}
-
-module _ (id from count : ℕ) (fresh : List ℕ) (old new : VolumeState) (does : RewritesFile id from count fresh old new) (user : 16 ≤ id) where
-  head_is : new.head ≡ with_free does.puts.free does.puts.next old.head
-  head_is = ap (λ (v : VolumeState). v.head) does.dates.changes.rest ∙ ap (λ (v : VolumeState). v.head) does.puts.puts.rest
-
-  -- no overflow record but the file's is another one
-  others : kept (λ more. not (is_of id data_kind more)) (overflow_in_volume new) ≡ kept (λ more. not (is_of id data_kind more)) (overflow_in_volume old)
-  others = ap (λ (v : VolumeState). kept (λ more. not (is_of id data_kind more)) (overflow_in_volume v)) does.dates.changes.rest ∙ does.puts.puts.others
-
-  special_stays : (low : ℕ) (fork : ForkRecord) → low < 16 → blocks_owned (overflow_in_volume new) (record { id = low; kind = data_kind; fork = fork }) ≡ blocks_owned (overflow_in_volume old) (record { id = low; kind = data_kind; fork = fork })
-  special_stays low fork less = ap blocks_of (extents_alike id data_kind (overflow_in_volume old) (overflow_in_volume new) others low data_kind fork (λ same. absurd (omega (arith, same, less, user))))
-
-  extents_stay : blocks_at new extents_id data_kind ≡ blocks_at old extents_id data_kind
-  unfolding all_forks
-  extents_stay = (λ i. blocks_owned (overflow_in_volume new) (record { id = extents_id; kind = data_kind; fork = (head_is i).extents_fork })) ∙ special_stays extents_id old.head.extents_fork (omega arith)
-
-  catalog_stays : blocks_at new catalog_id data_kind ≡ blocks_at old catalog_id data_kind
-  unfolding all_forks
-  catalog_stays = (λ i. blocks_owned (overflow_in_volume new) (record { id = catalog_id; kind = data_kind; fork = (head_is i).catalog_fork })) ∙ special_stays catalog_id old.head.catalog_fork (omega arith)
-
-  attributes_stay : blocks_at new attributes_id data_kind ≡ blocks_at old attributes_id data_kind
-  unfolding all_forks
-  attributes_stay = (λ i. blocks_owned (overflow_in_volume new) (record { id = attributes_id; kind = data_kind; fork = (head_is i).attributes_fork })) ∙ special_stays attributes_id old.head.attributes_fork (omega arith)
-
-  trees_stay : GrowsTrees (0 ∷ 0 ∷ 0 ∷ []) old new
-  trees_stay = record {
-    extents = record {
-      nodes = omega (arith, ap (λ (v : VolumeState). v.extents_tree.shape.total) does.dates.changes.rest, does.puts.puts.extents_nodes.total);
-      blocks = stays _ _ _ (nothing old.extents_tree.shape.node_size old.head.block_size) extents_stay;
-    };
-    catalog = record {
-      nodes = omega (arith, does.dates.changes.nodes.total, does.puts.puts.catalog_nodes.total);
-      blocks = stays _ _ _ (nothing old.catalog_tree.shape.node_size old.head.block_size) catalog_stays;
-    };
-    attributes = record {
-      nodes = omega (
-        arith,
-        ap (λ (v : VolumeState). v.attributes_tree.shape.total) does.dates.changes.rest,
-        ap (λ (v : VolumeState). v.attributes_tree.shape.total) does.puts.puts.rest,
-      );
-      blocks = stays _ _ _ (nothing old.attributes_tree.shape.node_size old.head.block_size) attributes_stay;
-    };
-  }
-
-  journal_is : new.journal ≡ old.journal
-  journal_is = ap (λ (v : VolumeState). v.journal) does.dates.changes.rest ∙ ap (λ (v : VolumeState). v.journal) does.puts.puts.rest
-
-  values_stay : SameValues old new
-  values_stay id name = ap (λ (l : List Pair). value_blocks (map attribute_of l) id name) (ap (λ (v : VolumeState). v.attribute_pairs) does.dates.changes.rest ∙ ap (λ (v : VolumeState). v.attribute_pairs) does.puts.puts.rest)
-
-  flags_are : new.head.attributes ≡ old.head.attributes
-  flags_are = ap (λ (h : VolumeHeader). h.attributes) head_is
-
-  numbers_are : IsSame old.head new.head
-  numbers_are = subst (λ (h : VolumeHeader). IsSame old.head h) (sym head_is) (same_numbers does.puts.free does.puts.next old.head)
+use Rattle.volume_space.proofs.Rewritten.{flags_are, journal_is, numbers_are, trees_stay, values_stay}
 
 -- ---- a command that put data
 
@@ -149,7 +68,7 @@ module _ (capacity number : ℕ) (asked : Command) (before after : Content) (sou
     comes =
         let it = lists fine in
         record {
-          is = λ line spells. record {
+          is = λ own line spells. record {
             sound_before = sound_before;
             sound_after = sound_after;
             is = inl (record {
@@ -161,9 +80,9 @@ module _ (capacity number : ℕ) (asked : Command) (before after : Content) (sou
                   load = affords.load;
                   affords = affords.affords;
                   no_surplus = ap (needs_cut (volume_of before)) it.is_asked ∙ it.no_cut;
-                  grows = trees_stay it.put.id _ _ it.fresh (volume_of before) (volume_of after) it.rewrites it.user;
+                  grows = trees_stay it.put.id data_kind _ _ it.fresh (volume_of before) (volume_of after) it.rewrites it.user;
                   forks = subst (λ d. PutsInFork d (volume_of before) (volume_of after)) (sym it.is_asked) it.forks;
-                  values = values_put (tree_of before) asked (volume_of before) (volume_of after) it.put it.is_asked (values_stay it.put.id _ _ it.fresh (volume_of before) (volume_of after) it.rewrites it.user);
+                  values = values_put (tree_of before) asked (volume_of before) (volume_of after) it.put it.is_asked (values_stay it.put.id data_kind _ _ it.fresh (volume_of before) (volume_of after) it.rewrites it.user);
                   reads = λ rests. absurd (true≢false (sym rests ∙ works));
                 },
               );
@@ -179,9 +98,9 @@ module _ (capacity number : ℕ) (asked : Command) (before after : Content) (sou
     put_place =
         let it = lists fine in
         record {
-          journal = journal_is it.put.id _ _ it.fresh (volume_of before) (volume_of after) it.rewrites it.user;
-          locked = ap is_locked (flags_are it.put.id _ _ it.fresh (volume_of before) (volume_of after) it.rewrites it.user);
-          heading = numbers_are it.put.id _ _ it.fresh (volume_of before) (volume_of after) it.rewrites it.user;
+          journal = journal_is it.put.id data_kind _ _ it.fresh (volume_of before) (volume_of after) it.rewrites it.user;
+          locked = ap is_locked (flags_are it.put.id data_kind _ _ it.fresh (volume_of before) (volume_of after) it.rewrites it.user);
+          heading = numbers_are it.put.id data_kind _ _ it.fresh (volume_of before) (volume_of after) it.rewrites it.user;
         }
 
 -- ---- what watchers are told

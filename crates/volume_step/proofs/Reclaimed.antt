@@ -84,7 +84,7 @@ module _ (id : ℕ) (old new : VolumeState) (sound : IsSoundVolume old) (shaped 
 
 -- ---- a cut
 
-cut_place : (before after : Content) → KeepsTrees (volume_of before) (volume_of after) → KeepsJournal before after
+pub cut_place : (before after : Content) → KeepsTrees (volume_of before) (volume_of after) → KeepsJournal before after
 unfolding volume_of
 cut_place before after keeps = record {
   journal = keeps.journal;

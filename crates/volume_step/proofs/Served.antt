@@ -1,10 +1,9 @@
 -- What a command came to, as the entry of whichever line spells it.
 use Rattle.std.proofs.Common.{◌≡◌, ◌⊎◌, ⊎_elim, ℕ, Bool, true, false, List, [], ◌∷◌, inl, inr, refl, sym, ◌∙◌, ap, subst}
-use Rattle.std.specs.Prelude.{◌||◌, IsTrue, None, Result, Ok, Err, drop, map, take, if◌then◌else◌}
+use Rattle.std.specs.Prelude.{◌||◌, IsTrue, None, Result, Ok, Err, drop, map, take, if◌then◌else◌, Option, Some}
 use Rattle.std.proofs.lemmas.Bool.{true≢false}
 use Rattle.jnl_format.specs.Recovery.{Content}
 use Rattle.volume_header.specs.Refusal.{is_locked}
-use Rattle.hfs_language.specs.Language.{command_of}
 use Rattle.hfs_language.specs.declared.command.Command.{Command}
 use Rattle.hfs_language.specs.declared.command.Command.TheVariants as command
 use Rattle.hfs_language.specs.declared.refusal.Refusal.{Refusal}
@@ -13,17 +12,19 @@ use Rattle.hfs_language.specs.declared.reply.Change.{Change}
 use Rattle.hfs_language.specs.declared.reply.Reply.{Reply}
 use Rattle.hfs_language.specs.declared.reply.Reply.TheVariants as reply
 use Rattle.hfs_model.specs.Step.{Place, Step, facts_of, is_private, is_refusal, linked, listed, listed_attribute, made, marked, moved_over, on, only_reads, refuses, removed, removed_folder, resized, step, step_line, to_attribute, to_folder, to_link, to_make, to_mv, to_node, to_read, to_rm, to_rmdir, to_set, to_trunc, to_value, to_write, written}
-use Rattle.hfs_model.specs.Plain.{entries_in, with_attribute, with_changed, without_attribute}
+use Rattle.hfs_model.specs.Plain.{entries_in, with_attribute, with_changed, with_mode, without_attribute}
 use Rattle.hfs_model.specs.declared.plain.PlainAttribute.{PlainAttribute}
 use Rattle.hfs_model.specs.declared.plain.PlainEntry.{PlainEntry}
 use Rattle.hfs_model.specs.declared.plain.PlainNode.{PlainNode}
 use Rattle.hfs_model.specs.declared.plain.PlainTree.{PlainTree}
+use Rattle.hfs_volume.specs.declared.asked.Asked.{Asked}
+use Rattle.hfs_volume.specs.declared.asked.Asked.TheVariants.{Kind, Plain}
 use Rattle.hfs_volume.specs.Content.{VolumeState, volume_of}
 use Rattle.hfs_volume.specs.Cost.{cost_of}
 use Rattle.hfs_volume.specs.Data.{PutsInFork, PutsInValues}
-use Rattle.volume_runs.specs.Run.{DoesLine, Entry, IsAnswered, IsDone, LacksResource, is_ok, reply_to}
+use Rattle.volume_runs.specs.Run.{DoesLine, Entry, IsAnswered, IsDone, LacksResource, is_ok, reply_to, spelled, IsServedBy, asked_in, wanted_in}
 use Rattle.hfs_volume.specs.Sound.{IsSound}
-use Rattle.volume_runs.specs.Told.{changes_of}
+use Rattle.volume_runs.specs.Told.{changes_asked, changes_of}
 use Rattle.hfs_volume.specs.TreeOf.{tree_of}
 use Rattle.hfs_volume.specs.Weight.{changes_nothing, cut_cost, data_of, edits_of, free_blocks, lacks_tree, needs_cut, needs_for, room_with, values_of, weight, weight_with, with_values}
 use Rattle.hfs_volume.specs.declared.cost.Cost.TheVariants as cost
@@ -73,7 +74,7 @@ step_is tree (command.Mv from to) unread = on_is tree (λ (pair : PlainEntry × 
 step_is tree (command.Ln from to) unread = on_is tree (λ (pair : PlainNode × Place). linked pair.0 pair.1 tree) (to_link tree from to)
 step_is tree (command.Write path from value) unread = on_is tree (λ (file : PlainNode). written file from value tree) (to_write tree path from value)
 step_is tree (command.Trunc path size) unread = on_is tree (λ (file : PlainNode). resized file size tree) (to_trunc tree path size)
-step_is tree (command.Chmod path mode) unread = on_is tree (λ (node : PlainNode). marked node.id (with_changed node.id (λ old. record old { mode = mode }) tree)) (to_node tree path)
+step_is tree (command.Chmod path mode) unread = on_is tree (λ (node : PlainNode). marked node.id (with_changed node.id (with_mode mode) tree)) (to_node tree path)
 step_is tree (command.SetAttr path name value) unread = on_is tree (λ (node : PlainNode). marked node.id (with_changed node.id (with_attribute name value) tree)) (to_set tree path value)
 step_is tree (command.DelAttr path name) unread = on_is tree (λ (pair : PlainNode × PlainAttribute). marked pair.0.id (with_changed pair.0.id (without_attribute name) tree)) (to_attribute tree path name)
 step_is tree (command.At moment) unread = inr (record tree { moment = moment }, refl)
@@ -188,24 +189,31 @@ pub record IsDecided (capacity : ℕ) (entry : Entry) : Type 0 where
 
 -- what an entry may be, of a command that a line spells
 pub record Comes (capacity : ℕ) (asked : Command) (said : Reply) (before after : Content) : Type 0 where
-  pub is : (line : List ℕ) → command_of line ≡ Ok asked → IsDecided capacity (record { line = line; reply = said; before = before; after = after })
+  pub is : (own : Option Asked) (line : List ℕ) → asked_in own line ≡ Ok asked → IsDecided capacity (record { line = line; own = own; reply = said; before = before; after = after })
+
+-- a command of the plain language is served as one
+served_by : (capacity : ℕ) (own : Option Asked) (line : List ℕ) (asked : Command) (entry : Entry) → asked_in own line ≡ Ok asked → IsAnswered capacity entry ⊎ LacksResource capacity entry → IsServedBy capacity own entry
+served_by capacity None line asked entry spells it = ⊎_elim (λ one. inl one) (λ two. inr (inl two)) it
+served_by capacity (Some (Plain other)) line asked entry spells it = ⊎_elim (λ one. inl one) (λ two. inr (inl two)) it
+served_by capacity (Some (Kind other)) line asked entry spells it = absurd (let no : Err refusal.BadCommand ≡ Ok asked = spells in cc no)
+
+wanted_is : (own : Option Asked) (line : List ℕ) (asked : Command) → asked_in own line ≡ Ok asked → wanted_in own line ≡ Some (Plain asked)
+wanted_is None line asked spells = ap spelled spells
+wanted_is (Some (Plain other)) line asked spells = ap (λ (r : Result Command Refusal). spelled r) spells
+wanted_is (Some (Kind other)) line asked spells = absurd (let no : Err refusal.BadCommand ≡ Ok asked = spells in cc no)
 
 module _ (capacity number : ℕ) (asked : Command) (said : Reply) (before after : Content) where
   -- with what watchers are told
   pub steps : Comes capacity asked said before after → (changes : List Change) → changes ≡ changes_told number (tree_of before) asked said → StepsTo (outcome.Answered said changes) capacity number asked before after
-  steps comes changes told line spells =
-      let it = comes.is line spells in
+  steps comes changes told own line spells =
+      let it = comes.is own line spells in
       record {
         served = record {
-          served = record { sound_before = it.sound_before; sound_after = it.sound_after; is = ⊎_elim (λ one. inl one) (λ two. inr (inl two)) it.is };
-          told = told ∙ sym (ap (λ (it : Result Command Refusal). if is_ok said then changes_asked it else []) spells);
+          served = record { sound_before = it.sound_before; sound_after = it.sound_after; is = served_by capacity own line asked (record { line = line; own = own; reply = said; before = before; after = after }) spells it.is };
+          told = told ∙ sym (ap (λ (it : Option Asked). if is_ok said then changes_asked number (tree_of before) it else []) (wanted_is own line asked spells));
         };
         decided = it.is;
       }
-    where
-      changes_asked : Result Command Refusal → List Change
-      changes_asked (Ok it) = changes_of number (tree_of before) it
-      changes_asked (Err why) = []
 
 -- a command that reads leaves every value its blocks
 values_read : (tree : PlainTree) (asked : Command) (volume : VolumeState) → only_reads asked ≡ true → PutsInValues tree asked volume volume
@@ -240,7 +248,7 @@ module _ (capacity : ℕ) (asked : Command) (before : Content) (sound : IsSound 
   -- a refusal, of the step or for want of a resource
   pub refused : (why : Refusal) → only_reads asked ≡ false → IsJudged (verdict.Refused why) capacity asked before → Comes capacity asked (reply.No why) before before
   refused why no_read (inl is) = record {
-    is = λ line spells. record {
+    is = λ own line spells. record {
       sound_before = sound;
       sound_after = sound;
       is = inl (record {
@@ -251,7 +259,7 @@ module _ (capacity : ℕ) (asked : Command) (before : Content) (sound : IsSound 
     };
   }
   refused why no_read (inr lacks) = record {
-    is = λ line spells. record {
+    is = λ own line spells. record {
       sound_before = sound;
       sound_after = sound;
       is = inr (record { asked = asked; is_asked = spells; no_refusal = lacks.0; why = why; weighs = lacks.1; reply_is = refl; same = refl });
@@ -261,7 +269,7 @@ module _ (capacity : ℕ) (asked : Command) (before : Content) (sound : IsSound 
   -- a command that reads
   pub tells : (said : Reply) → only_reads asked ≡ true → said ≡ reply_to capacity before (Ok asked) → Comes capacity asked said before before
   tells said reads is = record {
-    is = λ line spells. record {
+    is = λ own line spells. record {
       sound_before = sound;
       sound_after = sound;
       is = inl (record {
@@ -294,7 +302,7 @@ module _ (capacity : ℕ) (asked : Command) (before : Content) (sound : IsSound 
 pub done_as : (capacity : ℕ) (asked : Command) (said : Reply) (before after : Content) → IsSound before → IsSound after → only_reads asked ≡ false → (IsTrue (only_reads asked || changes_nothing (tree_of before) asked) → after ≡ before) → data_of (tree_of before) asked ≡ None → Affords capacity asked before
     → said ≡ (step_line (tree_of before) (Ok asked)).0 → tree_of after ≡ (step_line (tree_of before) (Ok asked)).1 → KeepsForks (volume_of before) (volume_of after) → PutsInValues (tree_of before) asked (volume_of before) (volume_of after) → Comes capacity asked said before after
 done_as capacity asked said before after sound_before sound_after no_read still no_put affords reply_is tree keeps values = record {
-  is = λ line spells. record {
+  is = λ own line spells. record {
     sound_before = sound_before;
     sound_after = sound_after;
     is = inl (record {

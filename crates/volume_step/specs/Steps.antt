@@ -4,16 +4,17 @@ use Rattle.std.specs.List.{Contains}
 use Rattle.jnl_format.specs.Keeping.{IsSame}
 use Rattle.jnl_format.specs.Recovery.{Content, header_of_volume}
 use Rattle.volume_header.specs.Refusal.{is_locked}
-use Rattle.hfs_language.specs.Language.{command_of}
 use Rattle.hfs_language.specs.declared.command.Command.{Command}
 use Rattle.hfs_language.specs.declared.command.Command.TheVariants as command
 use Rattle.hfs_language.specs.declared.reply.Change.{Change}
 use Rattle.hfs_language.specs.declared.reply.Reply.TheVariants as reply
 use Rattle.hfs_model.specs.Step.{refuses, step_line}
+use Rattle.hfs_volume.specs.declared.asked.Asked.{Asked}
 use Rattle.hfs_volume.specs.Content.{volume_of}
+use Rattle.hfs_volume.specs.Forks.{data_kind}
 use Rattle.hfs_volume.specs.Reclaim.{CutsSurplus, FillsZeros, GrowsTrees, KeepsTree, SameFiles, SameValues, first_growth}
 use Rattle.volume_runs.specs.Rest.{cut_puts, file_written}
-use Rattle.volume_runs.specs.Run.{Entry, IsAnswered, IsServed, LacksResource, is_ok, or_before, shrunk_by}
+use Rattle.volume_runs.specs.Run.{Entry, IsAnswered, IsServed, LacksResource, is_ok, or_before, shrunk_by, asked_in}
 use Rattle.volume_runs.specs.Told.{changes_by}
 use Rattle.hfs_volume.specs.TreeOf.{tree_of}
 use Rattle.hfs_volume.specs.Weight.{Data, data_of, edits_of, free_blocks, most_zeros, needs_cut, room_with, values_of, weight, weight_with, zero_blocks}
@@ -64,6 +65,7 @@ pub record CutsFirst (capacity : ℕ) (asked : Command) (before after : Content)
   pub needs : needs_cut (volume_of before) (data_of (tree_of before) asked) ≡ true
   pub cuts : CutsSurplus capacity before after
   pub file : file_written (data_of (tree_of before) asked) ≡ Some cuts.id
+  pub fork : cuts.kind ≡ data_kind
 
 -- The step doesn't refuse the command, and nothing is missing for it, but trees have to grow ahead of it: the first of them has grown, by just as
 -- many nodes as the cost says.
@@ -88,17 +90,17 @@ pub record FillsFirst (capacity : ℕ) (asked : Command) (before after : Content
   pub many : most_zeros < zero_blocks (volume_of before).head.block_size (tree_of before) asked
   pub fills : FillsZeros before after
 
--- what a command came to: the entry of each line that spells it is one of a run; or nothing was changed; or a cut, the growth of a tree or zero blocks went first
+-- what a command came to: its entry is one of a run, by each line that spells it and by none; or nothing was changed; or a cut, the growth of a tree or zero blocks went first
 abbrev pub StepsTo : Outcome → ℕ → ℕ → Command → Content → Content → Type 0
 StepsTo (outcome.Answered reply changes) capacity number asked before after =
-    (line : List ℕ) → command_of line ≡ Ok asked → IsSteppedAs capacity number changes (record { line = line; reply = reply; before = before; after = after })
+    (own : Option Asked) (line : List ℕ) → asked_in own line ≡ Ok asked → IsSteppedAs capacity number changes (record { line = line; own = own; reply = reply; before = before; after = after })
 StepsTo outcome.CommitFirst capacity number asked before after = after ≡ before
 StepsTo outcome.Again capacity number asked before after = CutsFirst capacity asked before after ⊎ (GrowsFirst capacity asked before after ⊎ FillsFirst capacity asked before after)
 
 -- what a command comes to ahead of which nothing goes: it was answered, or nothing was changed
 abbrev pub StepsNow : Outcome → ℕ → ℕ → Command → Content → Content → Type 0
 StepsNow (outcome.Answered reply changes) capacity number asked before after =
-    (line : List ℕ) → command_of line ≡ Ok asked → IsSteppedAs capacity number changes (record { line = line; reply = reply; before = before; after = after })
+    (own : Option Asked) (line : List ℕ) → asked_in own line ≡ Ok asked → IsSteppedAs capacity number changes (record { line = line; own = own; reply = reply; before = before; after = after })
 StepsNow outcome.CommitFirst capacity number asked before after = after ≡ before
 StepsNow outcome.Again capacity number asked before after = ⊥
 

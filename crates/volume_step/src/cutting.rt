@@ -6,6 +6,7 @@ ghost use Rattle.btree_edit.specs.Causes.{HasTroubleCause};
 ghost use Rattle.hfs_language.specs.Written.{FitsCommand};
 ghost use Rattle.hfs_model.specs.Step.{only_reads};
 ghost use Rattle.hfs_volume.specs.Content.{volume_of};
+ghost use Rattle.hfs_volume.specs.Forks.{data_kind};
 ghost use Rattle.volume_space.specs.CuttingAhead.{CutsAhead, IsShortCut, TakesCutLoad};
 ghost use Rattle.volume_weights.specs.DataWeighing.{WaitsForCut};
 ghost use Rattle.volume_base.specs.Frame.{Serves};
@@ -24,12 +25,11 @@ ghost use Rattle.volume_step.specs.declared.outcome.Outcome.TheVariants as outco
 use crate::answering::refusal;
 use crate::outcome::Outcome;
 use hfs_language::Command;
-use hfs_volume::soundness_has_two_halves;
 use hx_bytes::Trouble;
 use sector_disk::SectorSpace;
 use std::alloc::Global;
-use volume_base::Volume;
-use volume_space::{CutAhead, cut_ahead};
+use volume_base::{ForkKind, Volume};
+use volume_space::{CutAhead, cut_fork_ahead};
 
 /// Up to where a command puts data, where it may put some.
 fn data_end(command: &Command) -> Option<u128>
@@ -66,15 +66,29 @@ fn cut_for<P: SectorSpace>(
 ) -> Result<CutAhead, Trouble>
     requires serves { Serves volume.old (P.SectorView.space space.old) }
     requires fits { FitsCommand command.now }
-    ensures came { IsTrue (P.SectorView.space space.old).tells → IfOk result (λ came. CutsAhead came (capacity_of volume.old) (data_path command.now) end (P.SectorView.space space.old).content (P.SectorView.space space.new).content) }
+    ensures came { IsTrue (P.SectorView.space space.old).tells → IfOk result (λ came. CutsAhead came (capacity_of volume.old) data_kind (data_path command.now) end (P.SectorView.space space.old).content (P.SectorView.space space.new).content) }
     ensures short { IsTrue (P.SectorView.space space.old).tells → IfOk result (λ came. IsShortCut came (capacity_of volume.old) (P.SectorView.space space.old).spare (volume_of (P.SectorView.space space.old).content)) }
     ensures loads { IsTrue (P.SectorView.space space.old).tells → TakesCutLoad (capacity_of volume.old) (volume_of (P.SectorView.space space.old).content) (P.SectorView.space space.old).spare (P.SectorView.space space.new).spare }
     ensures frees { Frees P.SectorView.space P.SectorView.follows volume.old volume.new space.old space.new result }
     ensures serves { OnOk result (Serves volume.new (P.SectorView.space space.new)) }
 {
     match command {
-        Command::Write { path, .. } => cut_ahead(volume, alloc, space, path, end),
-        Command::Trunc { path, .. } => cut_ahead(volume, alloc, space, path, end),
+        Command::Write { path, .. } => cut_fork_ahead(
+            volume,
+            alloc,
+            space,
+            path,
+            ForkKind::Data,
+            end,
+        ),
+        Command::Trunc { path, .. } => cut_fork_ahead(
+            volume,
+            alloc,
+            space,
+            path,
+            ForkKind::Data,
+            end,
+        ),
         _ => Err(Trouble::Memory),
     }
 }
@@ -113,7 +127,6 @@ fn cut_up_to<P: SectorSpace>(
     ensures below { P.SectorView.follows space.old space.new }
     ensures cause { HasTroubleCause (P.SectorView.space space.old).faults (P.SectorView.space space.new).faults result }
 {
-    soundness_has_two_halves();
     let came = cut_for(alloc, volume, space, command, end)?;
     volume.filling = None;
     Ok(outcome_of(alloc, came))

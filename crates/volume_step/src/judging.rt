@@ -23,7 +23,7 @@ use volume_weights::weigh;
 
 /// Whether a command may be done now.
 #[derive(Clone, Copy)]
-pub(crate) enum Verdict {
+pub enum Verdict {
     /// Its step refuses it, or a resource is missing.
     Refused(Refusal),
     /// Blocks past the size of the file that it puts data into go first.
@@ -73,7 +73,7 @@ fn growth_or(grow: [u32; 3], otherwise: Verdict) -> Verdict
 }
 
 /// What a weight comes to, where so many sectors may be put.
-fn verdict_of(weight: Weight, spare: u64) -> Verdict
+pub fn verdict_of(weight: Weight, spare: u64) -> Verdict
     ensures { result ≡ verdict_of weight spare }
 {
     match weight {

@@ -16,6 +16,7 @@ mod resizing;
 mod stepping;
 mod tidying;
 
+pub use judging::{Verdict, verdict_of};
 pub use outcome::Outcome;
 pub use stepping::step;
 pub use tidying::tidy;

@@ -10,8 +10,8 @@ ghost use Rattle.fork_map.specs.Blocks.{blocks_of};
 ghost use Rattle.hfs_volume.specs.Entries.{AreSpelled};
 ghost use Rattle.hfs_volume.specs.Records.{is_thread};
 ghost use Rattle.volume_base.specs.Attributing.{MarksEntry, marked_fields, with_attribute_flag, with_mark};
-ghost use Rattle.volume_base.specs.Changing.{HasRoomToUpdate, catalog_node};
-ghost use Rattle.volume_base.specs.Frame.{Edits, Ran};
+ghost use Rattle.volume_base.specs.Changing.{catalog_node};
+ghost use Rattle.volume_base.specs.Frame.{Edits, MayUpdate, Ran};
 ghost use Rattle.volume_base.specs.Giving.{takes_some, trade_load};
 ghost use Rattle.volume_base.specs.Holding.{KeepsUsed};
 ghost use Rattle.volume_base.specs.Lists.{lists_of};
@@ -72,12 +72,8 @@ pub(crate) fn put_mark<P: SectorSpace>(
     entry: &Entry,
     has: bool,
 ) -> Result<(), Trouble>
-    requires stands { StandsOver volume.old (P.SectorView.space space.old) }
-    requires spelled { IsTrue (P.SectorView.space space.old).tells → AreSpelled (lists_of volume.old (P.SectorView.space space.old).content).catalog_pairs }
-    requires name { length entry.now.name ≤ 255 }
-    requires there { IsTrue (P.SectorView.space space.old).tells → value_at (lists_of volume.old (P.SectorView.space space.old).content).catalog_pairs entry.now.parent entry.now.name ≡ Some entry.now.rec }
+    requires ready { MayUpdate volume.old entry.now (P.SectorView.space space.old) }
     requires fits { is_thread entry.now.rec ≡ false → FitsRecord entry.now.rec }
-    requires room { HasRoomToUpdate volume.old (P.SectorView.space space.old) }
     // Nothing else of it is changed.
     ensures rest { volume.new ≡ record volume.old { catalog = volume.new.catalog } }
     ensures marks { IsTrue (P.SectorView.space space.old).tells → is_thread entry.now.rec ≡ false

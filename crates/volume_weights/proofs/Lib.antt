@@ -7,3 +7,4 @@ pub mod LinkWeight
 pub mod LoseWeight
 pub mod MoveWeight
 pub mod OverWeight
+pub mod TargetNeeds

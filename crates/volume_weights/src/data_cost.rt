@@ -5,12 +5,13 @@ ghost use Rattle.flag_rows.specs.Runs.{fewest_of};
 ghost use Rattle.hfs_model.specs.declared.plain.PlainNode.{PlainNode};
 ghost use Rattle.hfs_volume.specs.Content.{volume_of, records_of, overflow_in_volume};
 ghost use Rattle.hfs_volume.specs.Cost.{cost_of};
-ghost use Rattle.hfs_volume.specs.Forks.{data_kind, extents_of};
+ghost use Rattle.hfs_volume.specs.Forks.{extents_of};
 ghost use Rattle.hfs_volume.specs.TreeOf.{tree_of};
-ghost use Rattle.hfs_volume.specs.Weight.{file_blocks, file_extents, free_runs, needs_cut, new_blocks_of, old_blocks_of, room_with};
+ghost use Rattle.hfs_volume.specs.Weight.{file_blocks, file_extents, free_runs, needs_cut_in, new_blocks_of, old_blocks_of, room_with};
 ghost use Rattle.volume_cost.specs.Sizes.{AreSmall};
-ghost use Rattle.volume_weights.specs.DataWeighing.{IsFileOfPut, are_usual, file_of_record, has_more, needs_put};
-ghost use Rattle.volume_base.specs.DataWeighing.{data_as, data_weighed};
+ghost use Rattle.volume_weights.specs.DataWeighing.{IsFileOfPut, are_usual, bytes_at, file_of_record, has_more, needs_put};
+ghost use Rattle.volume_base.specs.Cutting.{fork_at, kind_of};
+ghost use Rattle.volume_base.specs.DataWeighing.{data_as, data_weighed_in};
 ghost use Rattle.volume_base.specs.Frame.{Looked, Serves};
 ghost use Rattle.volume_base.specs.Reading.{HasFile};
 ghost use Rattle.volume_base.specs.Room.{capacity_of, free_in};
@@ -26,19 +27,20 @@ use sector_disk::SectorSpace;
 use std::alloc::Global;
 use tree_weights::trees_grow_by_enough;
 use volume_base::{
-    DATA, FreeBlocks, Put, Volume, Weight, count_extents, is_measured, load_extents,
+    ForkKind, FreeBlocks, Put, Volume, Weight, count_extents, fork_of, is_measured, load_extents,
+    number_of,
 };
 use volume_cost::{cost, count_blocks, count_extents_edits};
 
 /// Whether blocks have a usual size, and the file and its data have sizes that files have.
-fn are_usual(block: u32, put: Put) -> bool
+pub(crate) fn are_usual(block: u32, put: Put) -> bool
     ensures { result ≡ are_usual block put }
 {
     512 <= block && (put.old_size <= 281_474_976_710_656 && put.end <= 1_099_511_627_776)
 }
 
 /// How many new blocks data takes, and in place of how many old ones.
-fn blocks_of_put(block: u32, put: Put) -> (u64, u64)
+pub(crate) fn blocks_of_put(block: u32, put: Put) -> (u64, u64)
     requires usual { are_usual block put ≡ true }
     ensures new { result.0 ≡ new_blocks_of block (data_as put) }
     ensures old { result.1 ≡ old_blocks_of block (data_as put) }
@@ -118,6 +120,7 @@ fn cost_of_put<P: SectorSpace>(
 fn weigh_fork<P: SectorSpace>(
     volume: &Volume,
     space: &P,
+    _kind: ForkKind,
     extents: u32,
     held: u32,
     put: Put,
@@ -125,11 +128,11 @@ fn weigh_fork<P: SectorSpace>(
     requires serves { Serves volume.now (P.SectorView.space space.now) }
     requires old { IsTrue (P.SectorView.space space.now).tells → put.old_size ≤ 2 ^ 48 }
     requires end { put.end ≤ 2 ^ 40 }
-    requires extents { IsTrue (P.SectorView.space space.now).tells → extents ≡ min (length (file_extents (volume_of (P.SectorView.space space.now).content) put.id data_kind)) 4294967295 }
-    requires held { IsTrue (P.SectorView.space space.now).tells → held ≡ length (file_blocks (volume_of (P.SectorView.space space.now).content) put.id data_kind) }
-    ensures answer { IsTrue (P.SectorView.space space.now).tells → IfSome result (λ weighs. weighs ≡ data_weighed (capacity_of volume.now) (free_in blocks.Takable volume.now.map) (volume_of (P.SectorView.space space.now).content) (data_as put)) }
-    ensures no_cut { IsTrue (P.SectorView.space space.now).tells → is_some result ≡ true → needs_cut (volume_of (P.SectorView.space space.now).content) (Some (data_as put)) ≡ false }
-    ensures waits { IsTrue (P.SectorView.space space.now).tells → is_some result ≡ false → needs_cut (volume_of (P.SectorView.space space.now).content) (Some (data_as put)) ≡ true }
+    requires extents { IsTrue (P.SectorView.space space.now).tells → extents ≡ min (length (file_extents (volume_of (P.SectorView.space space.now).content) put.id (kind_of _kind))) 4294967295 }
+    requires held { IsTrue (P.SectorView.space space.now).tells → held ≡ length (file_blocks (volume_of (P.SectorView.space space.now).content) put.id (kind_of _kind)) }
+    ensures answer { IsTrue (P.SectorView.space space.now).tells → IfSome result (λ weighs. weighs ≡ data_weighed_in (kind_of _kind) (capacity_of volume.now) (free_in blocks.Takable volume.now.map) (volume_of (P.SectorView.space space.now).content) (data_as put)) }
+    ensures no_cut { IsTrue (P.SectorView.space space.now).tells → is_some result ≡ true → needs_cut_in (kind_of _kind) (volume_of (P.SectorView.space space.now).content) (Some (data_as put)) ≡ false }
+    ensures waits { IsTrue (P.SectorView.space space.now).tells → is_some result ≡ false → needs_cut_in (kind_of _kind) (volume_of (P.SectorView.space space.now).content) (Some (data_as put)) ≡ true }
 {
     // A space that tells its sectors has a volume with usual numbers.
     if !are_usual(volume.header.block_size, put) {
@@ -143,16 +146,17 @@ fn weigh_fork<P: SectorSpace>(
     Some(joined(all, takable))
 }
 
-/// The extents of a file's data fork.
-fn load_data_fork<P: SectorSpace>(
+/// The extents of a file's fork.
+fn load_fork<P: SectorSpace>(
     volume: &mut Volume,
     alloc: Global,
     space: &mut P,
     file: &FileRecord,
+    kind: ForkKind,
 ) -> Result<ExtentList, Trouble>
     requires serves { Serves volume.old (P.SectorView.space space.old) }
     requires there { IsTrue (P.SectorView.space space.old).tells → HasFile (records_of (volume_of (P.SectorView.space space.old).content)) file.now }
-    ensures list { IsTrue (P.SectorView.space space.old).tells → IfOk result (λ list. list ≡ extents_of (overflow_in_volume (volume_of (P.SectorView.space space.old).content)) file.now.fields.id data_kind file.now.data_fork) }
+    ensures list { IsTrue (P.SectorView.space space.old).tells → IfOk result (λ list. list ≡ extents_of (overflow_in_volume (volume_of (P.SectorView.space space.old).content)) file.now.fields.id (kind_of kind) (fork_at (kind_of kind) file.now)) }
     ensures looked { Looked P.SectorView.space P.SectorView.follows volume.old volume.new space.old space.new result }
     ensures serves { Serves volume.new (P.SectorView.space space.new) }
 {
@@ -162,8 +166,8 @@ fn load_data_fork<P: SectorSpace>(
         &mut volume.extents.desk,
         space,
         file.fields.id,
-        DATA,
-        &file.data_fork,
+        number_of(kind),
+        &fork_of(kind, file),
     )
 }
 
@@ -173,20 +177,28 @@ fn weigh_file<P: SectorSpace>(
     alloc: Global,
     space: &mut P,
     file: &FileRecord,
+    kind: ForkKind,
     put: Put,
 ) -> Result<Option<Weight>, Trouble>
     requires serves { Serves volume.old (P.SectorView.space space.old) }
     requires end { put.end ≤ 2 ^ 40 }
-    requires there { IsTrue (P.SectorView.space space.old).tells → IsFileOfPut (volume_of (P.SectorView.space space.old).content) file.now put }
-    ensures answer { IsTrue (P.SectorView.space space.old).tells → IfOk result (λ said. IfSome said (λ weighs. weighs ≡ data_weighed (capacity_of volume.old) (free_in blocks.Takable volume.old.map) (volume_of (P.SectorView.space space.old).content) (data_as put))) }
-    ensures no_cut { IsTrue (P.SectorView.space space.old).tells → IfOk result (λ said. is_some said ≡ true → needs_cut (volume_of (P.SectorView.space space.old).content) (Some (data_as put)) ≡ false) }
-    ensures waits { IsTrue (P.SectorView.space space.old).tells → IfOk result (λ said. is_some said ≡ false → needs_cut (volume_of (P.SectorView.space space.old).content) (Some (data_as put)) ≡ true) }
+    requires there { IsTrue (P.SectorView.space space.old).tells → IsFileOfPut (kind_of kind) (volume_of (P.SectorView.space space.old).content) file.now put }
+    ensures answer { IsTrue (P.SectorView.space space.old).tells → IfOk result (λ said. IfSome said (λ weighs. weighs ≡ data_weighed_in (kind_of kind) (capacity_of volume.old) (free_in blocks.Takable volume.old.map) (volume_of (P.SectorView.space space.old).content) (data_as put))) }
+    ensures no_cut { IsTrue (P.SectorView.space space.old).tells → IfOk result (λ said. is_some said ≡ true → needs_cut_in (kind_of kind) (volume_of (P.SectorView.space space.old).content) (Some (data_as put)) ≡ false) }
+    ensures waits { IsTrue (P.SectorView.space space.old).tells → IfOk result (λ said. is_some said ≡ false → needs_cut_in (kind_of kind) (volume_of (P.SectorView.space space.old).content) (Some (data_as put)) ≡ true) }
     ensures looked { Looked P.SectorView.space P.SectorView.follows volume.old volume.new space.old space.new result }
     ensures serves { Serves volume.new (P.SectorView.space space.new) }
 {
-    let list = load_data_fork(volume, alloc, space, file)?;
+    let list = load_fork(volume, alloc, space, file, kind)?;
     let extents = count_extents(&list);
-    Ok(weigh_fork(volume, space, extents, file.data_fork.total_blocks, put))
+    Ok(weigh_fork(
+        volume,
+        space,
+        kind,
+        extents,
+        fork_of(kind, file).total_blocks,
+        put,
+    ))
 }
 
 /// The record of the file that data is put into.
@@ -194,11 +206,12 @@ fn file_of_put<P: SectorSpace>(
     volume: &mut Volume,
     alloc: Global,
     space: &mut P,
+    kind: ForkKind,
     put: Put,
 ) -> Result<Option<FileRecord>, Trouble>
     requires serves { Serves volume.old (P.SectorView.space space.old) }
-    requires there { IsTrue (P.SectorView.space space.old).tells → (node : PlainNode) × Contains (tree_of (P.SectorView.space space.old).content).nodes node × (node.folder ≡ false) × (node.id ≡ put.id) × (length node.bytes ≡ put.old_size) }
-    ensures found { IsTrue (P.SectorView.space space.old).tells → IfOk result (λ found. IfSome found (λ file. IsFileOfPut (volume_of (P.SectorView.space space.old).content) file put)) }
+    requires there { IsTrue (P.SectorView.space space.old).tells → (node : PlainNode) × Contains (tree_of (P.SectorView.space space.old).content).nodes node × (node.folder ≡ false) × (node.id ≡ put.id) × (length (bytes_at (kind_of kind) node) ≡ put.old_size) }
+    ensures found { IsTrue (P.SectorView.space space.old).tells → IfOk result (λ found. IfSome found (λ file. IsFileOfPut (kind_of kind) (volume_of (P.SectorView.space space.old).content) file put)) }
     ensures some { IsTrue (P.SectorView.space space.old).tells → IfOk result (λ found. is_some found ≡ true) }
     ensures looked { Looked P.SectorView.space P.SectorView.follows volume.old volume.new space.old space.new result }
     ensures serves { Serves volume.new (P.SectorView.space space.new) }
@@ -209,24 +222,25 @@ fn file_of_put<P: SectorSpace>(
     }
 }
 
-/// What data weighs that is put into the file with a CNID; nothing is told where it grows and has blocks past its size.
-pub(crate) fn weigh_put<P: SectorSpace>(
+/// What data weighs that is put into a fork of the file with a CNID; nothing is told where it grows and has blocks past its size.
+pub fn weigh_put<P: SectorSpace>(
     volume: &mut Volume,
     alloc: Global,
     space: &mut P,
+    kind: ForkKind,
     put: Put,
 ) -> Result<Option<Weight>, Trouble>
     requires serves { Serves volume.old (P.SectorView.space space.old) }
     requires end { put.end ≤ 2 ^ 40 }
-    requires there { IsTrue (P.SectorView.space space.old).tells → (node : PlainNode) × Contains (tree_of (P.SectorView.space space.old).content).nodes node × (node.folder ≡ false) × (node.id ≡ put.id) × (length node.bytes ≡ put.old_size) }
-    ensures answer { IsTrue (P.SectorView.space space.old).tells → IfOk result (λ said. IfSome said (λ weighs. weighs ≡ data_weighed (capacity_of volume.old) (free_in blocks.Takable volume.old.map) (volume_of (P.SectorView.space space.old).content) (data_as put))) }
-    ensures no_cut { IsTrue (P.SectorView.space space.old).tells → IfOk result (λ said. is_some said ≡ true → needs_cut (volume_of (P.SectorView.space space.old).content) (Some (data_as put)) ≡ false) }
-    ensures waits { IsTrue (P.SectorView.space space.old).tells → IfOk result (λ said. is_some said ≡ false → needs_cut (volume_of (P.SectorView.space space.old).content) (Some (data_as put)) ≡ true) }
+    requires there { IsTrue (P.SectorView.space space.old).tells → (node : PlainNode) × Contains (tree_of (P.SectorView.space space.old).content).nodes node × (node.folder ≡ false) × (node.id ≡ put.id) × (length (bytes_at (kind_of kind) node) ≡ put.old_size) }
+    ensures answer { IsTrue (P.SectorView.space space.old).tells → IfOk result (λ said. IfSome said (λ weighs. weighs ≡ data_weighed_in (kind_of kind) (capacity_of volume.old) (free_in blocks.Takable volume.old.map) (volume_of (P.SectorView.space space.old).content) (data_as put))) }
+    ensures no_cut { IsTrue (P.SectorView.space space.old).tells → IfOk result (λ said. is_some said ≡ true → needs_cut_in (kind_of kind) (volume_of (P.SectorView.space space.old).content) (Some (data_as put)) ≡ false) }
+    ensures waits { IsTrue (P.SectorView.space space.old).tells → IfOk result (λ said. is_some said ≡ false → needs_cut_in (kind_of kind) (volume_of (P.SectorView.space space.old).content) (Some (data_as put)) ≡ true) }
     ensures looked { Looked P.SectorView.space P.SectorView.follows volume.old volume.new space.old space.new result }
     ensures serves { Serves volume.new (P.SectorView.space space.new) }
 {
-    match file_of_put(volume, alloc, space, put)? {
-        Some(file) => weigh_file(volume, alloc, space, &file, put),
+    match file_of_put(volume, alloc, space, kind, put)? {
+        Some(file) => weigh_file(volume, alloc, space, &file, kind, put),
         None => Ok(None),
     }
 }

@@ -19,7 +19,7 @@ use hfs_volume::sound_has_plain_tree;
 use hx_bytes::Trouble;
 use sector_disk::SectorSpace;
 use std::alloc::Global;
-use volume_base::{Edits, Put, Volume, Weight, against_trunc, against_write};
+use volume_base::{Edits, ForkKind, Put, Volume, Weight, against_trunc, against_write};
 
 /// The place behind the last byte of a value that is written from a place on.
 fn end_of(from: u64, value: &[u8]) -> u64
@@ -72,7 +72,7 @@ fn weigh_size<P: SectorSpace>(
             from: told.size,
             end: size,
         };
-        return weigh_put(volume, alloc, space, put);
+        return weigh_put(volume, alloc, space, ForkKind::Data, put);
     }
     Ok(Some(weigh_update(volume, space)))
 }
@@ -132,7 +132,7 @@ fn weigh_value<P: SectorSpace>(
             from,
             end: end_of(from, value),
         };
-        return weigh_put(volume, alloc, space, put);
+        return weigh_put(volume, alloc, space, ForkKind::Data, put);
     }
     Ok(Some(weigh_update(volume, space)))
 }

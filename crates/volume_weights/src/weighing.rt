@@ -33,7 +33,7 @@ pub(crate) fn joined(all: Cost, takable: Cost) -> Weight
 }
 
 /// What edits weigh: what all free blocks cost, and what those cost that may be taken.
-pub(crate) fn weigh_edits<P: SectorSpace>(volume: &Volume, space: &P, edits: Edits) -> Weight
+pub fn weigh_edits<P: SectorSpace>(volume: &Volume, space: &P, edits: Edits) -> Weight
     requires serves { Serves volume.now (P.SectorView.space space.now) }
     requires tree { IsTrue (P.SectorView.space space.now).tells → 0 < edits.attributes → IsTrue (has_attributes volume.now.header) }
     ensures exact { IsTrue (P.SectorView.space space.now).tells → result ≡ edits_weighed (capacity_of volume.now) (free_in blocks.Takable volume.now.map) (volume_of (P.SectorView.space space.now).content) edits }

@@ -126,7 +126,7 @@ cut_blocks = refl
 
 -- the tree that the commands leave
 abbrev zeros_of : BytesOf
-zeros_of = record { file = λ file. replicate file.data_fork.logical_size 0; value = λ size extents. replicate size 0 }
+zeros_of = record { file = λ file. record { data_bytes = replicate file.data_fork.logical_size 0; resource_bytes = replicate file.resource_fork.logical_size 0 }; value = λ size extents. replicate size 0 }
 
 grown_tree : tree_in grown zeros_of ≡ tree_after fresh_tree (Ok (command.Create (f ∷ [])) ∷ Ok (command.Create (g ∷ [])) ∷ grown_in_turn f g 0 9)
 unfolding number_at number_bytes extents_at extents_bytes fork_bytes entry_of entry_bytes placed_of attribute_of is_seen valued tree_in

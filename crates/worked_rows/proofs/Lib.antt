@@ -4,5 +4,6 @@ mod Grown
 mod Gauges
 mod Weights
 mod Readings
+mod Links
 mod Blocks
 mod Nodes

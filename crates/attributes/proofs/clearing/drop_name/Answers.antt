@@ -1,4 +1,4 @@
-use Rattle.std.proofs.Common.{◌≡◌, ◌≤◌, ◌++◌, length, sym, ◌∙◌, ap, subst}
+use Rattle.std.proofs.Common.{◌≡◌, ◌≤◌, ◌++◌, length, sym, ◌∙◌, ap, subst, arith}
 use Rattle.btree_node.specs.Keys.{IsAttrKey, attr_file, attr_start, attr_units}
 use Rattle.btree_node.specs.Tree.{pairs_of}
 use Rattle.hfs_model.specs.Sorted.{kept}
@@ -9,6 +9,7 @@ use Rattle.attributes.specs.Values.{extents_at}
 use Rattle.attributes.proofs.Answers.{if_ok, on_ok}
 use Rattle.attributes.proofs.Firsts.{dropped_valued}
 use Rattle.attributes.proofs.Removing.{kept_extents}
+use Rattle.attributes.proofs.Framing.{edits_none, edits_upto}
 use Rattle.attributes.proofs.clearing.drop_name.Goals as goal
 
 pub drop_under-requires-clause-form : goal.drop_under-requires-clause-form
@@ -55,3 +56,6 @@ returns-clause-form g c tells =
     let s = g.N.NodeStore.state c.args.store.now in
     let new = g.N.NodeStore.state c.drop_under.new.store in
     on_ok c.drop_under.result (λ all. dropped_valued (attr_file c.as_slice.result.now) (attr_units c.as_slice.result.now) (pairs_of s) (pairs_of new) all.left (c.requires.form tells)) (c.drop_under.ensures.dropped tells)
+
+pub returns-in_err-key-clause-frame : goal.returns-in_err-key-clause-frame
+returns-in_err-key-clause-frame g c = edits_upto c.args.most (edits_none g.N.NodeStore.state g.N.NodeStore.follows 266 c.args.store.now c.requires.ready g.met.N.NodeStore.follows_refl) (omega arith)

@@ -1,13 +1,13 @@
-use Rattle.std.proofs.Common.{◌≡◌, List, sym, subst, ◌∙◌}
-use Rattle.std.specs.Prelude.{[], IsTrue, slice_index_or}
-use Rattle.btree_node.specs.Keys.{attr_file, attr_units}
+use Rattle.std.proofs.Common.{◌≡◌, List, sym, subst, ◌∙◌, arith}
+use Rattle.std.specs.Prelude.{[], IsTrue, slice_index_or, ⊤, Ok}
+use Rattle.btree_node.specs.Keys.{attr_file, attr_units, IsAttrKey, attr_cmp}
 use Rattle.btree_node.specs.Levels.{Pair}
-use Rattle.btree_node.specs.Tree.{pairs_of}
-use Rattle.btree_edit.proofs.EditLaws.{edits_add, takes_both}
+use Rattle.btree_node.specs.Tree.{pairs_of, IsTree}
 use Rattle.attributes.specs.Dropping.{DropsOne, FindsFirst, IsFirstAt, is_named}
 use Rattle.attributes.specs.Values.{AreSpelled}
-use Rattle.attributes.proofs.BeforeEdits.{tree_read, pairs_read, reads_edit_nothing}
+use Rattle.attributes.proofs.BeforeEdits.{tree_read, pairs_read}
 use Rattle.attributes.proofs.Removing.{removal_of_first}
+use Rattle.attributes.proofs.Framing.{edits_read, edits_ok, edits_err, edits_then, ready_again, edits_upto}
 use Rattle.attributes.proofs.dropping.drop_first.Goals as goal
 
 pub returns-in-None-clause-dropped : goal.returns-in-None-clause-dropped
@@ -15,31 +15,13 @@ returns-in-None-clause-dropped g c tells =
     let s = g.N.NodeStore.state c.args.store.now in
     let total = (g.met.N.NodeStore.well_formed c.args.store.now).total in
     let finds = subst (FindsFirst (is_named (attr_file c.args.key.now) (attr_units c.args.key.now)) (pairs_of s) c.args.blocks.now c.first_of.new.blocks) c.in-None.is (c.in_ok-first_of.ensures.found tells) in
-    (pairs_read _ s (g.N.NodeStore.state c.first_of.new.store) c.first_of.ensures.reads tells total (c.requires.tree tells), finds.0, finds.1)
+    (pairs_read _ s (g.N.NodeStore.state c.first_of.new.store) c.first_of.ensures.reads tells total (c.requires.ready.tree tells), finds.0, finds.1)
 
 pub returns-in-None-clause-form : goal.returns-in-None-clause-form
 returns-in-None-clause-form g c tells =
     let s = g.N.NodeStore.state c.args.store.now in
     let total = (g.met.N.NodeStore.well_formed c.args.store.now).total in
-    subst AreSpelled (sym (pairs_read _ s (g.N.NodeStore.state c.first_of.new.store) c.first_of.ensures.reads tells total (c.requires.tree tells))) (c.requires.form tells)
-
-pub returns-in-None-clause-tree : goal.returns-in-None-clause-tree
-returns-in-None-clause-tree g c tells =
-    let s = g.N.NodeStore.state c.args.store.now in
-    tree_read _ s (g.N.NodeStore.state c.first_of.new.store) c.first_of.ensures.reads tells (g.met.N.NodeStore.well_formed c.args.store.now).total (c.requires.tree tells)
-
-pub remove_key-requires-clause-tree : goal.remove_key-requires-clause-tree
-remove_key-requires-clause-tree g c tells_read =
-    let s = g.N.NodeStore.state c.args.store.now in
-    let tells : IsTrue s.tells = sym c.first_of.ensures.reads.same.tells ∙ tells_read in
-    tree_read _ s (g.N.NodeStore.state c.first_of.new.store) c.first_of.ensures.reads tells (g.met.N.NodeStore.well_formed c.args.store.now).total (c.requires.tree tells)
-
-pub returns-in_err-remove_key-in-Some-clause-takes : goal.returns-in_err-remove_key-in-Some-clause-takes
-returns-in_err-remove_key-in-Some-clause-takes g c =
-    let s = g.N.NodeStore.state c.args.store.now in
-    let read = g.N.NodeStore.state c.first_of.new.store in
-    takes_both 0 1 266 s read (g.N.NodeStore.state c.remove_key.new.store) c.first_of.ensures.reads.same
-    (reads_edit_nothing _ 266 s read c.first_of.ensures.reads c.first_of.ensures.cause.later) c.remove_key.ensures.takes
+    subst AreSpelled (sym (pairs_read _ s (g.N.NodeStore.state c.first_of.new.store) c.first_of.ensures.reads tells total (c.requires.ready.tree tells))) (c.requires.form tells)
 
 pub returns-in_ok-remove_key-in-Some-clause-dropped : goal.returns-in_ok-remove_key-in-Some-clause-dropped
 returns-in_ok-remove_key-in-Some-clause-dropped g c tells =
@@ -48,8 +30,8 @@ returns-in_ok-remove_key-in-Some-clause-dropped g c tells =
     let new = g.N.NodeStore.state c.remove_key.new.store in
     let tells_read : IsTrue read.tells = c.first_of.ensures.reads.same.tells ∙ tells in
     let total = (g.met.N.NodeStore.well_formed c.args.store.now).total in
-    let tree = tree_read _ s read c.first_of.ensures.reads tells total (c.requires.tree tells) in
-    let same = pairs_read _ s read c.first_of.ensures.reads tells total (c.requires.tree tells) in
+    let tree = tree_read _ s read c.first_of.ensures.reads tells total (c.requires.ready.tree tells) in
+    let same = pairs_read _ s read c.first_of.ensures.reads tells total (c.requires.ready.tree tells) in
     let found = subst (FindsFirst (is_named (attr_file c.args.key.now) (attr_units c.args.key.now)) (pairs_of s) c.args.blocks.now c.first_of.new.blocks) c.in-Some.is (c.in_ok-first_of.ensures.found tells) in
     let first = subst (λ l. IsFirstAt (is_named (attr_file c.args.key.now) (attr_units c.args.key.now)) l found.0) (sym same) found.1 in
     let own = subst (λ (l : List Pair). (slice_index_or l found.0 ([], [])).0 ≡ c.in-Some.own) (sym same) found.2 in
@@ -62,18 +44,39 @@ returns-in_ok-remove_key-in-Some-clause-form g c tells =
     let s = g.N.NodeStore.state c.args.store.now in
     let total = (g.met.N.NodeStore.well_formed c.args.store.now).total in
     c.in_ok-remove_key-in-Some.ensures.form (c.first_of.ensures.reads.same.tells ∙ tells)
-    (subst AreSpelled (sym (pairs_read _ s (g.N.NodeStore.state c.first_of.new.store) c.first_of.ensures.reads tells total (c.requires.tree tells))) (c.requires.form tells))
+    (subst AreSpelled (sym (pairs_read _ s (g.N.NodeStore.state c.first_of.new.store) c.first_of.ensures.reads tells total (c.requires.ready.tree tells))) (c.requires.form tells))
 
-pub returns-in_ok-remove_key-in-Some-clause-edits : goal.returns-in_ok-remove_key-in-Some-clause-edits
-returns-in_ok-remove_key-in-Some-clause-edits g c =
+pub returns-in_err-first_of-clause-frame : goal.returns-in_err-first_of-clause-frame
+returns-in_err-first_of-clause-frame g c =
     let s = g.N.NodeStore.state c.args.store.now in
     let read = g.N.NodeStore.state c.first_of.new.store in
-    edits_add 0 1 266 s read (g.N.NodeStore.state c.remove_key.new.store) c.first_of.ensures.reads.same
-    (reads_edit_nothing _ 266 s read c.first_of.ensures.reads c.first_of.ensures.cause.later) c.in_ok-remove_key-in-Some.ensures.edits
+    let still : IsTrue s.tells → IsTree IsAttrKey attr_cmp read = λ tells. tree_read _ s read c.first_of.ensures.reads tells (g.met.N.NodeStore.well_formed c.args.store.now).total (c.requires.ready.tree tells) in
+    edits_upto 1 (edits_read g.N.NodeStore.state g.N.NodeStore.follows 266 c.args.store.now c.first_of.new.store c.first_of.ensures.reads c.first_of.ensures.desk c.first_of.ensures.cause.later c.first_of.ensures.below still) (omega arith)
 
-pub returns-in_ok-remove_key-in-Some-clause-takes : goal.returns-in_ok-remove_key-in-Some-clause-takes
-returns-in_ok-remove_key-in-Some-clause-takes g c =
+pub returns-in-None-clause-frame : goal.returns-in-None-clause-frame
+returns-in-None-clause-frame g c =
     let s = g.N.NodeStore.state c.args.store.now in
     let read = g.N.NodeStore.state c.first_of.new.store in
-    takes_both 0 1 266 s read (g.N.NodeStore.state c.remove_key.new.store) c.first_of.ensures.reads.same
-    (reads_edit_nothing _ 266 s read c.first_of.ensures.reads c.first_of.ensures.cause.later) c.remove_key.ensures.takes
+    let still : IsTrue s.tells → IsTree IsAttrKey attr_cmp read = λ tells. tree_read _ s read c.first_of.ensures.reads tells (g.met.N.NodeStore.well_formed c.args.store.now).total (c.requires.ready.tree tells) in
+    edits_upto 1 (edits_read g.N.NodeStore.state g.N.NodeStore.follows 266 c.args.store.now c.first_of.new.store c.first_of.ensures.reads c.first_of.ensures.desk c.first_of.ensures.cause.later c.first_of.ensures.below still) (omega arith)
+
+pub remove_key-requires-clause-ready : goal.remove_key-requires-clause-ready
+remove_key-requires-clause-ready g c =
+    let s = g.N.NodeStore.state c.args.store.now in
+    let read = g.N.NodeStore.state c.first_of.new.store in
+    let still : IsTrue s.tells → IsTree IsAttrKey attr_cmp read = λ tells. tree_read _ s read c.first_of.ensures.reads tells (g.met.N.NodeStore.well_formed c.args.store.now).total (c.requires.ready.tree tells) in
+    ready_again (edits_read {T = ⊤} {E = ⊤} {result = Ok tt} g.N.NodeStore.state g.N.NodeStore.follows 266 c.args.store.now c.first_of.new.store c.first_of.ensures.reads c.first_of.ensures.desk c.first_of.ensures.cause.later c.first_of.ensures.below still) c.requires.ready
+
+pub returns-in_err-remove_key-in-Some-clause-frame : goal.returns-in_err-remove_key-in-Some-clause-frame
+returns-in_err-remove_key-in-Some-clause-frame g c =
+    let s = g.N.NodeStore.state c.args.store.now in
+    let read = g.N.NodeStore.state c.first_of.new.store in
+    let still : IsTrue s.tells → IsTree IsAttrKey attr_cmp read = λ tells. tree_read _ s read c.first_of.ensures.reads tells (g.met.N.NodeStore.well_formed c.args.store.now).total (c.requires.ready.tree tells) in
+    edits_err _ c.from_residual-in_err-remove_key-in-Some.ensures.1 (edits_then (edits_read {T = ⊤} {E = ⊤} {result = Ok tt} g.N.NodeStore.state g.N.NodeStore.follows 266 c.args.store.now c.first_of.new.store c.first_of.ensures.reads c.first_of.ensures.desk c.first_of.ensures.cause.later c.first_of.ensures.below still) c.in_err-remove_key-in-Some.ensures.frame g.met.N.NodeStore.follows_trans)
+
+pub returns-in_ok-remove_key-in-Some-clause-frame : goal.returns-in_ok-remove_key-in-Some-clause-frame
+returns-in_ok-remove_key-in-Some-clause-frame g c =
+    let s = g.N.NodeStore.state c.args.store.now in
+    let read = g.N.NodeStore.state c.first_of.new.store in
+    let still : IsTrue s.tells → IsTree IsAttrKey attr_cmp read = λ tells. tree_read _ s read c.first_of.ensures.reads tells (g.met.N.NodeStore.well_formed c.args.store.now).total (c.requires.ready.tree tells) in
+    edits_ok (edits_then (edits_read {T = ⊤} {E = ⊤} {result = Ok tt} g.N.NodeStore.state g.N.NodeStore.follows 266 c.args.store.now c.first_of.new.store c.first_of.ensures.reads c.first_of.ensures.desk c.first_of.ensures.cause.later c.first_of.ensures.below still) c.in_ok-remove_key-in-Some.ensures.frame g.met.N.NodeStore.follows_trans)

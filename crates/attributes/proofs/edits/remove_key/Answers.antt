@@ -18,12 +18,23 @@ returns-clause-form g c tells spelled =
     let s = g.N.NodeStore.state c.args.store.now in
     removal_spelled c.remove.result c.args.key.now (pairs_of s) (pairs_of (g.N.NodeStore.state c.remove.new.store)) spelled (c.remove.ensures.pairs tells)
 
-pub returns-clause-takes : goal.returns-clause-takes
-returns-clause-takes g c = takes_one 266 (g.N.NodeStore.state c.args.store.now) (g.N.NodeStore.state c.remove.new.store) c.remove.ensures.does
-
-pub returns-clause-edits : goal.returns-clause-edits
-returns-clause-edits g c =
+pub returns-clause-frame : goal.returns-clause-frame
+returns-clause-frame g c =
     let old = (g.N.NodeStore.state c.args.store.now).shape in
     let new = (g.N.NodeStore.state c.remove.new.store).shape in
-    one_edit c.remove.result (new.leaf_records ≤ old.leaf_records) (g.N.NodeStore.state c.args.store.now) (g.N.NodeStore.state c.remove.new.store) (λ few. omega (arith, few))
-    c.remove.ensures.does c.remove.ensures.depth c.remove.ensures.records c.remove.ensures.roots
+    record {
+      below = c.remove.ensures.below;
+      same = c.remove.ensures.does.same;
+      desk = c.remove.ensures.desk;
+      takes = takes_one 266 (g.N.NodeStore.state c.args.store.now) (g.N.NodeStore.state c.remove.new.store) c.remove.ensures.does;
+      edits = one_edit c.remove.result (new.leaf_records ≤ old.leaf_records) (g.N.NodeStore.state c.args.store.now) (g.N.NodeStore.state c.remove.new.store) (λ few. omega (arith, few))
+          c.remove.ensures.does c.remove.ensures.depth c.remove.ensures.records c.remove.ensures.roots;
+      tree = c.remove.ensures.tree;
+      header = c.remove.ensures.header;
+    }
+
+pub remove-requires-clause-desk : goal.remove-requires-clause-desk
+remove-requires-clause-desk g c = c.requires.ready.desk
+
+pub remove-requires-clause-tree : goal.remove-requires-clause-tree
+remove-requires-clause-tree g c = c.requires.ready.tree

@@ -1,7 +1,8 @@
-use Rattle.std.proofs.Common.{◌≡◌, ◌<◌, ◌-◌, ap, sym, subst, ◌∙◌, arith, rules, true, false}
+use Rattle.std.proofs.Common.{◌≡◌, ◌<◌, ◌-◌, ap, sym, subst, ◌∙◌, arith, rules, true, false, List, ℕ}
 use Rattle.std.proofs.lemmas.Bool.{true≢false}
 use Rattle.std.specs.Prelude.{IsSome, IsTrue}
 use Rattle.btree_node.specs.Tree.{IsTreeNode}
+use Rattle.btree_edit.specs.Desk.{HoldsLeaf}
 use Rattle.btree_edit.specs.Reading.{LeadsTo, LeadsToLeaf}
 use Rattle.btree_edit.proofs.Descent.{leads_node}
 use Rattle.btree_edit.proofs.Repeated.{reads_both, still_node}
@@ -31,8 +32,9 @@ returns-clause-found g c = λ tells.
     let yes : c.in_ok-read_node.field-0 ≡ true = c.if-not-branch.false in
     let into : c.read_node.new.into ≡ s.nodes c.in-Some.node = c.in_ok-read_node.ensures.value (c.descend.ensures.reads.same.tells ∙ tells) yes ∙ (c.descend.ensures.reads.tree tells).nodes c.in-Some.node in
     finds g.K.KeyOrder.is_key g.K.KeyOrder.cmp g.met.K.KeyOrder.total g.met.K.KeyOrder.key_length s t.levels t.ordered c.args.key.now c.in-Some.node some leads
-    (record { node = c.read_node.new.into; other = c.descend.new.desk.other; held = c.descend.new.desk.held; first = c.descend.new.desk.first; second = c.descend.new.desk.second; path = c.descend.new.desk.path }) c.pick.new.desk into
-    (record { key = ap (λ h. h.key) c.descend.ensures.held ∙ c.forget.ensures.key; value = ap (λ h. h.value) c.descend.ensures.held ∙ c.forget.ensures.value })
+    c.bytes.result.now c.descend.new.desk.held
+    (record { node = c.read_node.new.into; other = c.descend.new.desk.other; held = c.pick.new.held; first = c.descend.new.desk.first; second = c.descend.new.desk.second; path = c.descend.new.desk.path }) (c.bytes.ensures.value ∙ into)
+    (ap (λ h. h.key) c.descend.ensures.held ∙ c.forget.ensures.key) (ap (λ h. h.value) c.descend.ensures.held ∙ c.forget.ensures.value)
     c.pick.result c.pick.ensures.picks
 
 pub returns-clause-place : goal.returns-clause-place
@@ -44,8 +46,9 @@ returns-clause-place g c = λ tells.
     let yes : c.in_ok-read_node.field-0 ≡ true = c.if-not-branch.false in
     let into : c.read_node.new.into ≡ s.nodes c.in-Some.node = c.in_ok-read_node.ensures.value (c.descend.ensures.reads.same.tells ∙ tells) yes ∙ (c.descend.ensures.reads.tree tells).nodes c.in-Some.node in
     stands g.K.KeyOrder.is_key g.K.KeyOrder.cmp g.met.K.KeyOrder.total g.met.K.KeyOrder.key_length s t.levels t.ordered c.args.key.now c.in-Some.node some leads
-    (record { node = c.read_node.new.into; other = c.descend.new.desk.other; held = c.descend.new.desk.held; first = c.descend.new.desk.first; second = c.descend.new.desk.second; path = c.descend.new.desk.path }) c.pick.new.desk into
-    (record { key = ap (λ h. h.key) c.descend.ensures.held ∙ c.forget.ensures.key; value = ap (λ h. h.value) c.descend.ensures.held ∙ c.forget.ensures.value })
+    c.bytes.result.now c.descend.new.desk.held
+    (record { node = c.read_node.new.into; other = c.descend.new.desk.other; held = c.pick.new.held; first = c.descend.new.desk.first; second = c.descend.new.desk.second; path = c.descend.new.desk.path }) (c.bytes.ensures.value ∙ into)
+    (ap (λ h. h.key) c.descend.ensures.held ∙ c.forget.ensures.key) (ap (λ h. h.value) c.descend.ensures.held ∙ c.forget.ensures.value)
     c.pick.result c.pick.ensures.picks
 
 pub returns-clause-leaf : goal.returns-clause-leaf
@@ -54,16 +57,16 @@ returns-clause-leaf g c =
     let t = g.N.NodeStore.state c.read_node.new.store in
     let yes : c.in_ok-read_node.field-0 ≡ true = c.if-not-branch.false in
     let reads = c.read_node.ensures.reads in
-    keeps_leaf g.K.KeyOrder.is_key g.K.KeyOrder.cmp c.args.key.now t c.in-Some.node
-    (record { node = c.read_node.new.into; other = c.descend.new.desk.other; held = c.descend.new.desk.held; first = c.descend.new.desk.first; second = c.descend.new.desk.second; path = c.descend.new.desk.path }) c.pick.new.desk
-    c.pick.ensures.node
-    (record {
+    keeps_leaf g.K.KeyOrder.is_key g.K.KeyOrder.cmp c.args.key.now t c.in-Some.node c.bytes.result.now c.descend.new.desk.held
+    (record { node = c.read_node.new.into; other = c.descend.new.desk.other; held = c.pick.new.held; first = c.descend.new.desk.first; second = c.descend.new.desk.second; path = c.descend.new.desk.path })
+    (sym c.bytes.ensures.value)
+    (subst (λ (l : List ℕ). HoldsLeaf t l c.in-Some.node) (sym c.bytes.ensures.value) (record {
       inside = omega (arith, c.in_ok-read_node.ensures.inside yes, reads.same.total);
       well_formed = (c.in_ok-read_node.ensures.is_node yes).well_formed;
       value = λ tells_now.
           let tells : IsTrue s.tells = sym reads.same.tells ∙ tells_now in
           c.in_ok-read_node.ensures.value tells yes ∙ sym ((reads.tree tells).nodes c.in-Some.node);
-    })
+    }))
     c.pick.result c.pick.ensures.picks
 
 pub returns-in_err-read_node-clause-reads : goal.returns-in_err-read_node-clause-reads

@@ -1,8 +1,9 @@
-use Rattle.std.proofs.Common.{◌≡◌, ◌<◌, ◌-◌, sym, subst, ◌∙◌, arith, rules, true, false}
+use Rattle.std.proofs.Common.{◌≡◌, ◌<◌, ◌-◌, sym, subst, ◌∙◌, arith, rules, true, false, List, ℕ}
 use Rattle.std.proofs.lemmas.Bool.{true≢false}
-use Rattle.std.specs.Prelude.{IsSome}
+use Rattle.std.specs.Prelude.{IsSome, IfSome, IfNone}
 use Rattle.btree_node.specs.Tree.{IsTreeNode}
-use Rattle.btree_edit.specs.Reading.{LeadsTo, LeadsToLeaf}
+use Rattle.btree_node.specs.Node.{items}
+use Rattle.btree_edit.specs.Reading.{LeadsTo, LeadsToLeaf, IsPlace, HasNoKey}
 use Rattle.btree_edit.proofs.Descent.{leads_node}
 use Rattle.btree_edit.proofs.Repeated.{reads_both, still_node}
 use Rattle.btree_edit.proofs.Behind.{located}
@@ -32,7 +33,8 @@ returns-clause-at g c = λ tells.
     let into : c.read_node.new.into ≡ s.nodes c.in-Some.node = c.in_ok-read_node.ensures.value (c.descend.ensures.reads.same.tells ∙ tells) yes ∙ (c.descend.ensures.reads.tree tells).nodes c.in-Some.node in
     located g.K.KeyOrder.is_key g.K.KeyOrder.cmp g.met.K.KeyOrder.total g.met.K.KeyOrder.key_length s t c.args.key.now c.in-Some.node some leads
     (record { node = c.read_node.new.into; other = c.descend.new.desk.other; held = c.descend.new.desk.held; first = c.descend.new.desk.first; second = c.descend.new.desk.second; path = c.descend.new.desk.path }) into
-    c.place.result c.place.ensures.place c.place.ensures.no_key
+    c.place.result (subst (λ (l : List ℕ). IfSome c.place.result (λ at. IsPlace g.K.KeyOrder.cmp c.args.key.now (items l) at)) c.bytes.ensures.value c.place.ensures.place)
+    (subst (λ (l : List ℕ). IfNone c.place.result (HasNoKey g.K.KeyOrder.is_key (items l))) c.bytes.ensures.value c.place.ensures.no_key)
 
 pub returns-in_err-read_node-clause-reads : goal.returns-in_err-read_node-clause-reads
 returns-in_err-read_node-clause-reads g c =

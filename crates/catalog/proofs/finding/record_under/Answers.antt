@@ -12,14 +12,14 @@ use Rattle.catalog.proofs.finding.record_under.Goals as goal
 pub returns-in-At-clause-found : goal.returns-in-At-clause-found
 returns-in-At-clause-found g c tells =
     let s = g.N.NodeStore.state c.args.store.now in
-    let finds = subst (λ found. Finds catalog_cmp c.args.key.now s c.find.new.desk found) c.in-At.is (c.in_ok-find.ensures.found tells) in
-    let holds = found_holds s c.find.new.desk c.args.key.now (c.requires.tree tells) (c.requires.spelled tells) finds.0 finds.1.0 finds.1.1 in
+    let finds = subst (λ found. Finds catalog_cmp c.args.key.now s c.look.new.desk found) c.in-At.is (c.in_ok-look.ensures.found tells) in
+    let holds = found_holds s c.look.new.desk c.args.key.now (c.requires.tree tells) (c.requires.spelled tells) finds.0 finds.1.0 finds.1.1 in
     let value = c.value.ensures in
     let read = subst (λ v. IfOk c.read_value.result (λ found. found ≡ Some (catalog_of v))) value (c.read_value.ensures.read (subst (λ v. IsTrue (is_catalog v)) (sym value) holds.spelled)) in
-    ok_is c.read_value.result (Some (catalog_of c.find.new.desk.held.value)) (value_at (pairs_of s) (catalog_parent c.args.key.now) (catalog_units c.args.key.now)) read (sym holds.found)
+    ok_is c.read_value.result (Some (catalog_of c.look.new.desk.held.value)) (value_at (pairs_of s) (catalog_parent c.args.key.now) (catalog_units c.args.key.now)) read (sym holds.found)
 
 pub returns-in-Absent-clause-found : goal.returns-in-Absent-clause-found
 returns-in-Absent-clause-found g c tells =
     let s = g.N.NodeStore.state c.args.store.now in
-    let finds = subst (λ found. Finds catalog_cmp c.args.key.now s c.find.new.desk found) c.in-Absent.is (c.in_ok-find.ensures.found tells) in
+    let finds = subst (λ found. Finds catalog_cmp c.args.key.now s c.look.new.desk found) c.in-Absent.is (c.in_ok-look.ensures.found tells) in
     none_found c.args.key.now (pairs_of s) finds.0

@@ -3,7 +3,7 @@ use Rattle.btree_node.specs.Levels.{Pair}
 use Rattle.btree_node.specs.Keys.{attr_file}
 use Rattle.fsck_core.specs.Attributes.{attribute_at, IsBrokenValue}
 use Rattle.fsck_core.proofs.DecidedLaws.{adds_two}
-use Rattle.fsck_core.proofs.RecordJudged.{owned_adds, record_judged}
+use Rattle.fsck_core.proofs.RecordJudged.{owned_adds, record_judged, record_named}
 use Rattle.fsck_core.proofs.ValueLaws.{key_long, id_at_is}
 use Rattle.fsck_core.proofs.attributes.judge_record.Goals as goal
 
@@ -39,3 +39,12 @@ returns-clause-each c volume are own tells =
     adds_two (IsBrokenValue volume) c.args.out.now c.add_unless.new.out c.judge_value.new.out
     (owned_adds volume c.args.head.now pairs are c.args.owners.now own c.args.at c.requires c.key-key.result.now c.key-key.ensures c.is_owned.result (c.is_owned.ensures long own.0) c.owner_of.result c.args.out.now c.add_unless.new.out id_is c.add_unless.ensures.each)
     (c.judge_value.ensures.each volume are tells)
+
+pub returns-clause-named : goal.returns-clause-named
+returns-clause-named c volume are own tells =
+    let pairs : List Pair = c.args.attributes.now in
+    let long = key_long pairs are.keyed c.args.at c.key-key.result.now c.requires c.key-key.ensures in
+    let id_is : c.owner_of.result ≡ (attribute_at pairs c.args.at).id = c.owner_of.ensures long ∙ ap attr_file c.key-key.ensures ∙ sym (id_at_is pairs c.args.at) in
+    let judged = c.in_ok-stands.ensures.judged volume are tells in
+    record_named volume c.args.head.now pairs are c.args.owners.now own c.args.at c.requires c.key-key.result.now c.key-key.ensures c.is_owned.result (c.is_owned.ensures long own.0) c.owner_of.result c.add_unless.new.out c.judge_value.new.out
+    c.in_ok-owned.owned id_is c.in_ok-owned.ensures.met c.in_ok-owned.ensures.found judged.still (c.in_ok-stands.ensures.named volume are tells)

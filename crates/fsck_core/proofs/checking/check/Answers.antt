@@ -33,3 +33,9 @@ returns-clause-listed g c tells bytes keeps =
     let old : Space = g.V.SectorView.space c.args.view.now in
     let told = subst (λ (v : Verdict). Tells old.content v) (sym c.verdict_of.ensures) (verdict_tells old.content c.in_ok-head.head c.judge_all.new.out (c.in_ok-head.ensures.checked tells bytes)) in
     told.listed keeps
+
+pub returns-clause-each_rule : goal.returns-clause-each_rule
+returns-clause-each_rule g c tells bytes =
+    let old : Space = g.V.SectorView.space c.args.view.now in
+    let told = subst (λ (v : Verdict). Tells old.content v) (sym c.verdict_of.ensures) (verdict_tells old.content c.in_ok-head.head c.judge_all.new.out (c.in_ok-head.ensures.checked tells bytes)) in
+    told.each_rule

@@ -1,6 +1,6 @@
 use Rattle.sector_disk.specs.Space.{Space}
 use Rattle.hfs_volume.specs.Content.{volume_of}
-use Rattle.fsck_core.proofs.CheckLaws.{checked_early, checked_all}
+use Rattle.fsck_core.proofs.CheckLaws.{checked_early, checked_all, headers_more}
 use Rattle.fsck_core.proofs.ListJoins.{at_none, at_some, some_both}
 use Rattle.fsck_core.proofs.ShownLaws.{shows_first, shows_still, good_there, good_still}
 use Rattle.fsck_core.proofs.checking.judge_all.Goals as goal
@@ -22,7 +22,7 @@ pub returns-in_default-clause-checked : goal.returns-in_default-clause-checked
 returns-in_default-clause-checked g c tells bytes =
     let old : Space = g.V.SectorView.space c.args.view.now in
     let shows = shows_first old tells bytes (g.met.V.SectorView.well_formed c.args.view.now tells) in
-    checked_early old.content c.read_head.new.out (at_none c.in_ok-head.field-0 _ _ c.in_default.is (c.in_ok-head.ensures.told old.content shows)) (c.in_ok-head.ensures.each old.content shows)
+    checked_early old.content c.read_head.new.out (at_none c.in_ok-head.field-0 _ _ c.in_default.is (c.in_ok-head.ensures.told old.content shows)) (c.in_ok-head.ensures.each old.content shows) (c.in_ok-head.ensures.rules old.content shows)
 
 pub returns-in_default-2-clause-checked : goal.returns-in_default-2-clause-checked
 returns-in_default-2-clause-checked g c tells bytes =
@@ -32,6 +32,7 @@ returns-in_default-2-clause-checked g c tells bytes =
     let there = shows_still old first old.content shows c.read_head.ensures.reads in
     let head = at_some c.in_ok-head.field-0 c.in-Some.head _ _ c.in-Some.is (c.in_ok-head.ensures.told old.content shows) in
     checked_early old.content c.read_lists.new.out (at_none c.in_ok-lists.field-0 _ _ c.in_default-2.is (c.in_ok-lists.ensures.found old.content there head.0)) (c.in_ok-lists.ensures.each old.content there head.0)
+    (headers_more old.content c.read_head.new.out c.read_lists.new.out (some_both c.in_ok-head.field-0 c.in-Some.head _ c.in-Some.is c.in_ok-head.ensures.good).1 (c.in_ok-head.ensures.rules old.content shows))
 
 pub returns-clause-checked : goal.returns-clause-checked
 returns-clause-checked g c tells bytes =

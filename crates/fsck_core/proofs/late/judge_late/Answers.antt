@@ -19,3 +19,8 @@ returns-clause-listed c volume head rows rise bits used =
     (counts_under volume c.args.head.now c.judge_valences.new.out c.judge_counts.new.out _ head (c.in_ok-judge_counts.ensures.judged (entries_of (records_of volume)) rows))
     (c.in_ok-judge_bits.ensures.judged volume bits used)
     (c.in_ok-judge_free.ensures.judged volume (sym head) used)
+
+pub returns-clause-still : goal.returns-clause-still
+returns-clause-still c volume head rows rise bits used f listed =
+    (c.in_ok-judge_free.ensures.judged volume (sym head) used).still f ((c.in_ok-judge_bits.ensures.judged volume bits used).still f
+    ((c.in_ok-judge_counts.ensures.judged (entries_of (records_of volume)) rows).still f ((c.in_ok-judge_valences.ensures.judged (entries_of (records_of volume)) rows rise).still f listed)))

@@ -1,8 +1,9 @@
-use Rattle.std.proofs.Common.{ℕ, Bool, List, length, inl, subst, arith, T}
+use Rattle.std.proofs.Common.{ℕ, Bool, List, length, inl, refl, sym, ◌∙◌, subst, arith, T}
 use Rattle.fsck_core.specs.Rows.{row_at}
-use Rattle.fsck_core.specs.Parents.{is_reached, marked}
+use Rattle.hfs_volume.specs.Broken.{IsFailed}
+use Rattle.fsck_core.specs.Parents.{is_reached, marked, FailsReach}
 use Rattle.fsck_core.specs.declared.rows.Row.{Row}
-use Rattle.fsck_core.proofs.KindLaws.{found_more}
+use Rattle.fsck_core.proofs.ToldLaws.{told_two, told_unless, stays_both}
 use Rattle.fsck_core.proofs.ParentLaws.{all_more, one_missed, all_tell, row_adds}
 use Rattle.fsck_core.proofs.parents.judge_rows.Goals as goal
 
@@ -11,7 +12,7 @@ loop-at-init c = record {
   met = λ is k less. absurd (omega (arith, less));
   unmet = λ is. absurd (subst T is tt);
   found = λ is. absurd (subst T is tt);
-  still = λ some. some;
+  still = λ f listed. listed;
   each = λ finding stands. inl stands;
 }
 
@@ -24,13 +25,14 @@ loop-at-preserved c =
     record {
       met = all_more test at c.in_ok-one.one c.loop-at.met c.both-met.result c.both-met.ensures c.in_ok-one.ensures.met c.loop-at.invariant.met;
       unmet = one_missed test (length rows) at c.in_ok-one.one c.loop-at.met c.both-met.result c.loop-at-test.true c.both-met.ensures c.in_ok-one.ensures.met c.loop-at.invariant.unmet;
-      found = found_more c.in_ok-one.one c.loop-at.met c.both-met.result c.loop-at.out c.judge_row.new.out c.both-met.ensures c.in_ok-one.ensures.found c.loop-at.invariant.found c.in_ok-one.ensures.still;
-      still = λ some. c.in_ok-one.ensures.still (c.loop-at.invariant.still some);
+      found = told_two (λ f. IsFailed 10 f (FailsReach rows marks)) c.loop-at.met c.in_ok-one.one c.both-met.result c.loop-at.out c.judge_row.new.out c.both-met.ensures
+          (λ this. told_unless 10 (FailsReach rows marks) (row_at rows at).id c.judge_row.new.out (at, c.loop-at-test.true, refl, sym c.in_ok-one.ensures.met ∙ this) (c.in_ok-one.ensures.found this)) c.loop-at.invariant.found c.judge_row.ensures.still;
+      still = stays_both c.args.out.now c.loop-at.out c.judge_row.new.out c.loop-at.invariant.still c.judge_row.ensures.still;
       each = row_adds rows marks at c.args.out.now c.loop-at.out c.judge_row.new.out c.loop-at-test.true c.loop-at.invariant.each c.in_ok-one.ensures.each;
     }
 
 pub returns-in_err-one-clause-still : goal.returns-in_err-one-clause-still
-returns-in_err-one-clause-still c some = c.judge_row.ensures.still (c.loop-at.invariant.still some)
+returns-in_err-one-clause-still c = stays_both c.args.out.now c.loop-at.out c.judge_row.new.out c.loop-at.invariant.still c.judge_row.ensures.still
 
 pub returns-in_err-one-clause-each : goal.returns-in_err-one-clause-each
 returns-in_err-one-clause-each c =

@@ -14,8 +14,8 @@ returns-in_default-clause-whole c long reference shared =
 pub returns-clause-is : goal.returns-clause-is
 returns-clause-is c long file same =
     let number = c.in_ok-reference.ensures.is c.in-Some.reference c.in-Some.is in
-    its_shared c.args.key.now c.args.value.now c.args.private c.in-Some.reference c.in-Ok.rec c.shared_record.result file (sym (c.parent_of.ensures long) ∙ c.if-parent_of-private.false) number.1 number.0
-    c.in-Ok.ensures.read c.shared_record.ensures same
+    its_shared c.args.key.now c.args.value.now c.args.private c.in-Some.reference c.in_ok-rec.rec c.shared_record.result file (sym (c.parent_of.ensures long) ∙ c.if-parent_of-private.false) number.1 number.0
+    c.in_ok-rec.ensures c.shared_record.ensures same
 
 pub returns-clause-whole : goal.returns-clause-whole
-returns-clause-whole c long reference shared = some_shared c.args.key.now c.args.value.now c.args.private reference c.in-Some.reference c.in-Ok.rec c.shared_record.result c.in-Ok.ensures.read c.shared_record.ensures shared
+returns-clause-whole c long reference shared = some_shared c.args.key.now c.args.value.now c.args.private reference c.in-Some.reference c.in_ok-rec.rec c.shared_record.result c.in_ok-rec.ensures c.shared_record.ensures shared

@@ -30,7 +30,7 @@ loop-at-preserved c =
       most = omega (arith, inside);
       decided = λ catalog. missed_more 9 (marked c.args.marks.now) (λ k. place_of (placed_at pairs k)) (length pairs) at (marked c.args.marks.now at) c.in_ok-one.one c.loop-at.met c.both-met.result (place_of (placed_of (c.key.result.now, c.value.result.now)))
           c.args.out.now c.loop-at.out c.judge_mark.new.out inside refl (ap (λ (p : Pair). place_of (placed_of p)) (λ i. (c.key.ensures i, c.value.ensures i))) c.both-met.ensures (c.loop-at.invariant.decided catalog)
-          c.in_ok-one.ensures.met c.in_ok-one.ensures.found c.in_ok-one.ensures.still (c.in_ok-one.ensures.each (key_long pairs at c.key.result.now catalog inside c.key.ensures));
+          c.in_ok-one.ensures.met (c.in_ok-one.ensures.found (key_long pairs at c.key.result.now catalog inside c.key.ensures)) c.in_ok-one.ensures.still (c.in_ok-one.ensures.each (key_long pairs at c.key.result.now catalog inside c.key.ensures));
     }
 
 pub returns-clause-decided : goal.returns-clause-decided

@@ -6,8 +6,8 @@ use Rattle.fsck_core.proofs.ParentLaws.{none_marked}
 use Rattle.fsck_core.proofs.ThreadLaws.{matched_none}
 use Rattle.fsck_core.proofs.threads.match_pairs.Goals as goal
 
-pub match_entry-near-requires-clause-long : goal.match_entry-near-requires-clause-long
-match_entry-near-requires-clause-long c = c.loop-at.invariant.long
+pub match_entry-requires-clause-long : goal.match_entry-requires-clause-long
+match_entry-requires-clause-long c = c.loop-at.invariant.long
 
 pub loop-at-init : goal.loop-at-init
 loop-at-init c =
@@ -20,9 +20,9 @@ loop-at-init c =
 
 pub loop-at-preserved : goal.loop-at-preserved
 loop-at-preserved c = record {
-  long = c.match_entry-near.ensures.long;
+  long = c.match_entry.ensures.long;
   most = omega (arith, c.loop-at-test.true, c.len-at-end.ensures);
-  matched = λ catalog. c.match_entry-near.ensures.matched catalog (c.loop-at.invariant.matched catalog);
+  matched = λ catalog. c.match_entry.ensures.matched catalog (c.loop-at.invariant.matched catalog);
 }
 
 pub returns-clause-matched : goal.returns-clause-matched

@@ -5,7 +5,7 @@ use Rattle.hfs_serving.proofs.Speeches.{batch_rests, lines_end, rested_stops, st
 use Rattle.std.proofs.lemmas.Result.{err_from_is_err_and}
 use Rattle.hfs_serving.proofs.Numbering.{no_trouble, too_many}
 use Rattle.hfs_serving.proofs.Causes.{counts_both, counts_none, fine_stop, handed_on, handed_stop}
-use Rattle.hfs_serving.proofs.Caused.{commits_on}
+use Rattle.hfs_serving.proofs.Caused.{causes_more, commits_on}
 use Rattle.hfs_serving.proofs.batch.serve_batch.Goals as goal
 
 pub returns-in_err-count-clause-stops : goal.returns-in_err-count-clause-stops
@@ -135,6 +135,38 @@ pub returns-clause-once : goal.returns-clause-once
 returns-clause-once g c tells =
     record {
       ending = (g.G.SectorView.space c.come_to_rest.new.base).barriers;
-      before = commits_on _ (g.K.Speaker.often * (c.in_ok-count.count + 2)) 8 (g.K.Speaker.often * (c.in_ok-count.count + 2) + 8) _ _ _ _ (c.in_ok-count.ensures.caused tells) (omega arith) (c.in_ok-come_to_rest.ensures.caused (c.in_ok-count.ensures.tells ∙ tells)) (omega arith);
+      before = commits_on _ (g.K.Speaker.often * (c.in_ok-count.count + 2)) 8 (g.K.Speaker.often * (c.in_ok-count.count + 2) + 8) _ _ _ _ (c.in_ok-count.ensures.caused tells) (omega arith) (c.come_to_rest.ensures.caused (c.in_ok-count.ensures.tells ∙ tells)) (omega arith);
       last = c.commit.ensures.barriers;
     }
+
+pub returns-in_err-count-clause-cut : goal.returns-in_err-count-clause-cut
+returns-in_err-count-clause-cut g c tells =
+    let often = g.K.Speaker.often in
+    let cut = c.in_err-count.ensures.cut tells in
+    on_err c.from_residual.result (cut.0, cut.1, record { ending = (g.G.SectorView.space c.serve_lines.new.base).barriers; before = causes_more _ (often * (cut.0 + 2)) (often * (cut.0 + 2) + 8) _ _ cut.2 (omega arith); last = omega arith })
+
+pub returns-in_err-come_to_rest-clause-cut : goal.returns-in_err-come_to_rest-clause-cut
+returns-in_err-come_to_rest-clause-cut g c tells =
+    let often = g.K.Speaker.often in
+    on_err c.from_residual-in_err-come_to_rest.result (
+      c.in_ok-count.count,
+      c.in_ok-count.ensures.few,
+      record {
+        ending = (g.G.SectorView.space c.come_to_rest.new.base).barriers;
+        before = commits_on _ (often * (c.in_ok-count.count + 2)) 8 (often * (c.in_ok-count.count + 2) + 8) _ _ _ _ (c.in_ok-count.ensures.caused tells) (omega arith) (c.come_to_rest.ensures.caused (c.in_ok-count.ensures.tells ∙ tells)) (omega arith);
+        last = omega arith;
+      },
+    )
+
+pub returns-in_err-commit-clause-cut : goal.returns-in_err-commit-clause-cut
+returns-in_err-commit-clause-cut g c tells =
+    let often = g.K.Speaker.often in
+    on_err c.from_residual-in_err-commit.result (
+      c.in_ok-count.count,
+      c.in_ok-count.ensures.few,
+      record {
+        ending = (g.G.SectorView.space c.come_to_rest.new.base).barriers;
+        before = commits_on _ (often * (c.in_ok-count.count + 2)) 8 (often * (c.in_ok-count.count + 2) + 8) _ _ _ _ (c.in_ok-count.ensures.caused tells) (omega arith) (c.come_to_rest.ensures.caused (c.in_ok-count.ensures.tells ∙ tells)) (omega arith);
+        last = c.commit.ensures.barriers;
+      },
+    )

@@ -39,7 +39,7 @@ loop-at-init g c = record {
   anchor = c.begin.ensures.anchor;
   tells = c.in_ok-begin.ensures.tells;
   serves = λ capacity serves taken. c.in_ok-begin.ensures.still capacity serves taken;
-  caused = λ tells. causes_more _ g.K.Speaker.often (g.K.Speaker.often * 1) _ _ (c.in_ok-begin.ensures.caused tells) (omega (arith, mul-one g.K.Speaker.often));
+  caused = λ tells. causes_more _ g.K.Speaker.often (g.K.Speaker.often * 1) _ _ (c.begin.ensures.caused tells) (omega (arith, mul-one g.K.Speaker.often));
   goes = λ tells capacity committed now shrunk stands.
       let space = g.G.SectorView.space c.begin.new.base in
       spoken_ahead capacity shrunk committed now (g.G.Ground.outside c.args.base.now) c.args.number (g.K.Speaker.spoke c.args.speaker.now) (g.K.Speaker.spoke c.begin.new.self) c.args.lines.now c.args.told.now (g.V.Volume.knows c.begin.new.volume space capacity) space
@@ -123,7 +123,7 @@ loop-at-preserved g c = record {
   serves = λ capacity serves taken. let was = c.loop-at.invariant.serves capacity serves taken in c.in_ok-serve_line.ensures.still capacity was.0 was.1;
   caused = λ tells.
       let often = g.K.Speaker.often in
-      commits_on _ (often * (c.loop-at.at + 1)) often (often * (c.loop-at.at + 1 + 1)) _ _ _ _ (c.loop-at.invariant.caused tells) (omega arith) (c.in_ok-serve_line.ensures.caused (c.loop-at.invariant.tells ∙ tells))
+      commits_on _ (often * (c.loop-at.at + 1)) often (often * (c.loop-at.at + 1 + 1)) _ _ _ _ (c.loop-at.invariant.caused tells) (omega arith) (c.serve_line.ensures.caused (c.loop-at.invariant.tells ∙ tells))
       (one_more_often often (c.loop-at.at + 1) (c.loop-at.at + 1 + 1) (omega arith));
   goes = λ tells capacity committed now shrunk stands.
       let old = g.G.Ground.outside c.args.base.now in
@@ -194,7 +194,7 @@ returns-then-at-eq-MOST_LINES-clause-ended g c tells = inr (inl (omega (arith, c
 pub returns-then-not-branch-clause-caused : goal.returns-then-not-branch-clause-caused
 returns-then-not-branch-clause-caused g c tells =
     let often = g.K.Speaker.often in
-    commits_on _ (often * (c.loop-at.at + 1)) often (often * (c.loop-at.at + 2)) _ _ _ _ (c.loop-at.invariant.caused tells) (omega arith) (c.in_ok-serve_line.ensures.caused (c.loop-at.invariant.tells ∙ tells))
+    commits_on _ (often * (c.loop-at.at + 1)) often (often * (c.loop-at.at + 2)) _ _ _ _ (c.loop-at.invariant.caused tells) (omega arith) (c.serve_line.ensures.caused (c.loop-at.invariant.tells ∙ tells))
     (one_more_often often (c.loop-at.at + 1) (c.loop-at.at + 2) (omega arith))
 
 pub returns-then-not-branch-clause-ended : goal.returns-then-not-branch-clause-ended
@@ -207,7 +207,7 @@ returns-then-not-branch-clause-ended g c tells =
 pub returns-then-ends_batch-clause-caused : goal.returns-then-ends_batch-clause-caused
 returns-then-ends_batch-clause-caused g c tells =
     let often = g.K.Speaker.often in
-    commits_on _ (often * (c.loop-at.at + 1)) often (often * (c.loop-at.at + 1 + 2)) _ _ _ _ (c.loop-at.invariant.caused tells) (omega arith) (c.in_ok-serve_line.ensures.caused (c.loop-at.invariant.tells ∙ tells))
+    commits_on _ (often * (c.loop-at.at + 1)) often (often * (c.loop-at.at + 1 + 2)) _ _ _ _ (c.loop-at.invariant.caused tells) (omega arith) (c.serve_line.ensures.caused (c.loop-at.invariant.tells ∙ tells))
     (one_more_often often (c.loop-at.at + 1) (c.loop-at.at + 1 + 2) (omega arith))
 
 pub returns-then-ends_batch-clause-ended : goal.returns-then-ends_batch-clause-ended
@@ -224,3 +224,18 @@ returns-clause-caused g c tells =
 
 pub returns-clause-ended : goal.returns-clause-ended
 returns-clause-ended g c tells = inl refl
+
+pub returns-in_err-begin-clause-cut : goal.returns-in_err-begin-clause-cut
+returns-in_err-begin-clause-cut g c tells =
+    let often = g.K.Speaker.often in
+    on_err c.from_residual.result (0, omega arith, causes_more _ often (often * 2) _ _ (c.begin.ensures.caused tells) (omega (arith, mul-one often, more_often often 1 2 (omega arith))))
+
+pub returns-in_err-serve_line-clause-cut : goal.returns-in_err-serve_line-clause-cut
+returns-in_err-serve_line-clause-cut g c tells =
+    let often = g.K.Speaker.often in
+    on_err c.from_residual-in_err-serve_line.result (
+      c.loop-at.at,
+      omega (arith, c.loop-at.auto.at-end),
+      commits_on _ (often * (c.loop-at.at + 1)) often (often * (c.loop-at.at + 2)) _ _ _ _ (c.loop-at.invariant.caused tells) (omega arith) (c.serve_line.ensures.caused (c.loop-at.invariant.tells ∙ tells))
+          (one_more_often often (c.loop-at.at + 1) (c.loop-at.at + 2) (omega arith)),
+    )

@@ -6,7 +6,7 @@ use Rattle.hfs_serving.proofs.Going.{left_line, may_be_left, memory_stops_tidy, 
 use Rattle.std.proofs.lemmas.Result.{err_from_is_err_and}
 use Rattle.hfs_serving.proofs.Numbering.{no_trouble}
 use Rattle.hfs_serving.proofs.Causes.{counts_both, counts_none, fine_stop, handed_stop}
-use Rattle.hfs_serving.proofs.Caused.{commits_on, four_most, is_waiting, is_wanted, no_commit, none_passed, room_made, short_commit}
+use Rattle.hfs_serving.proofs.Caused.{causes_more, commits_on, four_most, is_waiting, is_wanted, no_commit, none_passed, room_made, short_commit}
 use Rattle.hfs_serving.specs.Commits.{WantsAt}
 use Rattle.hfs_serving.proofs.commanding.serve_command.Goals as goal
 
@@ -18,10 +18,10 @@ loop-init g c = record {
   serves = λ capacity serves taken. (serves, taken);
   waiting = λ may. (may, refl);
   caused = λ tells. no_commit _ _ _ _ (omega arith);
-  goes = λ tells capacity committed now shrunk begun line spelled rests.
+  goes = λ tells capacity committed now shrunk begun own line spelled rests.
       let space = g.G.SectorView.space c.args.base.now in (
         refl,
-        rested_ahead capacity shrunk committed now (g.G.Ground.outside begun) c.args.may_wait line (g.V.Volume.knows c.args.volume.now space capacity) space (g.G.Ground.outside c.args.base.now) rests,
+        rested_ahead capacity shrunk committed now (g.G.Ground.outside begun) c.args.may_wait own line (g.V.Volume.knows c.args.volume.now space capacity) space (g.G.Ground.outside c.args.base.now) rests,
       );
 }
 
@@ -36,16 +36,16 @@ attempt-requires-clause-stands g c tells_there =
     let tells = subst (λ t. IsTrue t) c.loop.invariant.tells tells_there in
     let is = c.requires.rests tells in
     let space = g.G.SectorView.space c.loop.base in
-    let goes = (c.loop.invariant.goes tells is.0 is.1 is.2 is.3 is.4 is.5 is.6 is.7).1 in
+    let goes = (c.loop.invariant.goes tells is.0 is.1 is.2 is.3 is.4 is.5 is.6 is.7 is.8).1 in
     (is.0, goes.tidy.last, goes.tidy.next, is.3, stands_there is.0 is.3 is.1 is.2 (g.G.Ground.outside is.4) (g.V.Volume.knows c.loop.volume space is.0) space (g.G.Ground.outside c.loop.base) goes.tidy)
 
 pub returns-in_err-step-clause-stops : goal.returns-in_err-step-clause-stops
-returns-in_err-step-clause-stops g c tells capacity committed now shrunk begun line spelled rests =
+returns-in_err-step-clause-stops g c tells capacity committed now shrunk begun own line spelled rests =
     let old = g.G.Ground.outside begun in
     let space = g.G.SectorView.space c.loop.base in
     let mid = g.G.Ground.outside c.loop.base in
     let knows = g.V.Volume.knows c.loop.volume space capacity in
-    let both = c.loop.invariant.goes tells capacity committed now shrunk begun line spelled rests in
+    let both = c.loop.invariant.goes tells capacity committed now shrunk begun own line spelled rests in
     let goes = both.1 in
     let tells_there = c.loop.invariant.tells ∙ tells in
     let there = stands_there capacity shrunk committed now old knows space mid goes.tidy in
@@ -53,20 +53,20 @@ returns-in_err-step-clause-stops g c tells capacity committed now shrunk begun l
     (tidy_stops capacity shrunk committed now old knows space mid goes.tidy (g.G.Ground.outside c.attempt.new.base) (c.in_err-step.ensures.stops tells_there capacity goes.tidy.last goes.tidy.next shrunk there))
 
 pub returns-then-is_answered-clause-goes : goal.returns-then-is_answered-clause-goes
-returns-then-is_answered-clause-goes g c tells capacity committed now shrunk begun line spelled rests =
+returns-then-is_answered-clause-goes g c tells capacity committed now shrunk begun own line spelled rests =
     let old = g.G.Ground.outside begun in
     let space = g.G.SectorView.space c.loop.base in
     let mid = g.G.Ground.outside c.loop.base in
     let knows = g.V.Volume.knows c.loop.volume space capacity in
-    let both = c.loop.invariant.goes tells capacity committed now shrunk begun line spelled rests in
-    let goes = rested_own capacity shrunk committed now old c.loop.may_wait line knows space mid both.1 in
+    let both = c.loop.invariant.goes tells capacity committed now shrunk begun own line spelled rests in
+    let goes = rested_own capacity shrunk committed now old c.loop.may_wait own line knows space mid both.1 in
     let tells_there = c.loop.invariant.tells ∙ tells in
     let there = stands_there capacity shrunk committed now old knows space mid goes.tidy in
     let new = g.G.SectorView.space c.attempt.new.base in
     let after = g.G.Ground.outside c.attempt.new.base in
     let knows_new = g.V.Volume.knows c.attempt.new.volume new capacity in
-    let tries = c.in_ok-step.ensures.tries tells_there capacity goes.tidy.last goes.tidy.next shrunk there line spelled in
-    let does = tried_answers capacity shrunk committed now old knows space mid line goes knows_new c.args.number _ _ new after c.in_ok-step.step (sym c.is_answered.ensures ∙ c.if-is_answered.true) tries in
+    let tries = c.in_ok-step.ensures.tries tells_there capacity goes.tidy.last goes.tidy.next shrunk there own line spelled in
+    let does = tried_answers capacity shrunk committed now old knows space mid own line goes knows_new c.args.number _ _ new after c.in_ok-step.step (sym c.is_answered.ensures ∙ c.if-is_answered.true) tries in
     (does.0, does.1, subst (λ h. g.H.Hearer.hears h does.0 does.1 c.attempt.new.heard) both.0 does.2, does.3)
 
 pub returns-then-is_answered-clause-still : goal.returns-then-is_answered-clause-still
@@ -78,21 +78,21 @@ pub returns-then-is_answered-clause-tells : goal.returns-then-is_answered-clause
 returns-then-is_answered-clause-tells g c = c.in_ok-step.ensures.tells ∙ c.loop.invariant.tells
 
 pub returns-then-waits-clause-goes : goal.returns-then-waits-clause-goes
-returns-then-waits-clause-goes g c tells capacity committed now shrunk begun line spelled rests =
+returns-then-waits-clause-goes g c tells capacity committed now shrunk begun own line spelled rests =
     let old = g.G.Ground.outside begun in
     let space = g.G.SectorView.space c.loop.base in
     let mid = g.G.Ground.outside c.loop.base in
     let knows = g.V.Volume.knows c.loop.volume space capacity in
-    let both = c.loop.invariant.goes tells capacity committed now shrunk begun line spelled rests in
+    let both = c.loop.invariant.goes tells capacity committed now shrunk begun own line spelled rests in
     let waits = sym c.waits.ensures ∙ c.if-waits.true in
-    let goes = subst (λ (b : Bool). GoesRested capacity (ahead_of b line) knows committed now shrunk old space mid) (may_be_left c.in_ok-step.step c.loop.may_wait waits) both.1 in
+    let goes = subst (λ (b : Bool). GoesRested capacity (ahead_of b own line) knows committed now shrunk old space mid) (may_be_left c.in_ok-step.step c.loop.may_wait waits) both.1 in
     let tells_there = c.loop.invariant.tells ∙ tells in
     let there = stands_there capacity shrunk committed now old knows space mid goes.tidy in
     let new = g.G.SectorView.space c.attempt.new.base in
     let after = g.G.Ground.outside c.attempt.new.base in
     let knows_new = g.V.Volume.knows c.attempt.new.volume new capacity in
-    let tries = tried_waits capacity knows_new goes.tidy.last goes.tidy.next shrunk c.args.number line _ _ space mid new after c.in_ok-step.step c.loop.may_wait waits (c.in_ok-step.ensures.tries tells_there capacity goes.tidy.last goes.tidy.next shrunk there line spelled) in
-    let left = waiting_line capacity knows_new goes.tidy.last goes.tidy.next shrunk new c.args.number line _ _ c.in_ok-step.step c.loop.may_wait waits tries.1 in
+    let tries = tried_waits capacity knows_new goes.tidy.last goes.tidy.next shrunk c.args.number own line _ _ space mid new after c.in_ok-step.step c.loop.may_wait waits (c.in_ok-step.ensures.tries tells_there capacity goes.tidy.last goes.tidy.next shrunk there own line spelled) in
+    let left = waiting_line capacity knows_new goes.tidy.last goes.tidy.next shrunk new c.args.number own line _ _ c.in_ok-step.step c.loop.may_wait waits tries.1 in
     let rested = rested_looks capacity shrunk committed now old knows space mid goes knows_new new after tries.0 left.1 in
     (left.0 ∙ both.0, rested.tidy)
 
@@ -120,42 +120,43 @@ make_room-requires-clause-stands g c tells_new =
     let now = is.2 in
     let shrunk = is.3 in
     let begun = is.4 in
-    let line = is.5 in
-    let spelled = is.6 in
-    let rests = is.7 in
+    let own = is.5 in
+    let line = is.6 in
+    let spelled = is.7 in
+    let rests = is.8 in
     let old = g.G.Ground.outside begun in
     let space = g.G.SectorView.space c.loop.base in
     let mid = g.G.Ground.outside c.loop.base in
     let knows = g.V.Volume.knows c.loop.volume space capacity in
-    let both = c.loop.invariant.goes tells capacity committed now shrunk begun line spelled rests in
-    let goes = rested_own capacity shrunk committed now old c.loop.may_wait line knows space mid both.1 in
+    let both = c.loop.invariant.goes tells capacity committed now shrunk begun own line spelled rests in
+    let goes = rested_own capacity shrunk committed now old c.loop.may_wait own line knows space mid both.1 in
     let tells_there = c.loop.invariant.tells ∙ tells in
     let there = stands_there capacity shrunk committed now old knows space mid goes.tidy in
     let new = g.G.SectorView.space c.attempt.new.base in
     let after = g.G.Ground.outside c.attempt.new.base in
     let knows_new = g.V.Volume.knows c.attempt.new.volume new capacity in
     let other = sym c.is_answered.ensures ∙ c.if-is_answered.false in
-    let tries = tried_left capacity knows_new goes.tidy.last goes.tidy.next shrunk c.args.number line _ _ space mid new after c.in_ok-step.step other (c.in_ok-step.ensures.tries tells_there capacity goes.tidy.last goes.tidy.next shrunk there line spelled) in
-    let left = left_line capacity knows_new goes.tidy.last goes.tidy.next shrunk new c.args.number line _ _ c.in_ok-step.step other tries.1 in
+    let tries = tried_left capacity knows_new goes.tidy.last goes.tidy.next shrunk c.args.number own line _ _ space mid new after c.in_ok-step.step other (c.in_ok-step.ensures.tries tells_there capacity goes.tidy.last goes.tidy.next shrunk there own line spelled) in
+    let left = left_line capacity knows_new goes.tidy.last goes.tidy.next shrunk new c.args.number own line _ _ c.in_ok-step.step other tries.1 in
     let rested = rested_left capacity shrunk committed now old knows space mid goes knows_new new after tries.0 left.1 in
     (capacity, rested.tidy.last, rested.tidy.next, shrunk, stands_there capacity shrunk committed now old knows_new new after rested.tidy)
 
 pub returns-in_err-make_room-clause-stops : goal.returns-in_err-make_room-clause-stops
-returns-in_err-make_room-clause-stops g c tells capacity committed now shrunk begun line spelled rests =
+returns-in_err-make_room-clause-stops g c tells capacity committed now shrunk begun own line spelled rests =
     let old = g.G.Ground.outside begun in
     let space = g.G.SectorView.space c.loop.base in
     let mid = g.G.Ground.outside c.loop.base in
     let knows = g.V.Volume.knows c.loop.volume space capacity in
-    let both = c.loop.invariant.goes tells capacity committed now shrunk begun line spelled rests in
-    let goes = rested_own capacity shrunk committed now old c.loop.may_wait line knows space mid both.1 in
+    let both = c.loop.invariant.goes tells capacity committed now shrunk begun own line spelled rests in
+    let goes = rested_own capacity shrunk committed now old c.loop.may_wait own line knows space mid both.1 in
     let tells_there = c.loop.invariant.tells ∙ tells in
     let there = stands_there capacity shrunk committed now old knows space mid goes.tidy in
     let new = g.G.SectorView.space c.attempt.new.base in
     let after = g.G.Ground.outside c.attempt.new.base in
     let knows_new = g.V.Volume.knows c.attempt.new.volume new capacity in
     let other = sym c.is_answered.ensures ∙ c.if-is_answered.false in
-    let tries = tried_left capacity knows_new goes.tidy.last goes.tidy.next shrunk c.args.number line _ _ space mid new after c.in_ok-step.step other (c.in_ok-step.ensures.tries tells_there capacity goes.tidy.last goes.tidy.next shrunk there line spelled) in
-    let left = left_line capacity knows_new goes.tidy.last goes.tidy.next shrunk new c.args.number line _ _ c.in_ok-step.step other tries.1 in
+    let tries = tried_left capacity knows_new goes.tidy.last goes.tidy.next shrunk c.args.number own line _ _ space mid new after c.in_ok-step.step other (c.in_ok-step.ensures.tries tells_there capacity goes.tidy.last goes.tidy.next shrunk there own line spelled) in
+    let left = left_line capacity knows_new goes.tidy.last goes.tidy.next shrunk new c.args.number own line _ _ c.in_ok-step.step other tries.1 in
     let rested = rested_left capacity shrunk committed now old knows space mid goes knows_new new after tries.0 left.1 in
     on_err c.from_residual-in_err-make_room.result
     (tidy_stops capacity shrunk committed now old knows_new new after rested.tidy (g.G.Ground.outside c.make_room.new.base)
@@ -175,21 +176,21 @@ loop-preserved g c = record {
       let other = sym c.is_answered.ensures ∙ c.if-is_answered.false in
       commits_on _ 0 0 0 _ _ _ _ (c.loop.invariant.caused tells) (omega arith)
       (room_made _ (g.G.SectorView.space c.loop.base).barriers (g.G.SectorView.space c.attempt.new.base).barriers (g.G.SectorView.space c.make_room.new.base).barriers c.in_ok-step.step c.wants_commit.result other (λ wanted. is_wanted c.in_ok-step.step (sym c.wants_commit.ensures ∙ wanted)) (c.in_ok-step.ensures.wanted (c.loop.invariant.tells ∙ tells)) c.in_ok-step.ensures.barriers c.make_room.ensures.barriers) (omega arith);
-  goes = λ tells capacity committed now shrunk begun line spelled rests.
+  goes = λ tells capacity committed now shrunk begun own line spelled rests.
       let old = g.G.Ground.outside begun in
       let space = g.G.SectorView.space c.loop.base in
       let mid = g.G.Ground.outside c.loop.base in
       let knows = g.V.Volume.knows c.loop.volume space capacity in
-      let both = c.loop.invariant.goes tells capacity committed now shrunk begun line spelled rests in
-      let goes = rested_own capacity shrunk committed now old c.loop.may_wait line knows space mid both.1 in
+      let both = c.loop.invariant.goes tells capacity committed now shrunk begun own line spelled rests in
+      let goes = rested_own capacity shrunk committed now old c.loop.may_wait own line knows space mid both.1 in
       let tells_there = c.loop.invariant.tells ∙ tells in
       let there = stands_there capacity shrunk committed now old knows space mid goes.tidy in
       let new = g.G.SectorView.space c.attempt.new.base in
       let after = g.G.Ground.outside c.attempt.new.base in
       let knows_new = g.V.Volume.knows c.attempt.new.volume new capacity in
       let other = sym c.is_answered.ensures ∙ c.if-is_answered.false in
-      let tries = tried_left capacity knows_new goes.tidy.last goes.tidy.next shrunk c.args.number line _ _ space mid new after c.in_ok-step.step other (c.in_ok-step.ensures.tries tells_there capacity goes.tidy.last goes.tidy.next shrunk there line spelled) in
-      let left = left_line capacity knows_new goes.tidy.last goes.tidy.next shrunk new c.args.number line _ _ c.in_ok-step.step other tries.1 in
+      let tries = tried_left capacity knows_new goes.tidy.last goes.tidy.next shrunk c.args.number own line _ _ space mid new after c.in_ok-step.step other (c.in_ok-step.ensures.tries tells_there capacity goes.tidy.last goes.tidy.next shrunk there own line spelled) in
+      let left = left_line capacity knows_new goes.tidy.last goes.tidy.next shrunk new c.args.number own line _ _ c.in_ok-step.step other tries.1 in
       let rested = rested_left capacity shrunk committed now old knows space mid goes knows_new new after tries.0 left.1 in
       let end = g.G.SectorView.space c.make_room.new.base in (
         left.0 ∙ both.0,
@@ -200,9 +201,9 @@ loop-preserved g c = record {
 
 -- a command that comes to no end
 pub returns-clause-stops : goal.returns-clause-stops
-returns-clause-stops g c tells capacity committed now shrunk begun line spelled rests =
+returns-clause-stops g c tells capacity committed now shrunk begun own line spelled rests =
     let space = g.G.SectorView.space c.loop.base in
-    let both = c.loop.invariant.goes tells capacity committed now shrunk begun line spelled rests in
+    let both = c.loop.invariant.goes tells capacity committed now shrunk begun own line spelled rests in
     memory_stops_tidy capacity shrunk committed now (g.G.Ground.outside begun) (g.V.Volume.knows c.loop.volume space capacity) space (g.G.Ground.outside c.loop.base) both.1.tidy
 
 pub returns-in_err-step-clause-faults : goal.returns-in_err-step-clause-faults
@@ -253,5 +254,17 @@ returns-then-waits-clause-left g c tells is =
     let waits = sym c.waits.ensures ∙ c.if-waits.true in
     let waiting = c.loop.invariant.waiting (may_be_left c.in_ok-step.step c.loop.may_wait waits) in (
       waiting.0,
-      subst (λ n. WantsAt g.V.Volume.wants g.G.SectorView.space (Some c.args.command.now) n) waiting.1 (c.in_ok-step.ensures.wanted (c.loop.invariant.tells ∙ tells) (is_waiting c.in_ok-step.step c.loop.may_wait waits)),
+      subst (λ n. WantsAt g.V.Volume.wants g.G.SectorView.space (Some c.args.asked.now) n) waiting.1 (c.in_ok-step.ensures.wanted (c.loop.invariant.tells ∙ tells) (is_waiting c.in_ok-step.step c.loop.may_wait waits)),
     )
+
+pub returns-in_err-step-clause-caused : goal.returns-in_err-step-clause-caused
+returns-in_err-step-clause-caused g c tells = commits_on _ 0 1 1 _ _ _ _ (c.loop.invariant.caused tells) (omega arith) (short_commit _ (g.G.SectorView.space c.loop.base).barriers _ (omega (arith, c.attempt.ensures.most))) (omega arith)
+
+pub returns-in_err-make_room-clause-caused : goal.returns-in_err-make_room-clause-caused
+returns-in_err-make_room-clause-caused g c tells =
+    let other = sym c.is_answered.ensures ∙ c.if-is_answered.false in
+    commits_on _ 0 0 1 _ _ _ _ (c.loop.invariant.caused tells) (omega arith)
+    (room_made _ (g.G.SectorView.space c.loop.base).barriers (g.G.SectorView.space c.attempt.new.base).barriers (g.G.SectorView.space c.make_room.new.base).barriers c.in_ok-step.step c.wants_commit.result other (λ wanted. is_wanted c.in_ok-step.step (sym c.wants_commit.ensures ∙ wanted)) (c.in_ok-step.ensures.wanted (c.loop.invariant.tells ∙ tells)) c.in_ok-step.ensures.barriers c.make_room.ensures.barriers) (omega arith)
+
+pub returns-clause-caused : goal.returns-clause-caused
+returns-clause-caused g c tells = causes_more _ 0 1 _ _ (c.loop.invariant.caused tells) (omega arith)

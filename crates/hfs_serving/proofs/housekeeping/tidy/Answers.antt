@@ -70,7 +70,7 @@ loop-preserved g c = record {
   tells = c.in_ok-work.ensures.tells ∙ c.loop.invariant.tells;
   serves = λ capacity serves taken. let was = c.loop.invariant.serves capacity serves taken in c.in_ok-work.ensures.still capacity was.0 was.1;
   tries = omega (arith, c.work.ensures.fewer, c.loop.invariant.tries);
-  caused = λ tells. commits_on _ (8 - c.loop.tries) (c.loop.tries - c.work.new.tries) (8 - c.work.new.tries) _ _ _ _ (c.loop.invariant.caused tells) (omega arith) (c.in_ok-work.ensures.caused (c.loop.invariant.tells ∙ tells)) (omega (arith, c.work.ensures.fewer, c.loop.invariant.tries));
+  caused = λ tells. commits_on _ (8 - c.loop.tries) (c.loop.tries - c.work.new.tries) (8 - c.work.new.tries) _ _ _ _ (c.loop.invariant.caused tells) (omega arith) (c.work.ensures.caused (c.loop.invariant.tells ∙ tells)) (omega (arith, c.work.ensures.fewer, c.loop.invariant.tries));
   goes = λ tells capacity committed now shrunk stands.
       let old = g.G.Ground.outside c.args.base.now in
       let space = g.G.SectorView.space c.loop.base in
@@ -96,7 +96,10 @@ returns-clause-faults g c =
     fine c.loop.invariant.counts _
 
 pub returns-then-branch-clause-caused : goal.returns-then-branch-clause-caused
-returns-then-branch-clause-caused g c tells = commits_on _ (8 - c.loop.tries) (c.loop.tries - c.work.new.tries) 8 _ _ _ _ (c.loop.invariant.caused tells) (omega arith) (c.in_ok-work.ensures.caused (c.loop.invariant.tells ∙ tells)) (omega (arith, c.work.ensures.fewer, c.loop.invariant.tries))
+returns-then-branch-clause-caused g c tells = commits_on _ (8 - c.loop.tries) (c.loop.tries - c.work.new.tries) 8 _ _ _ _ (c.loop.invariant.caused tells) (omega arith) (c.work.ensures.caused (c.loop.invariant.tells ∙ tells)) (omega (arith, c.work.ensures.fewer, c.loop.invariant.tries))
 
 pub returns-clause-caused : goal.returns-clause-caused
 returns-clause-caused g c tells = causes_more _ (8 - c.loop.tries) 8 _ _ (c.loop.invariant.caused tells) (omega arith)
+
+pub returns-in_err-work-clause-caused : goal.returns-in_err-work-clause-caused
+returns-in_err-work-clause-caused g c tells = commits_on _ (8 - c.loop.tries) (c.loop.tries - c.work.new.tries) 8 _ _ _ _ (c.loop.invariant.caused tells) (omega arith) (c.work.ensures.caused (c.loop.invariant.tells ∙ tells)) (omega (arith, c.work.ensures.fewer, c.loop.invariant.tries))

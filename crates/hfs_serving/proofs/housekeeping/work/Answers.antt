@@ -345,3 +345,20 @@ returns-in_ok-commit-in-Ok-CommitFirst-clause-caused g c tells =
 pub returns-in_ok-come_back-in-Err-Memory-clause-caused : goal.returns-in_ok-come_back-in-Err-Memory-clause-caused
 returns-in_ok-come_back-in-Err-Memory-clause-caused g c tells =
     causes_more _ 1 _ _ _ (short_commit _ _ _ (omega (arith, c.keep.ensures.barriers, c.tidy_step.ensures.barriers, c.come_back.ensures.barriers))) (omega (arith, c.in_ok-take_try-in-Err-Memory.ensures.fewer))
+
+pub returns-in_err-commit-in-Ok-CommitFirst-clause-caused : goal.returns-in_err-commit-in-Ok-CommitFirst-clause-caused
+returns-in_err-commit-in-Ok-CommitFirst-clause-caused g c tells =
+    let s1 = g.G.SectorView.space c.keep.new.self in
+    let wants = g.V.Volume.wants c.args.volume.now s1 None in
+    let wanted = subst (λ (q : Result Next Trouble). IfOk q (λ n. n ≡ next.CommitFirst → wants)) c.in-Ok-CommitFirst.is (c.tidy_step.ensures.wanted (c.keep.ensures.same.tells ∙ tells)) c.in-Ok-CommitFirst.field-0-is in
+    wanted_commit _ _ _ _ (None, record { volume = c.args.volume.now; base = c.keep.new.self; behind = c.keep.ensures.barriers; wanted = wanted }) (omega (arith, c.keep.ensures.barriers, c.tidy_step.ensures.barriers, c.commit.ensures.barriers))
+
+pub returns-in-Err-Disk-clause-caused : goal.returns-in-Err-Disk-clause-caused
+returns-in-Err-Disk-clause-caused g c tells = no_commit _ _ _ _ (omega (arith, c.keep.ensures.barriers, c.tidy_step.ensures.barriers))
+
+pub returns-in_err-take_try-in-Err-Memory-clause-caused : goal.returns-in_err-take_try-in-Err-Memory-clause-caused
+returns-in_err-take_try-in-Err-Memory-clause-caused g c tells = no_commit _ _ _ _ (omega (arith, c.keep.ensures.barriers, c.tidy_step.ensures.barriers))
+
+pub returns-in_err-come_back-in-Err-Memory-clause-caused : goal.returns-in_err-come_back-in-Err-Memory-clause-caused
+returns-in_err-come_back-in-Err-Memory-clause-caused g c tells =
+    causes_more _ 1 _ _ _ (short_commit _ _ _ (omega (arith, c.keep.ensures.barriers, c.tidy_step.ensures.barriers, c.come_back.ensures.barriers))) (omega (arith, c.in_ok-take_try-in-Err-Memory.ensures.fewer))

@@ -1,17 +1,17 @@
 use Rattle.std.proofs.Common.{⊎_elim, [], inr, refl, ◌∙◌, subst, arith}
-use Rattle.std.specs.Prelude.{Some, IsTrue}
+use Rattle.std.specs.Prelude.{None, Some, IsTrue}
 use Rattle.hfs_language.specs.declared.refusal.Refusal.TheVariants as refusal
 use Rattle.hfs_language.specs.declared.reply.Reply.TheVariants as reply
 use Rattle.hfs_serving.proofs.Tries.{if_ok, line_does, line_serves, refused_does}
 use Rattle.hfs_serving.proofs.Going.{memory_stops_tidy, on_err, rested_any}
-use Rattle.hfs_serving.proofs.Caused.{causes_more, causes_wider, commits_on, not_first, on_ok}
+use Rattle.hfs_serving.proofs.Caused.{causes_more, causes_wider, commits_on, not_first}
 use Rattle.hfs_serving.proofs.lines.serve_line.Goals as goal
 
 pub serve_command-requires-clause-rests : goal.serve_command-requires-clause-rests
 serve_command-requires-clause-rests g c tells_there =
     let tells = subst (λ t. IsTrue t) c.in_ok-come_to_rest.ensures.tells tells_there in
     let there = c.requires.stands tells in
-    (there.0, there.1, there.2, there.3, c.args.base.now, c.args.line.now, c.in-Ok.ensures.command, c.in_ok-come_to_rest.ensures.rests tells there.0 there.1 there.2 there.3 there.4)
+    (there.0, there.1, there.2, there.3, c.args.base.now, None, c.args.line.now, c.in-Ok.ensures.asked, c.in_ok-come_to_rest.ensures.rests tells there.0 there.1 there.2 there.3 there.4)
 
 pub returns-in-Ok-clause-goes : goal.returns-in-Ok-clause-goes
 returns-in-Ok-clause-goes g c tells capacity committed now shrunk stands =
@@ -26,7 +26,7 @@ returns-in-Ok-clause-goes g c tells capacity committed now shrunk stands =
     let after = g.G.Ground.outside c.serve_command.new.base in
     let knows_new = g.V.Volume.knows c.serve_command.new.volume new capacity in
     if_ok _ _ c.serve_command.result (λ answered serves. line_serves capacity shrunk committed now old knows_new c.args.number line c.args.told.now c.serve_command.new.heard new after answered serves)
-    (c.serve_command.ensures.goes tells_there capacity committed now shrunk c.args.base.now line c.in-Ok.ensures.command rests)
+    (c.serve_command.ensures.goes tells_there capacity committed now shrunk c.args.base.now None line c.in-Ok.ensures.asked rests)
 
 pub returns-in-Ok-clause-stops : goal.returns-in-Ok-clause-stops
 returns-in-Ok-clause-stops g c tells capacity committed now shrunk stands =
@@ -37,7 +37,7 @@ returns-in-Ok-clause-stops g c tells capacity committed now shrunk stands =
     let line = c.args.line.now in
     let rests = c.in_ok-come_to_rest.ensures.rests tells capacity committed now shrunk stands in
     let tells_there = c.in_ok-come_to_rest.ensures.tells ∙ tells in
-    c.serve_command.ensures.stops tells_there capacity committed now shrunk c.args.base.now line c.in-Ok.ensures.command rests
+    c.serve_command.ensures.stops tells_there capacity committed now shrunk c.args.base.now None line c.in-Ok.ensures.asked rests
 
 pub returns-in_err-refuse-in-Err-clause-stops : goal.returns-in_err-refuse-in-Err-clause-stops
 returns-in_err-refuse-in-Err-clause-stops g c tells capacity committed now shrunk stands =
@@ -70,20 +70,25 @@ returns-in_ok-refuse-in-Err-clause-goes g c tells capacity committed now shrunk 
 pub returns-in-Ok-clause-caused : goal.returns-in-Ok-clause-caused
 returns-in-Ok-clause-caused g c tells =
     let tells_there = c.in_ok-come_to_rest.ensures.tells ∙ tells in
-    on_ok _ _ c.serve_command.result
-    (λ made. commits_on _ 8 1 9 _ _ _ _ (c.in_ok-come_to_rest.ensures.caused tells) (omega arith) (causes_wider _ _ _ _ _ (λ passed wanted. (Some c.in-Ok.command, wanted)) made) (omega arith)) (c.serve_command.ensures.caused tells_there)
+    commits_on _ 8 1 9 _ _ _ _ (c.come_to_rest.ensures.caused tells) (omega arith) (causes_wider _ _ _ _ _ (λ passed wanted. (Some c.in-Ok.asked, wanted)) (c.serve_command.ensures.caused tells_there)) (omega arith)
 
 pub returns-in-Ok-clause-left : goal.returns-in-Ok-clause-left
 returns-in-Ok-clause-left g c tells =
     if_ok _ _ c.serve_command.result
-    (λ answered left is. let it = left is in (not_first c.args.first it.0, record { asked = c.in-Ok.command; is_of = c.in-Ok.ensures.command; passed = _; wanted = it.1 }))
+    (λ answered left is. let it = left is in (not_first c.args.first it.0, record { asked = c.in-Ok.asked; is_of = c.in-Ok.ensures.asked; passed = _; wanted = it.1 }))
     (c.serve_command.ensures.left (c.in_ok-come_to_rest.ensures.tells ∙ tells))
 
 pub returns-in_ok-refuse-in-Err-clause-caused : goal.returns-in_ok-refuse-in-Err-clause-caused
-returns-in_ok-refuse-in-Err-clause-caused g c tells = causes_more _ 8 9 _ _ (c.in_ok-come_to_rest.ensures.caused tells) (omega arith)
+returns-in_ok-refuse-in-Err-clause-caused g c tells = causes_more _ 8 9 _ _ (c.come_to_rest.ensures.caused tells) (omega arith)
 
 pub returns-in_ok-refuse-in-Err-clause-left : goal.returns-in_ok-refuse-in-Err-clause-left
 returns-in_ok-refuse-in-Err-clause-left g c tells is = absurd (cc is)
 
 pub returns-in_err-come_to_rest-clause-stops : goal.returns-in_err-come_to_rest-clause-stops
 returns-in_err-come_to_rest-clause-stops g c tells capacity committed now shrunk stands = on_err c.from_residual.result (c.in_err-come_to_rest.ensures.stops tells capacity committed now shrunk stands)
+
+pub returns-in_err-come_to_rest-clause-caused : goal.returns-in_err-come_to_rest-clause-caused
+returns-in_err-come_to_rest-clause-caused g c tells = causes_more _ 8 9 _ _ (c.come_to_rest.ensures.caused tells) (omega arith)
+
+pub returns-in_err-refuse-in-Err-clause-caused : goal.returns-in_err-refuse-in-Err-clause-caused
+returns-in_err-refuse-in-Err-clause-caused g c tells = causes_more _ 8 9 _ _ (c.come_to_rest.ensures.caused tells) (omega arith)

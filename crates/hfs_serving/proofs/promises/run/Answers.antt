@@ -16,6 +16,7 @@ use Rattle.watchers.proofs.Tellings.{told_nothing}
 use Rattle.line_source.specs.Input.{TakesLines}
 use Rattle.line_source.proofs.Cuts.{all_taken}
 use Rattle.std.proofs.lemmas.Result.{err_from_is_err_and}
+use Rattle.hfs_serving.proofs.Going.{on_err}
 use Rattle.hfs_serving.proofs.Causes.{counts_both, counts_none, fine_stop, handed_on, handed_stop, other_stop}
 use Rattle.sector_disk.specs.Cause.{Rose}
 use Rattle.line_source.specs.Input.{ahead}
@@ -26,7 +27,7 @@ use Rattle.std.specs.Prelude.{Some}
 use Rattle.hfs_serving.specs.Ending.{EndsTaking}
 use Rattle.hfs_serving.proofs.Grounding.{disks_both, same_disk}
 use Rattle.hfs_serving.proofs.Answering.{answers_finish, answers_seen, handed_answers, no_end_of_memory, no_end_of_trouble}
-use Rattle.hfs_serving.proofs.Caused.{batches_wider}
+use Rattle.hfs_serving.proofs.Caused.{batches_more, batches_wider, run_none}
 use Rattle.hfs_serving.proofs.promises.run.Goals as goal
 
 pub returns-in_err-input-clause-promises : goal.returns-in_err-input-clause-promises
@@ -349,7 +350,40 @@ returns-clause-commits g c tells =
         begun = (g.R.SectorDisk.state c.args.base.now.disk.now).barriers;
         first = omega arith;
         ended = (g.R.SectorDisk.state c.serve_source.new.base.disk.now).barriers;
-        batches = batches_wider _ _ g.K.Speaker.often _ _ _ (λ passed it. record { asked = it.0; volume = it.1.volume; store = it.1.base.store.now; rig = it.1.base.disk.now; store_name = it.1.base.store.ghost_name; rig_name = it.1.base.disk.ghost_name; behind = it.1.behind; wanted = it.1.wanted }) served.2;
+        batches = batches_wider _ _ g.K.Speaker.often 1 _ _ _ (λ passed it. record { asked = it.0; volume = it.1.volume; store = it.1.base.store.now; rig = it.1.base.disk.now; store_name = it.1.base.store.ghost_name; rig_name = it.1.base.disk.ghost_name; behind = it.1.behind; wanted = it.1.wanted }) served.2;
+        last = c.finish.ensures.barriers;
+      },
+    )
+
+pub returns-in_err-input-clause-cut : goal.returns-in_err-input-clause-cut
+returns-in_err-input-clause-cut g c tells = on_err c.from_residual.result (0, λ told. omega arith, run_none _ g.K.Speaker.often 0 2 _ _ (omega arith))
+
+pub returns-in_err-serve_source-clause-cut : goal.returns-in_err-serve_source-clause-cut
+returns-in_err-serve_source-clause-cut g c tells =
+    let served = c.in_err-serve_source.ensures.cut tells in
+    on_err c.from_residual-in_err-serve_source.result (
+      served.0,
+      λ told. subst (λ (l : List ℕ). served.0 ≤ length (lines (ahead l (g.S.Source.stream c.args.source.now)))) c.in_ok-input.ensures (served.1 told),
+      record {
+        begun = (g.R.SectorDisk.state c.args.base.now.disk.now).barriers;
+        first = omega arith;
+        ended = (g.R.SectorDisk.state c.serve_source.new.base.disk.now).barriers;
+        batches = batches_wider _ _ g.K.Speaker.often 2 _ _ _ (λ passed it. record { asked = it.0; volume = it.1.volume; store = it.1.base.store.now; rig = it.1.base.disk.now; store_name = it.1.base.store.ghost_name; rig_name = it.1.base.disk.ghost_name; behind = it.1.behind; wanted = it.1.wanted }) served.2;
+        last = omega arith;
+      },
+    )
+
+pub returns-in_err-finish-clause-cut : goal.returns-in_err-finish-clause-cut
+returns-in_err-finish-clause-cut g c tells =
+    let served = c.in_ok-serve_source.ensures.commits tells in
+    on_err c.from_residual-in_err-finish.result (
+      served.0,
+      λ told. omega (arith, subst (λ (l : List ℕ). served.0 ≡ length (lines (ahead l (g.S.Source.stream c.args.source.now)))) c.in_ok-input.ensures (served.1 told)),
+      record {
+        begun = (g.R.SectorDisk.state c.args.base.now.disk.now).barriers;
+        first = omega arith;
+        ended = (g.R.SectorDisk.state c.serve_source.new.base.disk.now).barriers;
+        batches = batches_wider _ _ g.K.Speaker.often 2 _ _ _ (λ passed it. record { asked = it.0; volume = it.1.volume; store = it.1.base.store.now; rig = it.1.base.disk.now; store_name = it.1.base.store.ghost_name; rig_name = it.1.base.disk.ghost_name; behind = it.1.behind; wanted = it.1.wanted }) (batches_more _ g.K.Speaker.often 1 _ _ _ served.2);
         last = c.finish.ensures.barriers;
       },
     )

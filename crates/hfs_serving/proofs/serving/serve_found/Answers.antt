@@ -22,7 +22,9 @@ use Rattle.hfs_serving.proofs.Numbering.{no_trouble}
 use Rattle.hfs_serving.proofs.Answering.{answers_from, answers_rig, no_end_of_trouble}
 use Rattle.hfs_serving.proofs.Grounding.{disks_both}
 use Rattle.watchers.proofs.Tellings.{told_nothing}
-use Rattle.hfs_serving.proofs.Caused.{on_ok, run_behind}
+use Rattle.hfs_serving.proofs.Going.{on_err}
+use Rattle.hfs_serving.proofs.Hearing.{err_then}
+use Rattle.hfs_serving.proofs.Caused.{on_ok, run_behind, run_none}
 use Rattle.hfs_serving.proofs.serving.serve_found.Goals as goal
 
 pub returns-in_err-ready-clause-promises : goal.returns-in_err-ready-clause-promises
@@ -140,4 +142,11 @@ returns-clause-same g c = disks_both c.ready_image.ensures.same c.serve_ready.en
 
 pub returns-clause-commits : goal.returns-clause-commits
 returns-clause-commits g c tells =
-    on_ok _ _ c.serve_ready.result (λ served. (served.0, served.1, run_behind _ g.K.Speaker.often 4 4 served.0 _ _ _ served.2 c.ready_image.ensures.barriers)) (c.serve_ready.ensures.commits (subst (λ t. IsTrue t) (sym c.ready_image.ensures.same.tells) tells))
+    on_ok _ _ c.serve_ready.result (λ served. (served.0, served.1, run_behind _ g.K.Speaker.often 4 4 1 served.0 _ _ _ served.2 c.ready_image.ensures.barriers)) (c.serve_ready.ensures.commits (subst (λ t. IsTrue t) (sym c.ready_image.ensures.same.tells) tells))
+
+pub returns-in_err-ready-clause-cut : goal.returns-in_err-ready-clause-cut
+returns-in_err-ready-clause-cut g c tells = on_err c.from_residual.result (0, λ told. omega arith, run_none _ g.K.Speaker.often 8 2 _ _ (omega (arith, c.ready_image.ensures.barriers)))
+
+pub returns-clause-cut : goal.returns-clause-cut
+returns-clause-cut g c tells =
+    err_then c.serve_ready.result (λ served. (served.0, served.1, run_behind _ g.K.Speaker.often 4 4 2 served.0 _ _ _ served.2 c.ready_image.ensures.barriers)) (c.serve_ready.ensures.cut (subst (λ t. IsTrue t) (sym c.ready_image.ensures.same.tells) tells))

@@ -21,14 +21,16 @@ use Rattle.jnl_store.specs.Spaces.{over}
 use Rattle.hfs_serving.specs.Faults.{RigFaults}
 use Rattle.hfs_serving.proofs.Causes.{behind_stop, counts_none, handed_stop, rig_from, rig_memory}
 use Rattle.hfs_serving.proofs.Numbering.{no_memory, no_trouble}
-use Rattle.std.specs.Prelude.{OnOk}
+use Rattle.std.specs.Prelude.{◌≤◌, OnErr, OnOk}
+use Rattle.hfs_serving.proofs.Going.{on_err}
+use Rattle.hfs_serving.proofs.Hearing.{err_then}
 use Rattle.hfs_serving.specs.Ending.{IsPutAway}
 use Rattle.sector_disk.specs.Disk.{SameDisk}
 use Rattle.hfs_serving.proofs.Grounding.{disks_both, same_disk}
 use Rattle.hfs_serving.proofs.Answering.{begun_answers, no_end_of_memory, no_end_of_trouble}
 use Rattle.hfs_language.specs.Lines.{lines}
 use Rattle.hfs_serving.specs.Commits.{CommitsRun, WantsOver}
-use Rattle.hfs_serving.proofs.Caused.{on_ok, run_behind}
+use Rattle.hfs_serving.proofs.Caused.{on_ok, run_behind, run_none}
 use Rattle.hfs_serving.proofs.serving.serve_ready.Goals as goal
 
 pub returns-in_err-store-clause-stretch : goal.returns-in_err-store-clause-stretch
@@ -243,5 +245,31 @@ returns-clause-commits g c tells =
     let names = c.run.ensures.names ∙ ap (λ (a : Anchor). a.names) c.attach_volume.ensures.anchor in
     let rig_is = c.rig-2-1.given.1 (sym (ap (λ (l : List ℕ). get_or l 1 0) names)) in
     let space_tells = tells_space store c.args.plan.now d0 attached (g.met.R.SectorDisk.well_formed disk) tells there.0 there.1 c.store-3-1.given.0 c.base-1.given in
-    subst (λ (r : g.row.R.Denot). OnOk c.run.result ((count : ℕ) × (IsTrue (g.S.Source.stream c.args.source.now).tells → count ≡ length (lines (g.S.Source.stream c.args.source.now).left)) × CommitsRun (WantsOver g.V.Volume.wants g.R.SectorDisk.state) g.K.Speaker.often 4 count d0.barriers (g.R.SectorDisk.state r).barriers)) (sym rig_is)
-    (on_ok _ _ c.run.result (λ served. (served.0, served.1, run_behind _ g.K.Speaker.often 0 4 served.0 d0.barriers _ _ served.2 c.attach_volume.ensures.barriers)) (c.run.ensures.commits (subst (λ t. IsTrue t) (sym c.in_ok-volume.ensures.tells) space_tells)))
+    subst (λ (r : g.row.R.Denot). OnOk c.run.result ((count : ℕ) × (IsTrue (g.S.Source.stream c.args.source.now).tells → count ≡ length (lines (g.S.Source.stream c.args.source.now).left)) × CommitsRun (WantsOver g.V.Volume.wants g.R.SectorDisk.state) g.K.Speaker.often 4 1 count d0.barriers (g.R.SectorDisk.state r).barriers)) (sym rig_is)
+    (on_ok _ _ c.run.result (λ served. (served.0, served.1, run_behind _ g.K.Speaker.often 0 4 1 served.0 d0.barriers _ _ served.2 c.attach_volume.ensures.barriers)) (c.run.ensures.commits (subst (λ t. IsTrue t) (sym c.in_ok-volume.ensures.tells) space_tells)))
+
+pub returns-in_err-store-clause-cut : goal.returns-in_err-store-clause-cut
+returns-in_err-store-clause-cut g c tells = on_err c.from_residual.result (0, λ told. omega arith, run_none _ g.K.Speaker.often 4 2 _ _ (omega arith))
+
+pub returns-in_err-volume-clause-cut : goal.returns-in_err-volume-clause-cut
+returns-in_err-volume-clause-cut g c tells =
+    let d0 = g.R.SectorDisk.state c.args.rig.now in
+    let names = ap (λ (a : Anchor). a.names) c.attach_volume.ensures.anchor in
+    let rig_is = c.in_err-volume.rig-1-own.given.1 (sym (ap (λ (l : List ℕ). get_or l 1 0) names)) in
+    let source = g.S.Source.stream c.args.source.now in
+    on_err c.from_residual-in_err-volume.result
+    (subst (λ (r : g.row.R.Denot). (count : ℕ) × (IsTrue source.tells → count ≤ length (lines source.left)) × CommitsRun (WantsOver g.V.Volume.wants g.R.SectorDisk.state) g.K.Speaker.often 4 2 count d0.barriers (g.R.SectorDisk.state r).barriers) (sym rig_is)
+    (0, λ told. omega arith, run_none _ g.K.Speaker.often 4 2 _ _ c.attach_volume.ensures.barriers))
+
+pub returns-clause-cut : goal.returns-clause-cut
+returns-clause-cut g c tells =
+    let disk = c.args.rig.now in
+    let d0 = g.R.SectorDisk.state disk in
+    let store = c.in_ok-store.store in
+    let attached = c.in_ok-store.ensures disk c.requires.fits in
+    let there = c.requires.ready tells in
+    let names = c.run.ensures.names ∙ ap (λ (a : Anchor). a.names) c.attach_volume.ensures.anchor in
+    let rig_is = c.rig-2-1.given.1 (sym (ap (λ (l : List ℕ). get_or l 1 0) names)) in
+    let space_tells = tells_space store c.args.plan.now d0 attached (g.met.R.SectorDisk.well_formed disk) tells there.0 there.1 c.store-3-1.given.0 c.base-1.given in
+    subst (λ (r : g.row.R.Denot). OnErr c.run.result ((count : ℕ) × (IsTrue (g.S.Source.stream c.args.source.now).tells → count ≤ length (lines (g.S.Source.stream c.args.source.now).left)) × CommitsRun (WantsOver g.V.Volume.wants g.R.SectorDisk.state) g.K.Speaker.often 4 2 count d0.barriers (g.R.SectorDisk.state r).barriers)) (sym rig_is)
+    (err_then c.run.result (λ served. (served.0, served.1, run_behind _ g.K.Speaker.often 0 4 2 served.0 d0.barriers _ _ served.2 c.attach_volume.ensures.barriers)) (c.run.ensures.cut (subst (λ t. IsTrue t) (sym c.in_ok-volume.ensures.tells) space_tells)))

@@ -10,7 +10,8 @@ use Rattle.hfs_serving.specs.Speaking.{SpeaksFrom}
 use Rattle.hfs_serving.specs.Spoken.{AnswersRigSpoken, KeepsSpoken}
 use Rattle.hfs_serving.specs.declared.checking.MountRefusal.{MountRefusal}
 use Rattle.hfs_serving.proofs.Answering.{handed_answers, no_end_of_trouble, trouble_stops}
-use Rattle.hfs_serving.proofs.Caused.{run_behind}
+use Rattle.hfs_serving.proofs.Going.{on_err}
+use Rattle.hfs_serving.proofs.Caused.{run_behind, run_none}
 use Rattle.hfs_serving.proofs.Causes.{rig_fine, rig_handed, rig_trouble}
 use Rattle.hfs_serving.proofs.Grounding.{disks_both}
 use Rattle.hfs_serving.proofs.Numbering.{no_trouble, too_many}
@@ -203,4 +204,13 @@ pub returns-in_ok-serve_found-in-Ok-clause-commits : goal.returns-in_ok-serve_fo
 returns-in_ok-serve_found-in-Ok-clause-commits g c tells =
     let reads = c.find_image.ensures.reads in
     let served = c.in_ok-serve_found-in-Ok.ensures.commits (reads.same.tells ∙ tells) in
-    (served.0, served.1, run_behind _ g.K.Speaker.often 8 0 served.0 _ _ _ served.2 (omega (arith, reads.barriers)))
+    (served.0, served.1, run_behind _ g.K.Speaker.often 8 0 1 served.0 _ _ _ served.2 (omega (arith, reads.barriers)))
+
+pub returns-in_err-plan-clause-cut : goal.returns-in_err-plan-clause-cut
+returns-in_err-plan-clause-cut g c tells = on_err c.from_residual.result (0, λ told. omega arith, run_none _ g.K.Speaker.often 8 2 _ _ (omega (arith, c.find_image.ensures.reads.barriers)))
+
+pub returns-in_err-serve_found-in-Ok-clause-cut : goal.returns-in_err-serve_found-in-Ok-clause-cut
+returns-in_err-serve_found-in-Ok-clause-cut g c tells =
+    let reads = c.find_image.ensures.reads in
+    let served = c.in_err-serve_found-in-Ok.ensures.cut (reads.same.tells ∙ tells) in
+    on_err c.from_residual-in_err-serve_found-in-Ok.result (served.0, served.1, run_behind _ g.K.Speaker.often 8 0 2 served.0 _ _ _ served.2 (omega (arith, reads.barriers)))

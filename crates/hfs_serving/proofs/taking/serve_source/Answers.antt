@@ -1,4 +1,4 @@
-use Rattle.std.proofs.Common.{◌≡◌, ◌≤◌, ◌<◌, ◌+◌, [], ℕ, List, length, length-append, length-drop, take, refl, sym, ◌∙◌, ap, subst, arith}
+use Rattle.std.proofs.Common.{◌≡◌, ◌≤◌, ◌<◌, ◌+◌, [], ℕ, List, length, length-append, length-drop, take, drop, refl, sym, ◌∙◌, ap, subst, arith}
 use Rattle.std.specs.Prelude.{Option, IsTrue}
 use Rattle.jnl_format.specs.Recovery.{Content}
 use Rattle.hfs_serving.specs.Going.{Stands}
@@ -9,10 +9,10 @@ use Rattle.hfs_serving.proofs.Stepping.{no_line_served, step_both, step_crash, s
 use Rattle.hfs_serving.proofs.Promising.{took_none}
 use Rattle.hfs_serving.proofs.Pending.{crash_held, held_length, no_items, on_add, on_ends, on_none, on_serve, on_stops, step_held, step_more}
 use Rattle.std.proofs.lemmas.Result.{err_from_is_err_and}
-use Rattle.hfs_serving.proofs.Caused.{batch_on, first_batch}
+use Rattle.hfs_serving.proofs.Caused.{batch_on, batches_more, first_batch, first_cut}
 use Rattle.hfs_serving.proofs.Causes.{counts_both, counts_none, fine_stop, handed_on, other_stop, took_stop}
 use Rattle.sector_disk.specs.Cause.{Rose}
-use Rattle.hfs_serving.proofs.Numbering.{all_lines, counted, more_lines, too_many}
+use Rattle.hfs_serving.proofs.Numbering.{all_lines, counted, more_lines, most_lines, too_many}
 use Rattle.std.proofs.Common.{◌-◌, ◌++◌}
 use Rattle.hfs_serving.specs.Speaking.{Speaks}
 use Rattle.hfs_serving.specs.Spoken.{CrashesSpoken}
@@ -124,8 +124,8 @@ loop-lines-preserved g c =
       most = omega (arith, c.in_ok-take_lines.ensures.most, ap (λ (l : List (List ℕ)). length l) c.drop_first.ensures, length-drop c.in_ok-count.count pending);
       bound = omega (arith, c.loop-lines.invariant.bound);
       commits = λ tells.
-          batch_on _ g.K.Speaker.often (4294967295 - c.loop-lines.left) c.in_ok-count.count (4294967295 - (c.loop-lines.left - c.in_ok-count.count)) _ _ _ (c.loop-lines.invariant.commits tells) (c.in_ok-count.ensures.once (c.loop-lines.invariant.tells ∙ tells)) (grind (arith, nat_tests, c.if-count-eq0.false))
-          (omega (arith, far, c.loop-lines.invariant.bound));
+          let some : 0 < c.in_ok-count.count = grind (arith, nat_tests, c.if-count-eq0.false) in
+          batch_on _ g.K.Speaker.often 1 1 (4294967295 - c.loop-lines.left) c.in_ok-count.count (4294967295 - (c.loop-lines.left - c.in_ok-count.count)) _ _ _ (c.loop-lines.invariant.commits tells) (c.in_ok-count.ensures.once (c.loop-lines.invariant.tells ∙ tells)) (omega (arith, some, far, c.loop-lines.invariant.bound)) (omega (arith, far, c.loop-lines.invariant.bound));
       on = (
         c.loop-lines.invariant.on.0 ++ c.in_ok-count.ensures.serves.0,
         λ stay.
@@ -396,3 +396,46 @@ returns-then-count-eq0-clause-serves g c =
 pub serve_step-requires-in-loop-lines-clause-numbers : goal.serve_step-requires-in-loop-lines-clause-numbers
 serve_step-requires-in-loop-lines-clause-numbers g c =
     omega (arith, c.loop-lines.invariant.bound, c.in_ok-take_lines.ensures.left, ap (λ (l : List (List ℕ)). length l) c.as_slice-in-loop-lines.ensures.value)
+
+pub returns-in_err-serve_step-clause-cut : goal.returns-in_err-serve_step-clause-cut
+returns-in_err-serve_step-clause-cut g c tells =
+    on_err c.from_residual.result (0, λ told. omega arith, first_cut _ g.K.Speaker.often _ _ _ (c.as_slice.ensures.value ∙ c.new-lines.ensures.items) (c.in_err-serve_step.ensures.cut tells))
+
+pub returns-in_err-take_lines-clause-cut : goal.returns-in_err-take_lines-clause-cut
+returns-in_err-take_lines-clause-cut g c tells =
+    let on = c.loop-lines.invariant.on.2 in
+    on_err c.from_residual-in_err-take_lines.result (
+      4294967295 - c.loop-lines.left,
+      λ told. omega (arith, on.1.0, on.0.inside, most_lines c.args.input.now (g.S.Source.stream c.args.source.now) on.0.texts c.loop-lines.input (g.S.Source.stream c.loop-lines.source) (on.0.takes told)),
+      batches_more _ g.K.Speaker.often 1 (4294967295 - c.loop-lines.left) _ _ (c.loop-lines.invariant.commits tells),
+    )
+
+pub returns-in_err-count-clause-cut : goal.returns-in_err-count-clause-cut
+returns-in_err-count-clause-cut g c tells =
+    let source = g.S.Source.stream c.args.source.now in
+    let now = g.S.Source.stream c.loop-lines.source in
+    let new = g.S.Source.stream c.take_lines.new.source in
+    let pending = c.take_lines.new.pending.items in
+    let same = c.loop-lines.invariant.same in
+    let cut = c.in_err-count.ensures.cut (c.loop-lines.invariant.tells ∙ tells) in
+    let few = subst (λ (l : List (List ℕ)). cut.0 ≤ length l) c.as_slice-in-loop-lines.ensures.value cut.1 in
+    let read =
+    on_add c.args.input.now source c.loop-lines.lines.items c.loop-lines.input now (λ (count : ℕ) (texts : List (List ℕ)). count + c.loop-lines.left ≡ 4294967295) (c.loop-lines.invariant.on.2.0, c.loop-lines.invariant.on.2.1.0) pending c.take_lines.new.input new same.tells c.in_ok-take_lines.ensures.lines
+    (λ count texts more inside served. served) in
+    let served =
+    on_serve c.args.input.now source pending c.take_lines.new.input new _ read (λ (count : ℕ) (texts : List (List ℕ)). count ≡ 4294967295 - c.loop-lines.left + cut.0) cut.0 (drop cut.0 pending) few refl
+    (λ count texts inside are was. omega (arith, was)) in
+    on_err c.from_residual-in_err-count.result (
+      4294967295 - c.loop-lines.left + cut.0,
+      λ told. omega (arith, served.1, served.0.inside, most_lines c.args.input.now source served.0.texts c.take_lines.new.input new (served.0.takes told)),
+      batch_on _ g.K.Speaker.often 1 2 (4294967295 - c.loop-lines.left) cut.0 (4294967295 - c.loop-lines.left + cut.0) _ _ _ (c.loop-lines.invariant.commits tells) cut.2 (omega arith) (omega arith),
+    )
+
+pub returns-then-count-eq0-clause-cut : goal.returns-then-count-eq0-clause-cut
+returns-then-count-eq0-clause-cut g c tells =
+    let on = c.loop-lines.invariant.on.2 in
+    let none : c.in_ok-count.count ≡ 0 = grind (arith, nat_tests, c.if-count-eq0.true) in (
+      4294967295 - c.loop-lines.left,
+      λ told. omega (arith, on.1.0, on.0.inside, most_lines c.args.input.now (g.S.Source.stream c.args.source.now) on.0.texts c.loop-lines.input (g.S.Source.stream c.loop-lines.source) (on.0.takes told)),
+      batch_on _ g.K.Speaker.often 1 2 (4294967295 - c.loop-lines.left) c.in_ok-count.count (4294967295 - c.loop-lines.left) _ _ _ (c.loop-lines.invariant.commits tells) (c.in_ok-count.ensures.once (c.loop-lines.invariant.tells ∙ tells)) (omega arith) (omega (arith, none)),
+    )

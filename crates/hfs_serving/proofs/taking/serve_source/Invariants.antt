@@ -28,7 +28,7 @@ invariant-loop-lines g l =
       fits : length l.lines.items ≤ l.left;
       most : length l.lines.items ≤ 32;
       bound : l.left ≤ 4294967295;
-      commits : IsTrue (g.G.SectorView.space l.fn.base).tells → CommitsABatch (SomeWantsAt g.V.Volume.wants g.G.SectorView.space) g.K.Speaker.often (4294967295 - l.left) (g.G.SectorView.space l.fn.base).barriers (g.G.SectorView.space l.base).barriers;
+      commits : IsTrue (g.G.SectorView.space l.fn.base).tells → CommitsABatch (SomeWantsAt g.V.Volume.wants g.G.SectorView.space) g.K.Speaker.often 1 (4294967295 - l.left) (g.G.SectorView.space l.fn.base).barriers (g.G.SectorView.space l.base).barriers;
       on : (heard : List Change)
           × (AllByRecursion (λ w. g.W.Watcher.leaves w ≡ false) l.fn.watchers.items
           → AreTold g.W.Watcher.told g.W.Watcher.leaves heard l.fn.watchers.items l.watchers.items)

@@ -92,3 +92,11 @@ pub returns-in-Ok-clause-once : goal.returns-in-Ok-clause-once
 returns-in-Ok-clause-once g c tells =
     let once = c.in_ok-count.ensures.once tells in
     record { ending = once.ending; before = once.before; last = omega (arith, once.last, c.tell_all-2.ensures.barriers) }
+
+pub returns-in_err-count-clause-cut : goal.returns-in_err-count-clause-cut
+returns-in_err-count-clause-cut g c tells = on_err c.from_residual.result (c.in_err-count.ensures.cut tells)
+
+pub returns-clause-cut : goal.returns-clause-cut
+returns-clause-cut g c tells =
+    let once = c.in_ok-count.ensures.once tells in
+    (c.in_ok-count.count, c.in_ok-count.ensures.few, record { ending = once.ending; before = once.before; last = omega (arith, once.last, c.tell_all-2.ensures.barriers) })

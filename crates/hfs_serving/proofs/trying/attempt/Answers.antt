@@ -33,7 +33,7 @@ perform_step-requires-clause-stands g c tells_kept =
     )
 
 pub returns-in-Ok-clause-tries : goal.returns-in-Ok-clause-tries
-returns-in-Ok-clause-tries g c tells capacity committed now shrunk stands line spelled =
+returns-in-Ok-clause-tries g c tells capacity committed now shrunk stands own line spelled =
     let old = g.G.Ground.outside c.args.base.now in
     let s0 = g.G.SectorView.space c.args.base.now in
     let s1 = g.G.SectorView.space c.keep.new.self in
@@ -47,9 +47,9 @@ returns-in-Ok-clause-tries g c tells capacity committed now shrunk stands line s
     let there = stands_kept committed now shrunk knows knows_kept s0 s1 s2 s2 old o1 o2 o2 stands c.keep.ensures.same c.keep.ensures.quiet carries in
     let touches = c.perform_step.ensures.touches tells_kept capacity committed now shrunk there in
     let knows_new = g.V.Volume.knows c.perform_step.new.volume s2 capacity in
-    made_tries capacity knows_new committed now shrunk c.args.number line _ _ s0 old s2 o2 c.in-Ok.step
+    made_tries capacity knows_new committed now shrunk c.args.number own line _ _ s0 old s2 o2 c.in-Ok.step
     (kept_touches committed s0 s1 s2 old o1 o2 c.keep.ensures.same c.keep.ensures.quiet touches)
-    (subst (λ (q : Result Step Trouble). IfOk q (λ step. AnswersTo step capacity knows_new committed now shrunk s2 c.args.number line (λ said changes. g.H.Hearer.hears c.args.heard.now said changes c.perform_step.new.heard) (c.perform_step.new.heard ≡ c.args.heard.now))) c.in-Ok.is (c.perform_step.ensures.answered tells_kept capacity committed now shrunk there line spelled))
+    (subst (λ (q : Result Step Trouble). IfOk q (λ step. AnswersTo step capacity knows_new committed now shrunk s2 c.args.number own line (λ said changes. g.H.Hearer.hears c.args.heard.now said changes c.perform_step.new.heard) (c.perform_step.new.heard ≡ c.args.heard.now))) c.in-Ok.is (c.perform_step.ensures.answered tells_kept capacity committed now shrunk there own line spelled))
 
 pub returns-in-Ok-clause-still : goal.returns-in-Ok-clause-still
 returns-in-Ok-clause-still g c capacity serves taken =
@@ -156,7 +156,7 @@ returns-in_err-hear_short-in-Err-Memory-clause-stops g c tells capacity committe
     on_err c.from_residual-in_err-hear_short-in-Err-Memory.result (memory_stops_tidy capacity shrunk committed now old (g.V.Volume.knows c.come_back.new.volume s5 capacity) s5 (g.G.Ground.outside c.come_back.new.base) back.goes)
 
 pub returns-in_ok-hear_short-in-Err-Memory-clause-tries : goal.returns-in_ok-hear_short-in-Err-Memory-clause-tries
-returns-in_ok-hear_short-in-Err-Memory-clause-tries g c tells capacity committed now shrunk stands line spelled =
+returns-in_ok-hear_short-in-Err-Memory-clause-tries g c tells capacity committed now shrunk stands own line spelled =
     let old = g.G.Ground.outside c.args.base.now in
     let s0 = g.G.SectorView.space c.args.base.now in
     let s1 = g.G.SectorView.space c.keep.new.self in
@@ -185,7 +185,7 @@ returns-in_ok-hear_short-in-Err-Memory-clause-tells g c = c.in_ok-come_back-in-E
 
 pub returns-in-Ok-clause-wanted : goal.returns-in-Ok-clause-wanted
 returns-in-Ok-clause-wanted g c tells is =
-    let wants = g.V.Volume.wants c.args.volume.now (g.G.SectorView.space c.keep.new.self) (Some c.args.command.now) in
+    let wants = g.V.Volume.wants c.args.volume.now (g.G.SectorView.space c.keep.new.self) (Some c.args.asked.now) in
     record {
       volume = c.args.volume.now;
       base = c.keep.new.self;
@@ -201,3 +201,18 @@ returns-in_ok-hear_short-in-Err-Memory-clause-wanted g c tells is = absurd (cc i
 
 pub returns-in_ok-hear_short-in-Err-Memory-clause-barriers : goal.returns-in_ok-hear_short-in-Err-Memory-clause-barriers
 returns-in_ok-hear_short-in-Err-Memory-clause-barriers g c = omega (arith, c.keep.ensures.barriers, c.perform_step.ensures.barriers, c.come_back.ensures.barriers)
+
+pub returns-in-Ok-clause-most : goal.returns-in-Ok-clause-most
+returns-in-Ok-clause-most g c = omega (arith, c.keep.ensures.barriers, c.perform_step.ensures.barriers)
+
+pub returns-in-Err-Disk-clause-most : goal.returns-in-Err-Disk-clause-most
+returns-in-Err-Disk-clause-most g c = omega (arith, c.keep.ensures.barriers, c.perform_step.ensures.barriers)
+
+pub returns-in_err-come_back-in-Err-Memory-clause-most : goal.returns-in_err-come_back-in-Err-Memory-clause-most
+returns-in_err-come_back-in-Err-Memory-clause-most g c = omega (arith, c.keep.ensures.barriers, c.perform_step.ensures.barriers, c.come_back.ensures.barriers)
+
+pub returns-in_err-hear_short-in-Err-Memory-clause-most : goal.returns-in_err-hear_short-in-Err-Memory-clause-most
+returns-in_err-hear_short-in-Err-Memory-clause-most g c = omega (arith, c.keep.ensures.barriers, c.perform_step.ensures.barriers, c.come_back.ensures.barriers)
+
+pub returns-in_ok-hear_short-in-Err-Memory-clause-most : goal.returns-in_ok-hear_short-in-Err-Memory-clause-most
+returns-in_ok-hear_short-in-Err-Memory-clause-most g c = omega (arith, c.keep.ensures.barriers, c.perform_step.ensures.barriers, c.come_back.ensures.barriers)

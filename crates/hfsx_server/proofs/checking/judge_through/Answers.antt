@@ -7,7 +7,7 @@ use Rattle.hfsx_server.proofs.checking.judge_through.Goals as goal
 pub returns-clause-judged : goal.returns-clause-judged
 returns-clause-judged g c tells bytes =
     let s0 = g.D.SectorDisk.state c.args.disk.now in
-    judges_of (shown c.args.peek.now s0.sectors (content s0)) c.check.result (c.check.ensures.sound tells bytes) (c.check.ensures.counted tells bytes) (c.check.ensures.some tells bytes) (c.check.ensures.broken tells bytes) (λ early. c.check.ensures.listed tells bytes early)
+    judges_of (shown c.args.peek.now s0.sectors (content s0)) c.check.result (c.check.ensures.sound tells bytes) (c.check.ensures.counted tells bytes) (c.check.ensures.some tells bytes) (c.check.ensures.broken tells bytes) (c.check.ensures.each_rule tells bytes) (λ early. c.check.ensures.listed tells bytes early)
 
 pub returns-clause-reads : goal.returns-clause-reads
 returns-clause-reads g c =

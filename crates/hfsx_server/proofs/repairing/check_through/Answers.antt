@@ -6,7 +6,7 @@ use Rattle.hfsx_server.proofs.repairing.check_through.Goals as goal
 pub returns-clause-judged : goal.returns-clause-judged
 returns-clause-judged g c tells =
     let bytes = c.requires.bytes tells in
-    judges_of (overlaid c.args.mend.now.changes.items (g.V.SectorView.space c.args.view.now).content) c.check.result (c.check.ensures.sound tells bytes) (c.check.ensures.counted tells bytes) (c.check.ensures.some tells bytes) (c.check.ensures.broken tells bytes)
+    judges_of (overlaid c.args.mend.now.changes.items (g.V.SectorView.space c.args.view.now).content) c.check.result (c.check.ensures.sound tells bytes) (c.check.ensures.counted tells bytes) (c.check.ensures.some tells bytes) (c.check.ensures.broken tells bytes) (c.check.ensures.each_rule tells bytes)
     (λ early. c.check.ensures.listed tells bytes early)
 
 pub returns-clause-below : goal.returns-clause-below

@@ -1,4 +1,4 @@
-use Rattle.std.proofs.Common.{◌≡◌, ◌∙◌, ℕ, List, length, Result, Err, map, inl, inr, ⊎_elim, sym, ap, subst, arith}
+use Rattle.std.proofs.Common.{◌≡◌, ◌∙◌, ℕ, List, length, Result, Err, map, inl, inr, ⊎_elim, refl, sym, ap, subst, arith}
 use Rattle.std.specs.Prelude.{IfErr, IfOk, IsTrue, OnOk}
 use Rattle.sector_disk.specs.Disk.{OnlyReads, content}
 use Rattle.fsck_list.specs.declared.finding.Finding.{Finding}
@@ -194,7 +194,16 @@ returns-in-Ok-Ok-clause-commits g c tells _ =
     let r0 = g.R.SectorDisk.state c.args.rig.now in
     let r1 = g.R.SectorDisk.state c.serve_image.new.rig in
     let s0 = g.S.Source.stream c.args.source.now in
-    subst (λ (a : Result (Unit {0}) MountRefusal). OnOk a ((count : ℕ) × (IsTrue s0.tells → count ≡ length (lines s0.left)) × CommitsRun (WantsOver ServedWants g.R.SectorDisk.state) 9 8 count r0.barriers r1.barriers)) c.in-Ok-Ok.field-0-is (c.in-Ok-Ok.ensures.commits tells)
+    subst (λ (a : Result (Unit {0}) MountRefusal). OnOk a ((count : ℕ) × (IsTrue s0.tells → count ≡ length (lines s0.left)) × CommitsRun (WantsOver ServedWants g.R.SectorDisk.state) 9 8 1 count r0.barriers r1.barriers)) c.in-Ok-Ok.field-0-is (c.in-Ok-Ok.ensures.commits tells)
 
 pub returns-clause-commits : goal.returns-clause-commits
 returns-clause-commits g c tells is = absurd (no_done c.in-Err.stop (sym c.status_of.ensures ∙ is))
+
+pub returns-in-Ok-Ok-clause-cut : goal.returns-in-Ok-Ok-clause-cut
+returns-in-Ok-Ok-clause-cut g c tells not_done not_refused = absurd (not_done refl)
+
+pub returns-in-Ok-Err-clause-cut : goal.returns-in-Ok-Err-clause-cut
+returns-in-Ok-Err-clause-cut g c tells not_done not_refused = absurd (not_refused refl)
+
+pub returns-clause-cut : goal.returns-clause-cut
+returns-clause-cut g c tells not_done not_refused = c.in-Err.ensures.cut tells

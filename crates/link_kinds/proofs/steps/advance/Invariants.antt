@@ -1,6 +1,6 @@
 use Rattle.std.proofs.Common.{◌≡◌, ◌≤◌, ℕ, List, length}
 use Rattle.std.specs.Prelude.{reverse, vec_len}
-use Rattle.link_kinds.specs.declared.kinds.Sight.{Sight}
+use Rattle.hfs_model.specs.declared.kinds.Sight.{Sight}
 use Rattle.link_kinds.specs.Resolves.{reach}
 use Rattle.link_kinds.proofs.steps.advance.Given as goal
 

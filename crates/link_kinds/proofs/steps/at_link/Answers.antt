@@ -1,7 +1,7 @@
 use Rattle.std.proofs.Common.{◌≡◌, ◌≤◌, ◌+◌, ◌-◌, ◌++◌, true, false, length, ap, arith, subst, sym, ◌∙◌}
 use Rattle.std.specs.Prelude.{IfNone, IfSome, reverse}
 use Rattle.std.proofs.lemmas.List.{length-append, length-reverse}
-use Rattle.link_kinds.specs.Targets.{components_of, is_target}
+use Rattle.hfs_model.specs.Targets.{components_of, is_target}
 use Rattle.link_kinds.specs.Resolves.{resolve}
 use Rattle.link_kinds.specs.Walks.{leads_to}
 use Rattle.link_kinds.proofs.Ways.{link_bad, link_good, link_last}

@@ -10,20 +10,20 @@ use Rattle.served_volume.proofs.Wanted.{wanted_first, wants_commit}
 use Rattle.served_volume.proofs.answering.do_command.Goals as goal
 
 pub returns-in-Ok-clause-answered : goal.returns-in-Ok-clause-answered
-returns-in-Ok-clause-answered g c line spelled tells =
+returns-in-Ok-clause-answered g c own line wanted tells =
     let before = (g.P.SectorView.space c.args.space.now).content in
     let after = (g.P.SectorView.space c.step.new.space).content in
     let capacity = capacity_of c.args.volume.now in
-    subst (λ (o : Outcome). AnswersAs o capacity c.args.number line before after) (sym c.unless_short.ensures)
-    (shortened capacity c.args.number line c.args.command.now before after (c.requires.sound tells) spelled c.is_fresh-fresh.result c.in-Ok.outcome (c.in-Ok.ensures.answered tells))
+    subst (λ (o : Outcome). AnswersAs o capacity c.args.number own line before after) (sym c.unless_short.ensures)
+    (shortened capacity c.args.number own line before after (c.requires.sound tells) c.args.command.now wanted c.is_fresh-fresh.result c.in-Ok.outcome (c.in-Ok.ensures.answered tells))
 
 pub returns-in-Ok-clause-shrunk : goal.returns-in-Ok-clause-shrunk
-returns-in-Ok-clause-shrunk g c line spelled tells =
+returns-in-Ok-clause-shrunk g c own line wanted tells =
     let before = (g.P.SectorView.space c.args.space.now).content in
     let old = shrunk_of c.args.volume.now in
     let new = shrunk_of c.step.new.volume in
-    subst (λ (o : Outcome). ShrinksBy o line before old new) (sym c.unless_short.ensures)
-    (shortened_shrinks line c.args.command.now before old new spelled c.is_fresh-fresh.result c.in-Ok.outcome (c.in-Ok.ensures.shrunk tells))
+    subst (λ (o : Outcome). ShrinksBy o own line before old new) (sym c.unless_short.ensures)
+    (shortened_shrinks own line c.args.command.now before old new wanted c.is_fresh-fresh.result c.in-Ok.outcome (c.in-Ok.ensures.shrunk tells))
 
 pub returns-in-Ok-clause-ready : goal.returns-in-Ok-clause-ready
 returns-in-Ok-clause-ready g c line spelled tells ready =

@@ -36,5 +36,5 @@ returns-then-branch-clause-stops g c tells capacity committed now shrunk stands 
 
 pub returns-clause-goes : goal.returns-clause-goes
 returns-clause-goes g c tells capacity committed now shrunk stands line comes =
-    told_short capacity shrunk committed now (g.G.Ground.outside c.args.base.now) c.args.number line c.args.table.now _ (g.G.SectorView.space c.args.base.now) stands c.step_keeps_trees.ensures c.ids_stay_few.ensures c.args.told.now c.tell.new.told
+    told_short capacity shrunk committed now (g.G.Ground.outside c.args.base.now) c.args.number line c.args.table.now _ (g.G.SectorView.space c.args.base.now) stands comes.0 c.step_keeps_trees.ensures c.ids_stay_few.ensures c.args.told.now c.tell.new.told
     (c.in_ok-tell.ensures.told ∙ ap (λ (whole : Bool). joined c.args.told.now (text_told (told_if whole (told.Plain reply.Ok)))) c.if-branch.false)

@@ -2,7 +2,7 @@ use Rattle.std.proofs.Common.{◌+◌, ◌*◌, refl, sym, ◌∙◌, subst, ari
 use Rattle.std.specs.Prelude.{IsTrue}
 use Rattle.std.proofs.lemmas.Result.{err_from_is_err_and}
 use Rattle.volume_runs.specs.Run.{shrunk_in}
-use Rattle.hfs_serving.proofs.Caused.{commits_on, no_commit}
+use Rattle.hfs_serving.proofs.Caused.{causes_more, commits_on, no_commit}
 use Rattle.hfs_serving.proofs.Causes.{counts_both, counts_none, fine_stop, handed_on}
 use Rattle.hfs_serving.proofs.Going.{on_err}
 use Rattle.hfs_serving.proofs.Numbering.{too_many}
@@ -12,6 +12,7 @@ use Rattle.session_lines.proofs.going.go_on.Goals as goal
 
 pub loop-step-init : goal.loop-step-init
 loop-step-init g c = record {
+  fits = c.requires.fits;
   counts = counts_none _ _;
   anchor = refl;
   caused = λ tells. no_commit _ _ _ _ (omega arith);
@@ -25,6 +26,9 @@ go_once-requires-clause-serves g c =
     let there = c.requires.serves in
     let still = c.loop-step.invariant.serves there.0 there.1 there.2 in
     (there.0, still.0, still.1)
+
+pub go_once-requires-clause-fits : goal.go_once-requires-clause-fits
+go_once-requires-clause-fits g c = c.loop-step.invariant.fits
 
 pub go_once-requires-clause-stands : goal.go_once-requires-clause-stands
 go_once-requires-clause-stands g c tells_there =
@@ -75,6 +79,7 @@ returns-then-not-branch-clause-tells g c = c.in_ok-go_once.ensures.tells ∙ c.l
 
 pub loop-step-preserved : goal.loop-step-preserved
 loop-step-preserved g c = record {
+  fits = c.in_ok-go_once.ensures.fits;
   counts = counts_both c.loop-step.invariant.counts c.go_once.ensures.faults.counts;
   anchor = c.go_once.ensures.anchor ∙ c.loop-step.invariant.anchor;
   caused = λ tells. commits_on _ (9 * c.loop-step._step) 9 (9 * (c.loop-step._step + 1)) _ _ _ _ (c.loop-step.invariant.caused tells) (omega arith) (c.in_ok-go_once.ensures.caused (c.loop-step.invariant.tells ∙ tells)) (omega arith);
@@ -120,3 +125,10 @@ returns-in_err-go_once-clause-no_many g c is =
 pub returns-then-not-branch-clause-caused : goal.returns-then-not-branch-clause-caused
 returns-then-not-branch-clause-caused g c tells =
     commits_on _ (9 * c.loop-step._step) 9 144 _ _ _ _ (c.loop-step.invariant.caused tells) (omega arith) (c.in_ok-go_once.ensures.caused (c.loop-step.invariant.tells ∙ tells)) (omega arith)
+
+pub returns-in_err-go_once-clause-caused : goal.returns-in_err-go_once-clause-caused
+returns-in_err-go_once-clause-caused g c tells =
+    commits_on _ (9 * c.loop-step._step) 9 144 _ _ _ _ (c.loop-step.invariant.caused tells) (omega arith) (c.in_err-go_once.ensures.caused (c.loop-step.invariant.tells ∙ tells)) (omega arith)
+
+pub returns-clause-caused : goal.returns-clause-caused
+returns-clause-caused g c tells = causes_more _ (9 * c.loop-step._step) 144 _ _ (c.loop-step.invariant.caused tells) (omega (arith, c.loop-step.auto._step-end))

@@ -5,11 +5,13 @@ use Rattle.hfs_serving.specs.Commits.{HaveCauses, SomeWantsAt}
 use Rattle.hfs_serving.specs.Faults.{CountsFaults}
 use Rattle.hfs_serving.specs.Going.{Stands}
 use Rattle.session_lines.specs.Doing.{WentOn}
+use Rattle.session_lines.specs.Stages.{FitsStage}
 use Rattle.session_lines.proofs.going.go_on.Given as goal
 
 abbrev pub invariant-loop-step : goal.invariant-loop-step
 invariant-loop-step g l =
     record {
+      fits : FitsStage l.stage;
       counts : CountsFaults (g.G.Ground.failed l.fn.base) (g.G.SectorView.space l.fn.base) (g.G.Ground.failed l.base) (g.G.SectorView.space l.base);
       anchor : g.G.Ground.anchor l.base ≡ g.G.Ground.anchor l.fn.base;
       tells : (g.G.SectorView.space l.base).tells ≡ (g.G.SectorView.space l.fn.base).tells;

@@ -2,7 +2,7 @@ use Rattle.std.proofs.Common.{◌+◌, ◌*◌, refl, ◌∙◌, subst, arith}
 use Rattle.std.specs.Prelude.{IsTrue}
 use Rattle.std.proofs.lemmas.Result.{err_from_is_err_and}
 use Rattle.volume_runs.specs.Run.{shrunk_in}
-use Rattle.hfs_serving.proofs.Caused.{commits_on, no_commit}
+use Rattle.hfs_serving.proofs.Caused.{causes_more, commits_on, no_commit}
 use Rattle.hfs_serving.proofs.Causes.{counts_both, counts_none, fine_stop, handed_on}
 use Rattle.hfs_serving.proofs.Going.{on_err}
 use Rattle.hfs_serving.proofs.Numbering.{too_many}
@@ -112,3 +112,10 @@ returns-in_err-close_next-clause-no_many g c is =
 pub returns-then-not-branch-clause-caused : goal.returns-then-not-branch-clause-caused
 returns-then-not-branch-clause-caused g c tells =
     commits_on _ (144 * c.loop-handle._handle) 144 37008 _ _ _ _ (c.loop-handle.invariant.caused tells) (omega arith) (c.in_ok-close_next.ensures.caused (c.loop-handle.invariant.tells ∙ tells)) (omega arith)
+
+pub returns-in_err-close_next-clause-caused : goal.returns-in_err-close_next-clause-caused
+returns-in_err-close_next-clause-caused g c tells =
+    commits_on _ (144 * c.loop-handle._handle) 144 37008 _ _ _ _ (c.loop-handle.invariant.caused tells) (omega arith) (c.in_err-close_next.ensures.caused (c.loop-handle.invariant.tells ∙ tells)) (omega arith)
+
+pub returns-clause-caused : goal.returns-clause-caused
+returns-clause-caused g c tells = causes_more _ (144 * c.loop-handle._handle) 37008 _ _ (c.loop-handle.invariant.caused tells) (omega (arith, c.loop-handle.auto._handle-end))

@@ -1,5 +1,6 @@
 use Rattle.hfs_serving.proofs.Going.{on_err}
-use Rattle.session_lines.proofs.ReadLines.{read_line, read_untold, stops_nothing}
+use Rattle.session_lines.proofs.ClosedLines.{stops_nothing}
+use Rattle.session_lines.proofs.ReadLines.{read_line, read_untold}
 use Rattle.session_lines.proofs.reading.read_line.Goals as goal
 
 pub returns-in_err-reply-clause-stops : goal.returns-in_err-reply-clause-stops

@@ -115,3 +115,10 @@ returns-clause-stops g c tells capacity committed now shrunk number stands =
     let from = spoke_with table c.args.left.now.items in
     let to = spoke_with table c.loop-round.left.items in
     releases_end capacity shrunk committed now old number from to knows space mid first BrokenSessions (λ start all spoke. spoke.spoken)
+
+pub returns-in_err-go_on-in-Some-clause-caused : goal.returns-in_err-go_on-in-Some-clause-caused
+returns-in_err-go_on-in-Some-clause-caused g c tells =
+    commits_on _ (144 * c.loop-round._round) 144 (144 * 2 ^ 32) _ _ _ _ (c.loop-round.invariant.caused tells) (omega arith) (c.in_err-go_on-in-Some.ensures.caused (c.loop-round.invariant.tells ∙ tells)) (omega arith)
+
+pub returns-clause-caused : goal.returns-clause-caused
+returns-clause-caused g c tells = causes_more _ (144 * c.loop-round._round) (144 * 2 ^ 32) _ _ (c.loop-round.invariant.caused tells) (omega (arith, c.loop-round.auto._round-end))

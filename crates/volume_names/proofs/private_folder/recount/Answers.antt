@@ -1,46 +1,29 @@
 use Rattle.std.proofs.Common.{◌≡◌, ◌+◌, ◌≤◌, false, length, sym, ◌∙◌, ap, subst, arith}
 use Rattle.std.specs.Prelude.{Option, IfSome}
 use Rattle.cat_records.specs.Fits.{FitsRecord}
-use Rattle.catalog.specs.Pairs.{value_at}
-use Rattle.hfs_volume.specs.Content.{VolumeState}
-use Rattle.hfs_volume.specs.Entries.{AreSpelled}
 use Rattle.hfs_volume.specs.Records.{id_in, is_thread}
 use Rattle.volume_names.specs.PrivateFolder.{RecountsFolder}
 use Rattle.volume_base.specs.declared.entries.Entry.{Entry}
-use Rattle.volume_base.proofs.FoundEntry.{room_still, node_still, ok_so}
+use Rattle.volume_base.proofs.FoundEntry.{node_still, ok_so}
 use Rattle.volume_names.proofs.PrivateRecount.{recounts_read}
 use Rattle.volume_base.proofs.Recounting.{folder_there, folder_not_none}
-use Rattle.volume_base.proofs.Still.{lists_still}
 use Rattle.volume_base.proofs.Replaced.{node_large}
 use Rattle.volume_names.proofs.EditsLeft.{left_as, left_less, left_still}
-use Rattle.volume_base.proofs.Framed.{edits_spent}
+use Rattle.volume_base.proofs.Framed.{edits_spent, found_ready}
 use Rattle.volume_base.proofs.Joined.{edits_both}
 use Rattle.volume_names.proofs.private_folder.recount.Goals as goal
 
 pub entry-requires-clause-spelled : goal.entry-requires-clause-spelled
 entry-requires-clause-spelled g c tells = (c.requires.threads tells).spelled
 
-pub put_recounted-requires-clause-spelled : goal.put_recounted-requires-clause-spelled
-put_recounted-requires-clause-spelled g c tells =
-    let before = sym c.entry.ensures.looked.reads.looks.same.tells ∙ tells in
-    subst (λ (l : VolumeState). AreSpelled l.catalog_pairs) (sym (lists_still c.args.volume.now c.entry.new.self (g.P.SectorView.space c.args.space.now) (g.P.SectorView.space c.entry.new.space) c.entry.ensures.looked.reads (sym c.entry.ensures.looked.reads.looks.same.tells ∙ tells)))
-    (c.requires.threads (sym c.entry.ensures.looked.reads.looks.same.tells ∙ tells)).spelled
-
-pub put_recounted-requires-clause-name : goal.put_recounted-requires-clause-name
-put_recounted-requires-clause-name g c = subst (λ (o : Option Entry). IfSome o (λ entry. length entry.name ≤ 255)) c.in-Some.is c.in_ok-entry.ensures.name
+pub put_recounted-requires-clause-ready : goal.put_recounted-requires-clause-ready
+put_recounted-requires-clause-ready g c =
+    found_ready c.entry.ensures.looked (λ tells. (c.requires.threads tells).spelled)
+    (subst (λ (o : Option Entry). IfSome o (λ entry. length entry.name ≤ 255)) c.in-Some.is c.in_ok-entry.ensures.name)
+    (λ tells. let it = folder_there c.args.volume.now (g.P.SectorView.space c.args.space.now).content (c.requires.stands.stands tells).trees (c.requires.threads tells) c.args.id c.args.up (c.requires.there tells) c.in-Some.entry (sym c.in-Some.is ∙ c.in_ok-entry.ensures.found tells) in it.value) c.requires.room
 
 pub put_recounted-requires-clause-fits : goal.put_recounted-requires-clause-fits
 put_recounted-requires-clause-fits g c = subst (λ (o : Option Entry). IfSome o (λ entry. is_thread entry.rec ≡ false → FitsRecord entry.rec)) c.in-Some.is c.in_ok-entry.ensures.fits
-
-pub put_recounted-requires-clause-there : goal.put_recounted-requires-clause-there
-put_recounted-requires-clause-there g c tells =
-    let before = sym c.entry.ensures.looked.reads.looks.same.tells ∙ tells in
-    let it = folder_there c.args.volume.now (g.P.SectorView.space c.args.space.now).content (c.requires.stands.stands (sym c.entry.ensures.looked.reads.looks.same.tells ∙ tells)).trees (c.requires.threads (sym c.entry.ensures.looked.reads.looks.same.tells ∙ tells)) c.args.id c.args.up (c.requires.there (sym c.entry.ensures.looked.reads.looks.same.tells ∙ tells)) c.in-Some.entry
-    (sym c.in-Some.is ∙ c.in_ok-entry.ensures.found (sym c.entry.ensures.looked.reads.looks.same.tells ∙ tells)) in
-    ap (λ (l : VolumeState). value_at l.catalog_pairs c.in-Some.entry.parent c.in-Some.entry.name) (lists_still c.args.volume.now c.entry.new.self (g.P.SectorView.space c.args.space.now) (g.P.SectorView.space c.entry.new.space) c.entry.ensures.looked.reads (sym c.entry.ensures.looked.reads.looks.same.tells ∙ tells)) ∙ it.value
-
-pub put_recounted-requires-clause-room : goal.put_recounted-requires-clause-room
-put_recounted-requires-clause-room g c = room_still c.args.volume.now c.entry.new.self (g.P.SectorView.space c.args.space.now) (g.P.SectorView.space c.entry.new.space) c.entry.ensures.looked.reads c.requires.room
 
 pub returns-in-Some-clause-counts : goal.returns-in-Some-clause-counts
 returns-in-Some-clause-counts g c tells =

@@ -29,4 +29,4 @@ pub returns-in_default-clause-sets : goal.returns-in_default-clause-sets
 returns-in_default-clause-sets g c tells kind = absurd (mode_some c.args.volume.now.header.modify_date c.args.rights c.args.entry.now.rec kind (sym c.with_mode.ensures.same ∙ c.in_default.is))
 
 pub returns-in_default-clause-edits : goal.returns-in_default-clause-edits
-returns-in_default-clause-edits g c = edits_none _ g.met.P.SectorView.follows_refl c.requires.stands
+returns-in_default-clause-edits g c = edits_none _ g.met.P.SectorView.follows_refl c.requires.ready.stands

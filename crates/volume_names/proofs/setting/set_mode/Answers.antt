@@ -12,34 +12,24 @@ use Rattle.volume_names.specs.Changing.{SetsRights}
 use Rattle.volume_base.specs.Standing.{StandsOver, IsSettled}
 use Rattle.volume_base.specs.declared.entries.Entry.{Entry}
 use Rattle.volume_names.proofs.ModeChanged.{mode_set}
-use Rattle.volume_base.proofs.FoundEntry.{entry_there, not_none, settled_spelled, room_still, node_still, ok_both}
+use Rattle.volume_base.proofs.FoundEntry.{entry_there, not_none, settled_spelled, node_still, ok_both}
 use Rattle.volume_base.proofs.Still.{lists_still, settled_still}
 use Rattle.volume_base.proofs.ToNode.{node_there}
-use Rattle.volume_base.proofs.Framed.{edits_spent}
+use Rattle.volume_base.proofs.Framed.{edits_spent, found_ready}
 use Rattle.volume_base.proofs.Joined.{edits_both}
 use Rattle.volume_names.proofs.setting.set_mode.Goals as goal
 
 pub entry-requires-clause-spelled : goal.entry-requires-clause-spelled
 entry-requires-clause-spelled g c tells = settled_spelled c.args.volume.now (g.P.SectorView.space c.args.space.now).content (c.requires.serves.settled tells)
 
-pub put_mode-requires-clause-spelled : goal.put_mode-requires-clause-spelled
-put_mode-requires-clause-spelled g c tells = settled_spelled c.entry.new.self (g.P.SectorView.space c.entry.new.space).content (settled_still c.args.volume.now c.entry.new.self (g.P.SectorView.space c.args.space.now) (g.P.SectorView.space c.entry.new.space) c.entry.ensures.looked.reads (sym c.entry.ensures.looked.reads.looks.same.tells ∙ tells) (c.requires.serves.settled (sym c.entry.ensures.looked.reads.looks.same.tells ∙ tells)))
-
-pub put_mode-requires-clause-name : goal.put_mode-requires-clause-name
-put_mode-requires-clause-name g c = subst (λ (o : Option Entry). IfSome o (λ entry. length entry.name ≤ 255)) c.in-Some.is c.in_ok-entry.ensures.name
+pub put_mode-requires-clause-ready : goal.put_mode-requires-clause-ready
+put_mode-requires-clause-ready g c =
+    found_ready c.entry.ensures.looked (λ tells. settled_spelled c.args.volume.now (g.P.SectorView.space c.args.space.now).content (c.requires.serves.settled tells))
+    (subst (λ (o : Option Entry). IfSome o (λ entry. length entry.name ≤ 255)) c.in-Some.is c.in_ok-entry.ensures.name)
+    (λ tells. let there = c.requires.there tells in let it = entry_there c.args.volume.now (g.P.SectorView.space c.args.space.now).content (c.requires.serves.stands.stands tells).trees (c.requires.serves.settled tells) c.args.id there.0 there.1 there.2 c.in-Some.entry (sym c.in-Some.is ∙ c.in_ok-entry.ensures.found tells) in it.value) c.requires.room
 
 pub put_mode-requires-clause-fits : goal.put_mode-requires-clause-fits
 put_mode-requires-clause-fits g c = subst (λ (o : Option Entry). IfSome o (λ entry. is_thread entry.rec ≡ false → FitsRecord entry.rec)) c.in-Some.is c.in_ok-entry.ensures.fits
-
-pub put_mode-requires-clause-there : goal.put_mode-requires-clause-there
-put_mode-requires-clause-there g c tells =
-    let before = (sym c.entry.ensures.looked.reads.looks.same.tells ∙ tells) in
-    let there = c.requires.there (sym c.entry.ensures.looked.reads.looks.same.tells ∙ tells) in
-    let it = entry_there c.args.volume.now (g.P.SectorView.space c.args.space.now).content (c.requires.serves.stands.stands (sym c.entry.ensures.looked.reads.looks.same.tells ∙ tells)).trees (c.requires.serves.settled (sym c.entry.ensures.looked.reads.looks.same.tells ∙ tells)) c.args.id there.0 there.1 there.2 c.in-Some.entry (sym c.in-Some.is ∙ c.in_ok-entry.ensures.found (sym c.entry.ensures.looked.reads.looks.same.tells ∙ tells)) in
-    ap (λ (l : VolumeState). value_at l.catalog_pairs c.in-Some.entry.parent c.in-Some.entry.name) (lists_still c.args.volume.now c.entry.new.self (g.P.SectorView.space c.args.space.now) (g.P.SectorView.space c.entry.new.space) c.entry.ensures.looked.reads (sym c.entry.ensures.looked.reads.looks.same.tells ∙ tells)) ∙ it.value
-
-pub put_mode-requires-clause-room : goal.put_mode-requires-clause-room
-put_mode-requires-clause-room g c = room_still c.args.volume.now c.entry.new.self (g.P.SectorView.space c.args.space.now) (g.P.SectorView.space c.entry.new.space) c.entry.ensures.looked.reads c.requires.room
 
 pub returns-in-Some-clause-does : goal.returns-in-Some-clause-does
 returns-in-Some-clause-does g c tells path node allowed number =

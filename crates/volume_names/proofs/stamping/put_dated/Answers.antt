@@ -26,14 +26,14 @@ returns-clause-dates g c tells kind =
     ok_so (ReplacesRecord c.args.entry.now c.in-Some.rec c.args.volume.now c.replace.new.self (g.P.SectorView.space c.args.space.now).content (g.P.SectorView.space c.replace.new.space).content)
     (DatesEntry (id_in c.args.entry.now.rec) c.args.volume.now c.replace.new.self (g.P.SectorView.space c.args.space.now).content (g.P.SectorView.space c.replace.new.space).content)
     c.replace.result (c.replace.ensures.replaces tells)
-    (λ r. dates_entry c.args.volume.now.header.modify_date c.args.volume.now c.replace.new.self (g.P.SectorView.space c.args.space.now).content (g.P.SectorView.space c.replace.new.space).content c.args.entry.now c.in-Some.rec refl (c.requires.there tells) kind
+    (λ r. dates_entry c.args.volume.now.header.modify_date c.args.volume.now c.replace.new.self (g.P.SectorView.space c.args.space.now).content (g.P.SectorView.space c.replace.new.space).content c.args.entry.now c.in-Some.rec refl (c.requires.ready.there tells) kind
     (sym c.dated.ensures.same ∙ c.in-Some.is) r)
 
 pub returns-in_default-clause-dates : goal.returns-in_default-clause-dates
 returns-in_default-clause-dates g c tells kind = absurd (dated_some c.args.volume.now.header.modify_date c.args.entry.now.rec kind (sym c.dated.ensures.same ∙ c.in_default.is))
 
 pub returns-in_default-clause-edits : goal.returns-in_default-clause-edits
-returns-in_default-clause-edits g c = edits_none _ g.met.P.SectorView.follows_refl c.requires.stands
+returns-in_default-clause-edits g c = edits_none _ g.met.P.SectorView.follows_refl c.requires.ready.stands
 
 pub returns-in_default-clause-room : goal.returns-in_default-clause-room
 returns-in_default-clause-room g c many room = room_less many c.args.volume.now (g.P.SectorView.space c.args.space.now) room

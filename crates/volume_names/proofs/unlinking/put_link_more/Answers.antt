@@ -15,4 +15,4 @@ returns-clause-counts g c tells a_file plain =
     (λ s. says_more (id_in c.args.entry.now.rec) (c.links_in-links.result + 1) (links_in c.args.entry.now.rec) c.args.volume.now c.put_links.new.volume (g.P.SectorView.space c.args.space.now).content (g.P.SectorView.space c.put_links.new.space).content (omega (arith, c.links_in-links.ensures)) s)
 
 pub returns-then-links-gt4294967294-clause-edits : goal.returns-then-links-gt4294967294-clause-edits
-returns-then-links-gt4294967294-clause-edits g c = edits_wanting _ g.met.P.SectorView.follows_refl c.requires.stands
+returns-then-links-gt4294967294-clause-edits g c = edits_wanting _ g.met.P.SectorView.follows_refl c.requires.ready.stands

@@ -31,24 +31,24 @@ returns-clause-counts g c tells a_file plain =
     ok_so (ReplacesRecord c.args.entry.now c.in-Some.rec c.args.volume.now c.replace.new.self (g.P.SectorView.space c.args.space.now).content (g.P.SectorView.space c.replace.new.space).content)
     (SaysLinks (id_in c.args.entry.now.rec) c.args.links (links_in c.args.entry.now.rec) c.args.volume.now c.replace.new.self (g.P.SectorView.space c.args.space.now).content (g.P.SectorView.space c.replace.new.space).content)
     c.replace.result (c.replace.ensures.replaces tells)
-    (λ r. says_links c.args.volume.now.header.modify_date c.args.links c.args.volume.now c.replace.new.self (g.P.SectorView.space c.args.space.now).content (g.P.SectorView.space c.replace.new.space).content c.args.entry.now c.in-Some.rec refl (c.requires.there tells) a_file plain
+    (λ r. says_links c.args.volume.now.header.modify_date c.args.links c.args.volume.now c.replace.new.self (g.P.SectorView.space c.args.space.now).content (g.P.SectorView.space c.replace.new.space).content c.args.entry.now c.in-Some.rec refl (c.requires.ready.there tells) a_file plain
     (sym c.relinked.ensures.same ∙ c.in-Some.is) r)
 
 pub returns-in_default-clause-counts : goal.returns-in_default-clause-counts
 returns-in_default-clause-counts g c tells a_file plain = absurd (relinked_some c.args.volume.now.header.modify_date c.args.links c.args.entry.now.rec a_file (sym c.relinked.ensures.same ∙ c.in_default.is))
 
 pub returns-in_default-clause-edits : goal.returns-in_default-clause-edits
-returns-in_default-clause-edits g c = edits_none _ g.met.P.SectorView.follows_refl c.requires.stands
+returns-in_default-clause-edits g c = edits_none _ g.met.P.SectorView.follows_refl c.requires.ready.stands
 
 pub returns-in_default-clause-room : goal.returns-in_default-clause-room
 returns-in_default-clause-room g c many room = room_less many c.args.volume.now (g.P.SectorView.space c.args.space.now) room
 
 pub returns-in_default-clause-left : goal.returns-in_default-clause-left
-returns-in_default-clause-left g c edits beside had = left_less c.args.volume.now (g.P.SectorView.space c.args.space.now) edits beside (λ tells. node_large c.args.volume.now (g.P.SectorView.space c.args.space.now) c.requires.stands tells) had
+returns-in_default-clause-left g c edits beside had = left_less c.args.volume.now (g.P.SectorView.space c.args.space.now) edits beside (λ tells. node_large c.args.volume.now (g.P.SectorView.space c.args.space.now) c.requires.ready.stands tells) had
 
 pub returns-clause-left : goal.returns-clause-left
 returns-clause-left g c =
     let old = g.P.SectorView.space c.args.space.now in
     let new = g.P.SectorView.space c.replace.new.space in
     ok_so (TakesUpdates 0 1 516 (state_of [] c.args.volume.now.catalog.file old) (state_of [] c.replace.new.self.catalog.file new)) (LeavesBeside c.args.volume.now old c.replace.new.self new) c.replace.result (c.replace.ensures.updates [])
-    (λ takes edits beside had. left_updated c.args.volume.now c.replace.new.self old new edits beside (λ tells. node_large c.args.volume.now old c.requires.stands tells) (c.replace.ensures.edits.ran.touches old.content).same.tells takes had)
+    (λ takes edits beside had. left_updated c.args.volume.now c.replace.new.self old new edits beside (λ tells. node_large c.args.volume.now old c.requires.ready.stands tells) (c.replace.ensures.edits.ran.touches old.content).same.tells takes had)

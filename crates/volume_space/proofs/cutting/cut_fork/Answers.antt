@@ -1,4 +1,4 @@
-use Rattle.std.proofs.Common.{◌≡◌, ◌≤◌, ℕ, List, [], arith, map, sym, ◌∙◌, ap, subst}
+use Rattle.std.proofs.Common.{◌≡◌, ℕ, List, [], arith, map, sym, ◌∙◌, ap, subst}
 use Rattle.std.specs.Prelude.{Contains, IsTrue}
 use Rattle.hx_bytes.specs.declared.extents.Extent.{Extent}
 use Rattle.btree_node.specs.Keys.{IsExtentKey, extent_cmp, is_eight_extents}
@@ -11,11 +11,11 @@ use Rattle.catalog.specs.Pairs.{value_at}
 use Rattle.hfs_volume.specs.Changes.{with_fork}
 use Rattle.hfs_volume.specs.Content.{VolumeState}
 use Rattle.hfs_volume.specs.Entries.{AreSpelled}
-use Rattle.hfs_volume.specs.Records.{overflow_of}
+use Rattle.hfs_volume.specs.Records.{id_in, overflow_of}
 use Rattle.volume_base.specs.Changing.{ReplacesRecord, catalog_node}
-use Rattle.volume_space.specs.Cutting.{CutsFile, PutsGiven, kind_of}
+use Rattle.volume_space.specs.Cutting.{CutsOne, PutsGiven}
+use Rattle.volume_base.specs.Cutting.{kind_of}
 use Rattle.volume_base.specs.Cutting.{cut_fork_of, fork_at}
-use Rattle.volume_base.specs.Keeping.{shrunk_of}
 use Rattle.volume_base.specs.Lists.{lists_of}
 use Rattle.volume_space.specs.Spreading.{StoresExtents}
 use Rattle.volume_base.specs.Standing.{IsSettled, StandsOver, own_sectors}
@@ -27,7 +27,7 @@ use Rattle.volume_space.proofs.CutWhole.{cut_whole}
 use Rattle.volume_base.proofs.FoundEntry.{ok_both, settled_spelled}
 use Rattle.volume_base.proofs.KeptUsed.{used_blocks, used_both}
 use Rattle.volume_base.proofs.Seeing.{cause_since}
-use Rattle.volume_space.proofs.SpreadFile.{blocks_stored, eight_in, few_stay, has_extents, has_file, kind_is, stays_in_use, store_room}
+use Rattle.volume_space.proofs.SpreadFile.{blocks_stored, eight_in, few_stay, has_extents, has_file, stays_in_use, store_room}
 use Rattle.volume_space.proofs.StoreRoom.{store_spent}
 use Rattle.volume_space.proofs.cutting.cut_fork.Goals as goal
 
@@ -61,25 +61,25 @@ store_extents-requires-clause-room g c names tells =
 
 -- ---- the file's record
 
-pub put_shorter-requires-clause-spelled : goal.put_shorter-requires-clause-spelled
-put_shorter-requires-clause-spelled g c tells =
-    let between : IsTrue (g.P.SectorView.space c.put_back.new.space).tells = sym (c.store_extents.ensures.touches []).same.tells ∙ tells in
-    let before : IsTrue (g.P.SectorView.space c.args.space.now).tells = sym (c.put_back.ensures.touches []).same.tells ∙ between in
-    subst AreSpelled (sym (ap (λ (l : VolumeState). l.catalog_pairs) (c.in_ok-store_extents.ensures.stores between).lists ∙ ap (λ (l : VolumeState). l.catalog_pairs) (c.in_ok-put_back.ensures.puts before).lists
-    ∙ ap (λ (x : Volume). (lists_of x (g.P.SectorView.space c.args.space.now).content).catalog_pairs) c.in_ok-put_back.ensures.gives)) (settled_spelled c.args.volume.now (g.P.SectorView.space c.args.space.now).content (c.requires.settled before))
-
-pub put_shorter-requires-clause-there : goal.put_shorter-requires-clause-there
-put_shorter-requires-clause-there g c tells =
-    let between : IsTrue (g.P.SectorView.space c.put_back.new.space).tells = sym (c.store_extents.ensures.touches []).same.tells ∙ tells in
-    let before : IsTrue (g.P.SectorView.space c.args.space.now).tells = sym (c.put_back.ensures.touches []).same.tells ∙ between in
-    ap (λ (l : List Pair). value_at l c.args.entry.now.parent c.args.entry.now.name) (ap (λ (l : VolumeState). l.catalog_pairs) (c.in_ok-store_extents.ensures.stores between).lists ∙ ap (λ (l : VolumeState). l.catalog_pairs) (c.in_ok-put_back.ensures.puts before).lists
-    ∙ ap (λ (x : Volume). (lists_of x (g.P.SectorView.space c.args.space.now).content).catalog_pairs) c.in_ok-put_back.ensures.gives) ∙ c.requires.there before
+pub put_shorter-requires-clause-ready : goal.put_shorter-requires-clause-ready
+put_shorter-requires-clause-ready g c = record {
+  stands = c.in_ok-store_extents.ensures.stands;
+  spelled = λ tells.
+      let between : IsTrue (g.P.SectorView.space c.put_back.new.space).tells = sym (c.store_extents.ensures.touches []).same.tells ∙ tells in
+      let before : IsTrue (g.P.SectorView.space c.args.space.now).tells = sym (c.put_back.ensures.touches []).same.tells ∙ between in
+      subst AreSpelled (sym (ap (λ (l : VolumeState). l.catalog_pairs) (c.in_ok-store_extents.ensures.stores between).lists ∙ ap (λ (l : VolumeState). l.catalog_pairs) (c.in_ok-put_back.ensures.puts before).lists
+      ∙ ap (λ (x : Volume). (lists_of x (g.P.SectorView.space c.args.space.now).content).catalog_pairs) c.in_ok-put_back.ensures.gives)) (settled_spelled c.args.volume.now (g.P.SectorView.space c.args.space.now).content (c.requires.settled before));
+  name = c.requires.name;
+  there = λ tells.
+      let between : IsTrue (g.P.SectorView.space c.put_back.new.space).tells = sym (c.store_extents.ensures.touches []).same.tells ∙ tells in
+      let before : IsTrue (g.P.SectorView.space c.args.space.now).tells = sym (c.put_back.ensures.touches []).same.tells ∙ between in
+      ap (λ (l : List Pair). value_at l c.args.entry.now.parent c.args.entry.now.name) (ap (λ (l : VolumeState). l.catalog_pairs) (c.in_ok-store_extents.ensures.stores between).lists ∙ ap (λ (l : VolumeState). l.catalog_pairs) (c.in_ok-put_back.ensures.puts before).lists
+      ∙ ap (λ (x : Volume). (lists_of x (g.P.SectorView.space c.args.space.now).content).catalog_pairs) c.in_ok-put_back.ensures.gives) ∙ c.requires.there before;
+  room = c.fits_update.ensures.room c.if-not-fits_update.false;
+}
 
 pub put_shorter-requires-clause-less : goal.put_shorter-requires-clause-less
 put_shorter-requires-clause-less g c = omega (arith, c.requires.cut.blocks, c.requires.cut.last.sum)
-
-pub put_shorter-requires-clause-room : goal.put_shorter-requires-clause-room
-put_shorter-requires-clause-room g c = c.fits_update.ensures.room c.if-not-fits_update.false
 
 -- ---- all of it
 
@@ -88,15 +88,15 @@ returns-clause-cuts g c tells =
     let between = (c.put_back.ensures.touches []).same.tells ∙ tells in
     let told = (c.store_extents.ensures.touches []).same.tells ∙ between in
     ok_both (StandsOver c.put_shorter.new.volume (g.P.SectorView.space c.put_shorter.new.space)) (ReplacesRecord c.args.entry.now (File (with_fork (kind_of c.args.kind) (cut_fork_of c.store_extents.new.volume.header.block_size (fork_at (kind_of c.args.kind) c.args.file.now) c.args.cut.now) c.args.file.now)) c.store_extents.new.volume c.put_shorter.new.volume (g.P.SectorView.space c.store_extents.new.space).content (g.P.SectorView.space c.put_shorter.new.space).content)
-    (IsSettled c.put_shorter.new.volume (g.P.SectorView.space c.put_shorter.new.space).content × CutsFile (shrunk_of c.args.volume.now) (g.P.SectorView.space c.args.space.now).content (g.P.SectorView.space c.put_shorter.new.space).content) c.put_shorter.result c.put_shorter.ensures.edits.ran.stands (c.put_shorter.ensures.replaces told)
-    (λ stands replaces. cut_whole c.args.volume.now c.store_extents.new.volume c.put_shorter.new.volume (g.P.SectorView.space c.args.space.now) (g.P.SectorView.space c.put_back.new.space) (g.P.SectorView.space c.store_extents.new.space) (g.P.SectorView.space c.put_shorter.new.space) (c.requires.stands.stands tells) (c.requires.settled tells) c.args.entry.now c.args.file.now c.args.list.now (kind_of c.args.kind) c.args._keep c.args.cut.now c.requires.gives c.requires.unchanged (kind_is c.args.kind)
+    (IsSettled c.put_shorter.new.volume (g.P.SectorView.space c.put_shorter.new.space).content × CutsOne (id_in c.args.entry.now.rec) (kind_of c.args.kind) c.args._keep (g.P.SectorView.space c.args.space.now).content (g.P.SectorView.space c.put_shorter.new.space).content) c.put_shorter.result c.put_shorter.ensures.edits.ran.stands (c.put_shorter.ensures.replaces told)
+    (λ stands replaces. cut_whole c.args.volume.now c.store_extents.new.volume c.put_shorter.new.volume (g.P.SectorView.space c.args.space.now) (g.P.SectorView.space c.put_back.new.space) (g.P.SectorView.space c.store_extents.new.space) (g.P.SectorView.space c.put_shorter.new.space) (c.requires.stands.stands tells) (c.requires.settled tells) c.args.entry.now c.args.file.now c.args.list.now c.args.kind c.args._keep c.args.cut.now c.requires.gives c.requires.unchanged
     (c.requires.list tells) c.requires.cut c.requires.no_link (c.requires.there tells) c.requires.is
     (subst (λ (x : Volume). PutsGiven x (g.P.SectorView.space c.args.space.now).content (g.P.SectorView.space c.put_back.new.space).content) c.in_ok-put_back.ensures.gives (c.in_ok-put_back.ensures.puts tells))
     (subst (λ (k : ℕ × List Extent × Volume). StoresExtents c.args.file.now.fields.id k.0 k.1 k.2 c.store_extents.new.volume (g.P.SectorView.space c.put_back.new.space).content (g.P.SectorView.space c.store_extents.new.space).content)
     (λ i. (c.number_of.ensures.same i, stays_in_use c.args._keep c.args.list.now c.args.cut.now (kind_of c.args.kind) c.args.file.now (g.P.SectorView.space c.args.space.now).content c.requires.cut.last (c.requires.list tells) i, c.in_ok-put_back.ensures.gives i)) (c.in_ok-store_extents.ensures.stores between))
     (subst (λ n. ReplacesRecord c.args.entry.now (File (with_fork (kind_of c.args.kind) (cut_fork_of n (fork_at (kind_of c.args.kind) c.args.file.now) c.args.cut.now) c.args.file.now)) c.store_extents.new.volume c.put_shorter.new.volume (g.P.SectorView.space c.store_extents.new.space).content (g.P.SectorView.space c.put_shorter.new.space).content)
     (ap (λ (x : Volume). x.header.block_size) c.store_extents.ensures.rest ∙ ap (λ (x : Volume). x.header.block_size) c.in_ok-put_back.ensures.gives) replaces)
-    (stands.stands ((c.put_shorter.ensures.edits.ran.touches []).same.tells ∙ told)) c.cut_of_a_shrunk_file_keeps_the_tree.ensures c.cut_of_an_orphan_keeps_the_tree.ensures c.other_files_keep_their_bytes.ensures c.requires.user (shrunk_of c.args.volume.now) (c.requires.next tells))
+    (stands.stands ((c.put_shorter.ensures.edits.ran.touches []).same.tells ∙ told)) c.cut_of_a_shrunk_file_keeps_the_tree.ensures c.cut_of_an_orphan_keeps_the_tree.ensures c.other_files_keep_their_bytes.ensures c.requires.user (c.requires.may tells))
 
 pub returns-clause-used : goal.returns-clause-used
 returns-clause-used g c =

@@ -5,7 +5,7 @@ use Rattle.cat_records.specs.declared.record.CatRecord.TheVariants.{File}
 use Rattle.catalog.specs.Entries.{IsOfKind}
 use Rattle.hfs_volume.specs.Changes.{with_fork}
 use Rattle.volume_base.specs.Changing.{ReplacesRecord}
-use Rattle.volume_space.specs.Cutting.{kind_of}
+use Rattle.volume_base.specs.Cutting.{kind_of}
 use Rattle.volume_base.specs.Cutting.{shorter_fork}
 use Rattle.volume_space.proofs.cutting.put_shorter.Goals as goal
 

@@ -1,8 +1,14 @@
-use Rattle.std.proofs.Common.{ℕ, ◌+◌, List, [], sym, ◌∙◌, ap, subst, arith}
+use Rattle.std.proofs.Common.{◌≡◌, ◌≤◌, ℕ, ◌+◌, ◌*◌, ◌/◌, List, [], length, refl, sym, ◌∙◌, ap, subst, arith}
 use Rattle.std.specs.Prelude.{Contains}
 use Rattle.std.proofs.lemmas.Result.{err_from_is_err_and}
 use Rattle.btree_node.specs.Levels.{Pair}
+use Rattle.catalog.specs.Entries.{IsOfKind}
 use Rattle.catalog.specs.Pairs.{value_at}
+use Rattle.cat_records.specs.declared.record.CatRecord.{CatRecord}
+use Rattle.cat_records.specs.declared.record.CatRecord.TheVariants.{File}
+use Rattle.cat_records.specs.declared.record.FileRecord.{FileRecord}
+use Rattle.volume_base.specs.declared.forks.ForkKind.{ForkKind}
+use Rattle.volume_base.specs.declared.forks.ForkKind.TheVariants as kinds
 use Rattle.sector_disk.proofs.SpaceLaws.{space_both}
 use Rattle.hfs_volume.specs.Content.{VolumeState, overflow_in_volume}
 use Rattle.hfs_volume.specs.Cost.{overflow_records}
@@ -10,20 +16,42 @@ use Rattle.hfs_volume.specs.Entries.{AreSpelled}
 use Rattle.volume_base.specs.Changing.{catalog_node}
 use Rattle.volume_base.specs.Lists.{lists_of}
 use Rattle.volume_base.specs.Touching.{Touches}
-use Rattle.volume_space.specs.Recording.{records_held}
-use Rattle.volume_space.specs.Writing.{fork_with, record_with}
+use Rattle.volume_space.specs.Recording.{records_in}
+use Rattle.volume_space.specs.Writing.{IsSureToPut, blocks_put, fork_with, record_with}
 use Rattle.volume_base.specs.declared.volume.Volume.{Volume}
 use Rattle.volume_base.proofs.Commanding.{touches_both}
 use Rattle.volume_base.proofs.FoundEntry.{settled_spelled}
 use Rattle.volume_space.proofs.PutLoads.{shape_load}
-use Rattle.volume_space.proofs.PutPlaced.{placed, stands_free}
+use Rattle.volume_space.proofs.PutPlaced.{placed_at, stands_free}
 use Rattle.volume_base.proofs.Seeing.{cause_on}
 use Rattle.volume_space.proofs.Spilled.{may_spill}
 use Rattle.volume_space.proofs.Spreads.{told_extents}
+use Rattle.volume_base.specs.Cutting.{fork_at, kind_of}
+use Rattle.hx_bytes.specs.declared.extents.ForkRecord.{ForkRecord}
+use Rattle.alloc_bitmap.specs.Map.{free_of}
+use Rattle.flag_rows.specs.Bits.{count_set}
+use Rattle.file_io.specs.Bytes.{HoldZeros, sectors_in}
+use Rattle.file_io.specs.Places.{first_block, fresh_of, given, middle, old_end, taken, zero_blocks, zeros_at}
+use Rattle.overflow.specs.Reading.{HasExtents}
+use Rattle.volume_space.specs.Spreading.{SpreadsExtents}
 use Rattle.volume_space.proofs.putting.place_data.Goals as goal
 
 pub spill-requires-clause-may_spill : goal.spill-requires-clause-may_spill
 spill-requires-clause-may_spill g c = may_spill c.args.volume.now (g.P.SectorView.space c.args.space.now) c.requires.stands c.requires.settled c.requires.closed (omega (arith, c.requires.sure.block.least)) c.requires.sure.fits c.requires.sure.header
+
+pub spill-requires-clause-holds_size : goal.spill-requires-clause-holds_size
+spill-requires-clause-holds_size g c = (subst (λ (f : ForkRecord). IsSureToPut c.args.list.now f.logical_size c.args.volume.now (g.P.SectorView.space c.args.space.now)) (sym c.fork_of-fork.ensures) c.requires.sure).holds
+
+pub spill-requires-clause-free : goal.spill-requires-clause-free
+spill-requires-clause-free g c = subst (λ (f : ForkRecord). blocks_put c.args.volume.now f.logical_size c.args.from (length c.args.value.now) ≤ count_set (free_of c.args.volume.now.map)) (sym c.fork_of-fork.ensures) c.requires.free
+
+pub spill-requires-clause-few_zeros : goal.spill-requires-clause-few_zeros
+spill-requires-clause-few_zeros g c = subst (λ (f : ForkRecord). c.args.zeroed ≤ zero_blocks c.args.volume.now.header.block_size f.logical_size (c.args.from / c.args.volume.now.header.block_size)) (sym c.fork_of-fork.ensures) c.requires.few_zeros
+
+pub spill-requires-clause-zeros : goal.spill-requires-clause-zeros
+spill-requires-clause-zeros g c tells =
+    subst (λ (f : ForkRecord). HoldZeros (g.P.SectorView.space c.args.space.now).content (sectors_in c.args.volume.now.header.block_size (fresh_of c.args.volume.now.map (blocks_put c.args.volume.now f.logical_size c.args.from (length c.args.value.now)))) (zeros_at c.args.volume.now.header.block_size f.logical_size c.args.from (c.args.from + length c.args.value.now) * (c.args.volume.now.header.block_size / 512)) (c.args.zeroed * (c.args.volume.now.header.block_size / 512)))
+    (sym c.fork_of-fork.ensures) (c.requires.zeros tells)
 
 pub returns-in_err-later-clause-cause : goal.returns-in_err-later-clause-cause
 returns-in_err-later-clause-cause g c =
@@ -70,29 +98,43 @@ returns-then-not-fits_update-clause-cause g c = record { later = omega (arith, c
 pub store_later-requires-clause-has : goal.store_later-requires-clause-has
 store_later-requires-clause-has g c told =
     let tells = sym c.spill.ensures.same.tells ∙ told in
-    told_extents c.args.volume.now (g.P.SectorView.space c.args.space.now).content (c.requires.settled tells) c.args.file.now c.requires.fits c.args.list.now (c.requires.told tells) (overflow_in_volume (lists_of c.spill.new.volume (g.P.SectorView.space c.spill.new.space).content))
-    (ap (λ (l : VolumeState). overflow_in_volume l) (c.in_ok-later.ensures.lists tells) ∙ sym (ap (λ (l : VolumeState). overflow_in_volume l) (c.requires.settled tells).lists))
+    subst (λ n. HasExtents (overflow_in_volume (lists_of c.spill.new.volume (g.P.SectorView.space c.spill.new.space).content)) c.args.file.now.fields.id n c.args.list.now) (sym c.number_of.ensures.same)
+    (told_extents c.args.volume.now (g.P.SectorView.space c.args.space.now).content (c.requires.settled tells) c.args.kind c.args.file.now c.requires.fits c.args.list.now (c.requires.told tells) (overflow_in_volume (lists_of c.spill.new.volume (g.P.SectorView.space c.spill.new.space).content))
+    (ap (λ (l : VolumeState). overflow_in_volume l) (c.in_ok-later.ensures.lists tells) ∙ sym (ap (λ (l : VolumeState). overflow_in_volume l) (c.requires.settled tells).lists)))
 
 pub store_later-requires-clause-counted : goal.store_later-requires-clause-counted
 store_later-requires-clause-counted g c told =
     let tells = sym c.spill.ensures.same.tells ∙ told in
-    c.requires.counted tells ∙ sym (ap (λ (l : VolumeState). records_held l c.args.file.now.fields.id) (c.in_ok-later.ensures.lists tells))
+    c.requires.counted tells ∙ sym (ap (λ (l : VolumeState). records_in (kind_of c.args.kind) l c.args.file.now.fields.id) (c.in_ok-later.ensures.lists tells)) ∙ ap (λ n. records_in n (lists_of c.spill.new.volume (g.P.SectorView.space c.spill.new.space).content) c.args.file.now.fields.id) (sym c.number_of.ensures.same)
 
-pub replace-requires-clause-spelled : goal.replace-requires-clause-spelled
-replace-requires-clause-spelled g c told =
-    let between = sym (c.store_later.ensures.touches []).same.tells ∙ told in
-    let tells = sym c.spill.ensures.same.tells ∙ between in
-    subst (λ (ps : List Pair). AreSpelled ps) (sym (ap (λ (l : VolumeState). l.catalog_pairs) (c.in_ok-store_later.ensures.spreads between).lists ∙ ap (λ (l : VolumeState). l.catalog_pairs) (c.in_ok-later.ensures.lists tells))) (settled_spelled c.args.volume.now (g.P.SectorView.space c.args.space.now).content (c.requires.settled tells))
+-- the record of a file with another fork has its CNID
+id_stays : (kind : ForkKind) (moment : ℕ) (fork : ForkRecord) (file : FileRecord) → (record_with (kind_of kind) moment fork file).fields.id ≡ file.fields.id
+id_stays kinds.Data moment fork file = refl
+id_stays kinds.Resource moment fork file = refl
 
-pub replace-requires-clause-there : goal.replace-requires-clause-there
-replace-requires-clause-there g c told =
-    let between = sym (c.store_later.ensures.touches []).same.tells ∙ told in
-    let tells = sym c.spill.ensures.same.tells ∙ between in
-    ap (λ (l : VolumeState). value_at l.catalog_pairs c.args.entry.now.parent c.args.entry.now.name) (c.in_ok-store_later.ensures.spreads between).lists
-    ∙ ap (λ (l : VolumeState). value_at l.catalog_pairs c.args.entry.now.parent c.args.entry.now.name) (c.in_ok-later.ensures.lists tells) ∙ c.requires.there tells
+pub replace-requires-clause-same_kind : goal.replace-requires-clause-same_kind
+replace-requires-clause-same_kind g c =
+    subst (λ (r : CatRecord). IsOfKind (File c.with_data-rec.result) r) (sym c.requires.kind) (record {
+      folder = refl;
+      file = refl;
+      id = ap (λ (f : FileRecord). f.fields.id) c.with_data-rec.ensures.same ∙ id_stays c.args.kind _ _ c.args.file.now;
+    })
 
-pub replace-requires-clause-room : goal.replace-requires-clause-room
-replace-requires-clause-room g c = c.fits_update.ensures.room c.if-not-fits_update.false
+pub replace-requires-clause-ready : goal.replace-requires-clause-ready
+replace-requires-clause-ready g c = record {
+  stands = c.in_ok-store_later.ensures.stands;
+  spelled = λ told.
+      let between = sym (c.store_later.ensures.touches []).same.tells ∙ told in
+      let tells = sym c.spill.ensures.same.tells ∙ between in
+      subst (λ (ps : List Pair). AreSpelled ps) (sym (ap (λ (l : VolumeState). l.catalog_pairs) (c.in_ok-store_later.ensures.spreads between).lists ∙ ap (λ (l : VolumeState). l.catalog_pairs) (c.in_ok-later.ensures.lists tells))) (settled_spelled c.args.volume.now (g.P.SectorView.space c.args.space.now).content (c.requires.settled tells));
+  name = c.requires.name;
+  there = λ told.
+      let between = sym (c.store_later.ensures.touches []).same.tells ∙ told in
+      let tells = sym c.spill.ensures.same.tells ∙ between in
+      ap (λ (l : VolumeState). value_at l.catalog_pairs c.args.entry.now.parent c.args.entry.now.name) (c.in_ok-store_later.ensures.spreads between).lists
+      ∙ ap (λ (l : VolumeState). value_at l.catalog_pairs c.args.entry.now.parent c.args.entry.now.name) (c.in_ok-later.ensures.lists tells) ∙ c.requires.there tells;
+  room = c.fits_update.ensures.room c.if-not-fits_update.false;
+}
 
 pub returns-in_err-replace-clause-commit : goal.returns-in_err-replace-clause-commit
 returns-in_err-replace-clause-commit g c committed holds alike =
@@ -147,16 +189,17 @@ returns-clause-stands g c = stands_free c.args.free c.replace.new.self (g.P.Sect
 pub returns-clause-places : goal.returns-clause-places
 returns-clause-places g c tells =
     let between = c.spill.ensures.same.tells ∙ tells in
-    placed c.args.entry.now c.args.file.now c.args.list.now c.args.from c.args.value.now c.args.total c.args.free c.args.volume.now (g.P.SectorView.space c.args.space.now).content (g.P.SectorView.space c.spill.new.space).content (g.P.SectorView.space c.store_later.new.space).content (g.P.SectorView.space c.replace.new.space).content
+    placed_at (kind_of c.args.kind) c.args.entry.now c.args.file.now c.args.list.now c.args.from c.args.value.now c.args.total c.args.free c.args.volume.now (g.P.SectorView.space c.args.space.now).content (g.P.SectorView.space c.spill.new.space).content (g.P.SectorView.space c.store_later.new.space).content (g.P.SectorView.space c.replace.new.space).content
     c.spill.new.volume c.store_later.new.volume c.replace.new.self c.in_ok-later.later c.with_data-rec.result
+    c.fork_of-fork.result.logical_size (ap (λ (f : ForkRecord). f.logical_size) c.fork_of-fork.ensures)
     c.in_ok-later.ensures.blocks (c.in_ok-later.ensures.bytes tells) c.in_ok-later.ensures.map c.spill.ensures.keeps (c.spill.ensures.touches tells).content (c.in_ok-later.ensures.lists tells) c.spill.ensures.rest
-    c.store_later.ensures.rest (c.in_ok-store_later.ensures.spreads between) c.replace.ensures.rest
+    c.store_later.ensures.rest (subst (λ n. SpreadsExtents c.args.file.now.fields.id n c.in_ok-later.later c.spill.new.volume c.store_later.new.volume (g.P.SectorView.space c.spill.new.space).content (g.P.SectorView.space c.store_later.new.space).content) c.number_of.ensures.same (c.in_ok-store_later.ensures.spreads between)) c.replace.ensures.rest
     (c.in_ok-replace.ensures.replaces ((c.store_later.ensures.touches []).same.tells ∙ between))
     (c.with_data-rec.ensures.fits c.requires.fits)
-    (c.with_data-rec.ensures.same ∙ (λ i. record_with c.args.volume.now.header.modify_date (fork_with (c.max-long.ensures i) c.args.total (c.as_slice.ensures i) c.args.file.now.data_fork) c.args.file.now))
+    (c.with_data-rec.ensures.same ∙ (λ i. record_with (kind_of c.args.kind) c.args.volume.now.header.modify_date (fork_with (c.max-long.ensures i) c.args.total (c.as_slice.ensures i) (fork_at (kind_of c.args.kind) c.args.file.now)) c.args.file.now))
 
 pub returns-clause-map : goal.returns-clause-map
-returns-clause-map g c = ap (λ (x : Volume). x.map) c.replace.ensures.rest ∙ ap (λ (x : Volume). x.map) c.store_later.ensures.rest ∙ c.in_ok-later.ensures.map c.requires.sure.apart
+returns-clause-map g c = ap (λ (x : Volume). x.map) c.replace.ensures.rest ∙ ap (λ (x : Volume). x.map) c.store_later.ensures.rest ∙ subst (λ (f : ForkRecord). c.spill.new.volume.map ≡ given (middle (first_block c.args.volume.now.header.block_size f.logical_size c.args.from) (old_end c.args.volume.now.header.block_size f.logical_size (c.args.from + length c.args.value.now)) c.args.list.now) (taken (blocks_put c.args.volume.now f.logical_size c.args.from (length c.args.value.now)) c.args.volume.now.map)) c.fork_of-fork.ensures (c.in_ok-later.ensures.map c.requires.sure.apart)
 
 pub returns-clause-growth : goal.returns-clause-growth
 returns-clause-growth g c = ap (λ (x : Volume). x.filling) c.replace.ensures.rest ∙ ap (λ (x : Volume). x.filling) c.store_later.ensures.rest ∙ ap (λ (x : Volume). x.filling) c.spill.ensures.rest

@@ -13,8 +13,8 @@ use Rattle.hfs_volume.specs.Records.{is_thread}
 use Rattle.volume_base.specs.Touching.{Touches}
 use Rattle.file_io.specs.Places.{blocks_for}
 use Rattle.volume_header.specs.declared.header.VolumeHeader.{VolumeHeader}
-use Rattle.volume_space.specs.Recording.{records_held}
-use Rattle.volume_space.specs.Writing.{is_data_met, IsToldFile, extents_in, has_more}
+use Rattle.volume_space.specs.Recording.{records_in}
+use Rattle.volume_space.specs.Writing.{is_data_met_in, IsToldFile, extents_in, has_more}
 use Rattle.volume_base.specs.declared.entries.Entry.{Entry}
 use Rattle.volume_base.specs.declared.volume.Tree.{Tree}
 use Rattle.volume_base.proofs.Commanding.{touches_both, touches_looks}
@@ -27,6 +27,8 @@ use Rattle.volume_space.proofs.PutFile.{data_met, cut_is, entry_is, has_it, its,
 use Rattle.volume_base.proofs.Seeing.{if_so}
 use Rattle.volume_base.proofs.Still.{lists_still, own_still, settled_still}
 use Rattle.volume_space.proofs.Filling.{filled_kept, filled_read}
+use Rattle.volume_base.specs.Cutting.{fork_at, kind_of}
+use Rattle.volume_base.proofs.ForkKinds.{kind_is}
 use Rattle.volume_space.proofs.putting.put_data.Goals as goal
 
 pub entry-requires-clause-stands : goal.entry-requires-clause-stands
@@ -66,16 +68,16 @@ put_in_entry-requires-clause-told g c tells file is =
     let before = sym c.entry.ensures.looked.reads.looks.same.tells ∙ tells in
     let there = c.requires.there before in
     let it : IsThere _ c.args.id c.in-Some.entry = entry_there c.keep.new.self (g.P.SectorView.space c.args.space.now).content ((stands_kept c.args.volume.now c.keep.new.self c.keep.ensures (g.P.SectorView.space c.args.space.now) c.requires.stands).stands before).trees (settled_kept c.args.volume.now c.keep.new.self c.keep.ensures (g.P.SectorView.space c.args.space.now) (c.requires.settled before)) c.args.id there.0 there.1 there.2 c.in-Some.entry (sym c.in-Some.is ∙ c.in_ok-entry.ensures.found before) in
-    subst (λ (k : Content). IsToldFile file (extents_in k file) k) (sym (c.entry.ensures.looked.reads.looks.content before)) (told_is c.keep.new.self (g.P.SectorView.space c.args.space.now) (stands_kept c.args.volume.now c.keep.new.self c.keep.ensures (g.P.SectorView.space c.args.space.now) c.requires.stands) before (settled_kept c.args.volume.now c.keep.new.self c.keep.ensures (g.P.SectorView.space c.args.space.now) (c.requires.settled before)) there.0 there.1 there.3 file (same_file _ file (sym (entry_is c.keep.new.self (g.P.SectorView.space c.args.space.now) (stands_kept c.args.volume.now c.keep.new.self c.keep.ensures (g.P.SectorView.space c.args.space.now) c.requires.stands) before (settled_kept c.args.volume.now c.keep.new.self c.keep.ensures (g.P.SectorView.space c.args.space.now) (c.requires.settled before)) there.0 there.1 there.3 c.args.id c.in-Some.entry there.2 it) ∙ is)))
+    subst (λ (x : Content). IsToldFile (kind_of c.args.kind) file (extents_in (kind_of c.args.kind) x file) x) (sym (c.entry.ensures.looked.reads.looks.content before)) (told_is (kind_of c.args.kind) (kind_is c.args.kind) c.keep.new.self (g.P.SectorView.space c.args.space.now) (stands_kept c.args.volume.now c.keep.new.self c.keep.ensures (g.P.SectorView.space c.args.space.now) c.requires.stands) before (settled_kept c.args.volume.now c.keep.new.self c.keep.ensures (g.P.SectorView.space c.args.space.now) (c.requires.settled before)) there.0 there.1 there.3 file (same_file _ file (sym (entry_is (kind_of c.args.kind) (kind_is c.args.kind) c.keep.new.self (g.P.SectorView.space c.args.space.now) (stands_kept c.args.volume.now c.keep.new.self c.keep.ensures (g.P.SectorView.space c.args.space.now) c.requires.stands) before (settled_kept c.args.volume.now c.keep.new.self c.keep.ensures (g.P.SectorView.space c.args.space.now) (c.requires.settled before)) there.0 there.1 there.3 c.args.id c.in-Some.entry there.2 it) ∙ is)))
 
 pub returns-in-Some-clause-exactly : goal.returns-in-Some-clause-exactly
 returns-in-Some-clause-exactly g c tells node stands number kind put put_id at =
     let it : IsThere _ c.args.id c.in-Some.entry = entry_there c.keep.new.self (g.P.SectorView.space c.args.space.now).content ((stands_kept c.args.volume.now c.keep.new.self c.keep.ensures (g.P.SectorView.space c.args.space.now) c.requires.stands).stands tells).trees (settled_kept c.args.volume.now c.keep.new.self c.keep.ensures (g.P.SectorView.space c.args.space.now) (c.requires.settled tells)) c.args.id node stands number c.in-Some.entry (sym c.in-Some.is ∙ c.in_ok-entry.ensures.found tells) in
-    let file = (its c.keep.new.self (g.P.SectorView.space c.args.space.now) (stands_kept c.args.volume.now c.keep.new.self c.keep.ensures (g.P.SectorView.space c.args.space.now) c.requires.stands) tells (settled_kept c.args.volume.now c.keep.new.self c.keep.ensures (g.P.SectorView.space c.args.space.now) (c.requires.settled tells)) node stands kind).file in
+    let file = (its (kind_of c.args.kind) (kind_is c.args.kind) c.keep.new.self (g.P.SectorView.space c.args.space.now) (stands_kept c.args.volume.now c.keep.new.self c.keep.ensures (g.P.SectorView.space c.args.space.now) c.requires.stands) tells (settled_kept c.args.volume.now c.keep.new.self c.keep.ensures (g.P.SectorView.space c.args.space.now) (c.requires.settled tells)) node stands kind).file in
     if_so _ _ c.put_in_entry.result
-    (λ said is other. sym (can_still c.args.volume.now c.entry.new.self (alike_both c.args.volume.now c.keep.new.self c.entry.new.self (alike_kept c.args.volume.now c.keep.new.self c.keep.ensures) (alike_read c.keep.new.self c.entry.new.self (g.P.SectorView.space c.args.space.now) (g.P.SectorView.space c.entry.new.space) c.entry.ensures.looked.reads)) file.data_fork.logical_size c.args.from (length c.args.value.now) (g.P.SectorView.space c.entry.new.space).spare (g.P.SectorView.space c.args.space.now).spare (length (extents_in (g.P.SectorView.space c.entry.new.space).content file)) (length (extents_in (g.P.SectorView.space c.args.space.now).content file)) file.data_fork.total_blocks c.entry.ensures.looked.reads.looks.spare (ap (λ (k : Content). length (extents_in k file)) (c.entry.ensures.looked.reads.looks.content tells)) _ refl
-    ∙ now_is c.args.volume.now (g.P.SectorView.space c.args.space.now) c.requires.stands tells (c.requires.settled tells) node stands kind file (same_files c.args.volume.now c.keep.new.self (g.P.SectorView.space c.args.space.now) c.requires.stands (stands_kept c.args.volume.now c.keep.new.self c.keep.ensures (g.P.SectorView.space c.args.space.now) c.requires.stands) tells (c.requires.settled tells) (settled_kept c.args.volume.now c.keep.new.self c.keep.ensures (g.P.SectorView.space c.args.space.now) (c.requires.settled tells)) node stands kind) put c.args.from (length c.args.value.now) (g.P.SectorView.space c.args.space.now).spare (put_id ∙ sym number) at) ∙ is other)
-    (c.put_in_entry.ensures.exactly (c.entry.ensures.looked.reads.looks.same.tells ∙ tells) file (entry_is c.keep.new.self (g.P.SectorView.space c.args.space.now) (stands_kept c.args.volume.now c.keep.new.self c.keep.ensures (g.P.SectorView.space c.args.space.now) c.requires.stands) tells (settled_kept c.args.volume.now c.keep.new.self c.keep.ensures (g.P.SectorView.space c.args.space.now) (c.requires.settled tells)) node stands kind c.args.id c.in-Some.entry number it))
+    (λ said is other. sym (can_still c.args.volume.now c.entry.new.self (alike_both c.args.volume.now c.keep.new.self c.entry.new.self (alike_kept c.args.volume.now c.keep.new.self c.keep.ensures) (alike_read c.keep.new.self c.entry.new.self (g.P.SectorView.space c.args.space.now) (g.P.SectorView.space c.entry.new.space) c.entry.ensures.looked.reads)) (fork_at (kind_of c.args.kind) file).logical_size c.args.from (length c.args.value.now) (g.P.SectorView.space c.entry.new.space).spare (g.P.SectorView.space c.args.space.now).spare (length (extents_in (kind_of c.args.kind) (g.P.SectorView.space c.entry.new.space).content file)) (length (extents_in (kind_of c.args.kind) (g.P.SectorView.space c.args.space.now).content file)) (fork_at (kind_of c.args.kind) file).total_blocks c.entry.ensures.looked.reads.looks.spare (ap (λ (x : Content). length (extents_in (kind_of c.args.kind) x file)) (c.entry.ensures.looked.reads.looks.content tells)) _ refl
+    ∙ now_is (kind_of c.args.kind) (kind_is c.args.kind) c.args.volume.now (g.P.SectorView.space c.args.space.now) c.requires.stands tells (c.requires.settled tells) node stands kind file (same_files (kind_of c.args.kind) (kind_is c.args.kind) c.args.volume.now c.keep.new.self (g.P.SectorView.space c.args.space.now) c.requires.stands (stands_kept c.args.volume.now c.keep.new.self c.keep.ensures (g.P.SectorView.space c.args.space.now) c.requires.stands) tells (c.requires.settled tells) (settled_kept c.args.volume.now c.keep.new.self c.keep.ensures (g.P.SectorView.space c.args.space.now) (c.requires.settled tells)) node stands kind) put c.args.from (length c.args.value.now) (g.P.SectorView.space c.args.space.now).spare (put_id ∙ sym number) at) ∙ is other)
+    (c.put_in_entry.ensures.exactly (c.entry.ensures.looked.reads.looks.same.tells ∙ tells) file (entry_is (kind_of c.args.kind) (kind_is c.args.kind) c.keep.new.self (g.P.SectorView.space c.args.space.now) (stands_kept c.args.volume.now c.keep.new.self c.keep.ensures (g.P.SectorView.space c.args.space.now) c.requires.stands) tells (settled_kept c.args.volume.now c.keep.new.self c.keep.ensures (g.P.SectorView.space c.args.space.now) (c.requires.settled tells)) node stands kind c.args.id c.in-Some.entry number it))
 
 pub returns-in-Some-clause-met : goal.returns-in-Some-clause-met
 returns-in-Some-clause-met g c tells node stands number kind put put_id at =
@@ -83,26 +85,26 @@ returns-in-Some-clause-met g c tells node stands number kind put put_id at =
     let a = g.P.SectorView.space c.args.space.now in
     let b = g.P.SectorView.space c.entry.new.space in
     let it : IsThere _ c.args.id c.in-Some.entry = entry_there c.keep.new.self a.content ((stands_kept v c.keep.new.self c.keep.ensures a c.requires.stands).stands tells).trees (settled_kept v c.keep.new.self c.keep.ensures a (c.requires.settled tells)) c.args.id node stands number c.in-Some.entry (sym c.in-Some.is ∙ c.in_ok-entry.ensures.found tells) in
-    let file = (its c.keep.new.self a (stands_kept v c.keep.new.self c.keep.ensures a c.requires.stands) tells (settled_kept v c.keep.new.self c.keep.ensures a (c.requires.settled tells)) node stands kind).file in
-    let same = same_files v c.keep.new.self a c.requires.stands (stands_kept v c.keep.new.self c.keep.ensures a c.requires.stands) tells (c.requires.settled tells) (settled_kept v c.keep.new.self c.keep.ensures a (c.requires.settled tells)) node stands kind in
+    let file = (its (kind_of c.args.kind) (kind_is c.args.kind) c.keep.new.self a (stands_kept v c.keep.new.self c.keep.ensures a c.requires.stands) tells (settled_kept v c.keep.new.self c.keep.ensures a (c.requires.settled tells)) node stands kind).file in
+    let same = same_files (kind_of c.args.kind) (kind_is c.args.kind) v c.keep.new.self a c.requires.stands (stands_kept v c.keep.new.self c.keep.ensures a c.requires.stands) tells (c.requires.settled tells) (settled_kept v c.keep.new.self c.keep.ensures a (c.requires.settled tells)) node stands kind in
     if_so _ _ c.put_in_entry.result
-    (λ said is other. not_met (is_data_met v a.spare (volume_of a.content) (Some put)) (λ ok.
-    true≢false (sym (data_met v a c.requires.stands tells (c.requires.settled tells) node stands kind file same put c.args.from (length c.args.value.now) (put_id ∙ sym number) at c.requires.some a.spare ok)
+    (λ said is other. not_met (is_data_met_in (kind_of c.args.kind) v a.spare (volume_of a.content) (Some put)) (λ ok.
+    true≢false (sym (data_met (kind_of c.args.kind) (kind_is c.args.kind) v a c.requires.stands tells (c.requires.settled tells) node stands kind file same put c.args.from (length c.args.value.now) (put_id ∙ sym number) at c.requires.some a.spare ok)
     ∙ sym (met_alike v c.entry.new.self (alike_both v c.keep.new.self c.entry.new.self (alike_kept v c.keep.new.self c.keep.ensures) (alike_read c.keep.new.self c.entry.new.self a b c.entry.ensures.looked.reads))
     (c.entry.ensures.looked.reads.keeps.capacity ∙ c.keep.ensures.same.capacity) (volume_of b.content) (volume_of a.content) (ap volume_of (c.entry.ensures.looked.reads.looks.content tells)) b.spare a.spare
-    (records_held (volume_of b.content) file.fields.id) (records_held (volume_of a.content) file.fields.id) (length (extents_in b.content file)) (length (extents_in a.content file)) file.data_fork.total_blocks file.data_fork.logical_size c.args.from (length c.args.value.now)
-    c.entry.ensures.looked.reads.looks.spare (ap (λ (k : Content). records_held (volume_of k) file.fields.id) (c.entry.ensures.looked.reads.looks.content tells)) (ap (λ (k : Content). length (extents_in k file)) (c.entry.ensures.looked.reads.looks.content tells)))
+    (records_in (kind_of c.args.kind) (volume_of b.content) file.fields.id) (records_in (kind_of c.args.kind) (volume_of a.content) file.fields.id) (length (extents_in (kind_of c.args.kind) b.content file)) (length (extents_in (kind_of c.args.kind) a.content file)) (fork_at (kind_of c.args.kind) file).total_blocks (fork_at (kind_of c.args.kind) file).logical_size c.args.from (length c.args.value.now)
+    c.entry.ensures.looked.reads.looks.spare (ap (λ (k : Content). records_in (kind_of c.args.kind) (volume_of k) file.fields.id) (c.entry.ensures.looked.reads.looks.content tells)) (ap (λ (x : Content). length (extents_in (kind_of c.args.kind) x file)) (c.entry.ensures.looked.reads.looks.content tells)))
     ∙ is other)))
-    (c.put_in_entry.ensures.met (c.entry.ensures.looked.reads.looks.same.tells ∙ tells) file (entry_is c.keep.new.self a (stands_kept v c.keep.new.self c.keep.ensures a c.requires.stands) tells (settled_kept v c.keep.new.self c.keep.ensures a (c.requires.settled tells)) node stands kind c.args.id c.in-Some.entry number it))
+    (c.put_in_entry.ensures.met (c.entry.ensures.looked.reads.looks.same.tells ∙ tells) file (entry_is (kind_of c.args.kind) (kind_is c.args.kind) c.keep.new.self a (stands_kept v c.keep.new.self c.keep.ensures a c.requires.stands) tells (settled_kept v c.keep.new.self c.keep.ensures a (c.requires.settled tells)) node stands kind c.args.id c.in-Some.entry number it))
 
 pub returns-in-Some-clause-no_cut : goal.returns-in-Some-clause-no_cut
 returns-in-Some-clause-no_cut g c tells node stands number kind put put_id at =
     let it : IsThere _ c.args.id c.in-Some.entry = entry_there c.keep.new.self (g.P.SectorView.space c.args.space.now).content ((stands_kept c.args.volume.now c.keep.new.self c.keep.ensures (g.P.SectorView.space c.args.space.now) c.requires.stands).stands tells).trees (settled_kept c.args.volume.now c.keep.new.self c.keep.ensures (g.P.SectorView.space c.args.space.now) (c.requires.settled tells)) c.args.id node stands number c.in-Some.entry (sym c.in-Some.is ∙ c.in_ok-entry.ensures.found tells) in
-    let file = (its c.keep.new.self (g.P.SectorView.space c.args.space.now) (stands_kept c.args.volume.now c.keep.new.self c.keep.ensures (g.P.SectorView.space c.args.space.now) c.requires.stands) tells (settled_kept c.args.volume.now c.keep.new.self c.keep.ensures (g.P.SectorView.space c.args.space.now) (c.requires.settled tells)) node stands kind).file in
+    let file = (its (kind_of c.args.kind) (kind_is c.args.kind) c.keep.new.self (g.P.SectorView.space c.args.space.now) (stands_kept c.args.volume.now c.keep.new.self c.keep.ensures (g.P.SectorView.space c.args.space.now) c.requires.stands) tells (settled_kept c.args.volume.now c.keep.new.self c.keep.ensures (g.P.SectorView.space c.args.space.now) (c.requires.settled tells)) node stands kind).file in
     if_so _ _ c.put_in_entry.result
-    (λ said is so. sym (cut_is c.args.volume.now (g.P.SectorView.space c.args.space.now) c.requires.stands tells (c.requires.settled tells) node stands kind file (same_files c.args.volume.now c.keep.new.self (g.P.SectorView.space c.args.space.now) c.requires.stands (stands_kept c.args.volume.now c.keep.new.self c.keep.ensures (g.P.SectorView.space c.args.space.now) c.requires.stands) tells (c.requires.settled tells) (settled_kept c.args.volume.now c.keep.new.self c.keep.ensures (g.P.SectorView.space c.args.space.now) (c.requires.settled tells)) node stands kind) put c.args.from (length c.args.value.now) (put_id ∙ sym number) at)
-    ∙ subst (λ (h : VolumeHeader). has_more file.data_fork.logical_size (c.args.from + length c.args.value.now) (blocks_for h.block_size file.data_fork.logical_size) file.data_fork.total_blocks ≡ false) (c.entry.ensures.looked.reads.keeps.header ∙ c.keep.ensures.same.header) (is so))
-    (c.put_in_entry.ensures.no_cut (c.entry.ensures.looked.reads.looks.same.tells ∙ tells) file (entry_is c.keep.new.self (g.P.SectorView.space c.args.space.now) (stands_kept c.args.volume.now c.keep.new.self c.keep.ensures (g.P.SectorView.space c.args.space.now) c.requires.stands) tells (settled_kept c.args.volume.now c.keep.new.self c.keep.ensures (g.P.SectorView.space c.args.space.now) (c.requires.settled tells)) node stands kind c.args.id c.in-Some.entry number it))
+    (λ said is so. sym (cut_is (kind_of c.args.kind) (kind_is c.args.kind) c.args.volume.now (g.P.SectorView.space c.args.space.now) c.requires.stands tells (c.requires.settled tells) node stands kind file (same_files (kind_of c.args.kind) (kind_is c.args.kind) c.args.volume.now c.keep.new.self (g.P.SectorView.space c.args.space.now) c.requires.stands (stands_kept c.args.volume.now c.keep.new.self c.keep.ensures (g.P.SectorView.space c.args.space.now) c.requires.stands) tells (c.requires.settled tells) (settled_kept c.args.volume.now c.keep.new.self c.keep.ensures (g.P.SectorView.space c.args.space.now) (c.requires.settled tells)) node stands kind) put c.args.from (length c.args.value.now) (put_id ∙ sym number) at)
+    ∙ subst (λ (h : VolumeHeader). has_more (fork_at (kind_of c.args.kind) file).logical_size (c.args.from + length c.args.value.now) (blocks_for h.block_size (fork_at (kind_of c.args.kind) file).logical_size) (fork_at (kind_of c.args.kind) file).total_blocks ≡ false) (c.entry.ensures.looked.reads.keeps.header ∙ c.keep.ensures.same.header) (is so))
+    (c.put_in_entry.ensures.no_cut (c.entry.ensures.looked.reads.looks.same.tells ∙ tells) file (entry_is (kind_of c.args.kind) (kind_is c.args.kind) c.keep.new.self (g.P.SectorView.space c.args.space.now) (stands_kept c.args.volume.now c.keep.new.self c.keep.ensures (g.P.SectorView.space c.args.space.now) c.requires.stands) tells (settled_kept c.args.volume.now c.keep.new.self c.keep.ensures (g.P.SectorView.space c.args.space.now) (c.requires.settled tells)) node stands kind c.args.id c.in-Some.entry number it))
 
 pub returns-in-Some-clause-spent : goal.returns-in-Some-clause-spent
 returns-in-Some-clause-spent g c tells node stands number kind put put_id at =
@@ -115,43 +117,43 @@ returns-in-Some-clause-spent g c tells node stands number kind put put_id at =
     let was = c.requires.settled tells in
     let kept = settled_kept v k c.keep.ensures a was in
     let it : IsThere _ c.args.id c.in-Some.entry = entry_there k a.content (held.stands tells).trees kept c.args.id node stands number c.in-Some.entry (sym c.in-Some.is ∙ c.in_ok-entry.ensures.found tells) in
-    let file = (its k a held tells kept node stands kind).file in
-    let same = same_files v k a c.requires.stands held tells was kept node stands kind in
-    let size = file.data_fork.logical_size in
+    let file = (its (kind_of c.args.kind) (kind_is c.args.kind) k a held tells kept node stands kind).file in
+    let same = same_files (kind_of c.args.kind) (kind_is c.args.kind) v k a c.requires.stands held tells was kept node stands kind in
+    let size = (fork_at (kind_of c.args.kind) file).logical_size in
     let long = length c.args.value.now in
     let like = alike_both v k u (alike_kept v k c.keep.ensures) (alike_read k u a b c.entry.ensures.looked.reads) in
     ⊎_elim
     (λ none_put. inl (omega (arith, none_put, c.entry.ensures.looked.reads.looks.spare)))
     (λ some_put. inr (
-      sym (cut_is v a c.requires.stands tells was node stands kind file same put c.args.from long (put_id ∙ sym number) at)
-          ∙ subst (λ (h : VolumeHeader). has_more size (c.args.from + long) (blocks_for h.block_size size) file.data_fork.total_blocks ≡ false) (c.entry.ensures.looked.reads.keeps.header ∙ c.keep.ensures.same.header) some_put.0,
+      sym (cut_is (kind_of c.args.kind) (kind_is c.args.kind) v a c.requires.stands tells was node stands kind file same put c.args.from long (put_id ∙ sym number) at)
+          ∙ subst (λ (h : VolumeHeader). has_more size (c.args.from + long) (blocks_for h.block_size size) (fork_at (kind_of c.args.kind) file).total_blocks ≡ false) (c.entry.ensures.looked.reads.keeps.header ∙ c.keep.ensures.same.header) some_put.0,
       omega (
         arith,
         some_put.1,
         c.entry.ensures.looked.reads.looks.spare,
         load_alike v u like size c.args.from long,
-        load_now v a c.requires.stands tells was node stands kind file same put c.args.from long at,
-        spread_alike v u like size c.args.from long (records_held (volume_of b.content) file.fields.id) (records_held (volume_of a.content) file.fields.id) (length (extents_in b.content file)) (length (extents_in a.content file))
+        load_now (kind_of c.args.kind) (kind_is c.args.kind) v a c.requires.stands tells was node stands kind file same put c.args.from long at,
+        spread_alike v u like size c.args.from long (records_in (kind_of c.args.kind) (volume_of b.content) file.fields.id) (records_in (kind_of c.args.kind) (volume_of a.content) file.fields.id) (length (extents_in (kind_of c.args.kind) b.content file)) (length (extents_in (kind_of c.args.kind) a.content file))
             (c.entry.ensures.looked.reads.keeps.extents.file.shape ∙ ap (λ (t : Tree). t.file.shape) c.keep.ensures.same.extents)
-            (ap (λ (x : Content). records_held (volume_of x) file.fields.id) (c.entry.ensures.looked.reads.looks.content tells)) (ap (λ (x : Content). length (extents_in x file)) (c.entry.ensures.looked.reads.looks.content tells)),
-        records_now v a c.requires.stands tells was node stands kind file same put c.args.from long (put_id ∙ sym number) at,
+            (ap (λ (x : Content). records_in (kind_of c.args.kind) (volume_of x) file.fields.id) (c.entry.ensures.looked.reads.looks.content tells)) (ap (λ (x : Content). length (extents_in (kind_of c.args.kind) x file)) (c.entry.ensures.looked.reads.looks.content tells)),
+        records_now (kind_of c.args.kind) (kind_is c.args.kind) v a c.requires.stands tells was node stands kind file same put c.args.from long (put_id ∙ sym number) at,
       ),
     ))
-    (c.put_in_entry.ensures.spent (c.entry.ensures.looked.reads.looks.same.tells ∙ tells) file (entry_is k a held tells kept node stands kind c.args.id c.in-Some.entry number it))
+    (c.put_in_entry.ensures.spent (c.entry.ensures.looked.reads.looks.same.tells ∙ tells) file (entry_is (kind_of c.args.kind) (kind_is c.args.kind) k a held tells kept node stands kind c.args.id c.in-Some.entry number it))
 
 pub returns-in-Some-clause-puts : goal.returns-in-Some-clause-puts
 returns-in-Some-clause-puts g c tells =
     let there = c.requires.there tells in
     let it : IsThere _ c.args.id c.in-Some.entry = entry_there c.keep.new.self (g.P.SectorView.space c.args.space.now).content ((stands_kept c.args.volume.now c.keep.new.self c.keep.ensures (g.P.SectorView.space c.args.space.now) c.requires.stands).stands tells).trees (settled_kept c.args.volume.now c.keep.new.self c.keep.ensures (g.P.SectorView.space c.args.space.now) (c.requires.settled tells)) c.args.id there.0 there.1 there.2 c.in-Some.entry (sym c.in-Some.is ∙ c.in_ok-entry.ensures.found tells) in
-    let file = (its c.keep.new.self (g.P.SectorView.space c.args.space.now) (stands_kept c.args.volume.now c.keep.new.self c.keep.ensures (g.P.SectorView.space c.args.space.now) c.requires.stands) tells (settled_kept c.args.volume.now c.keep.new.self c.keep.ensures (g.P.SectorView.space c.args.space.now) (c.requires.settled tells)) there.0 there.1 there.3).file in
+    let file = (its (kind_of c.args.kind) (kind_is c.args.kind) c.keep.new.self (g.P.SectorView.space c.args.space.now) (stands_kept c.args.volume.now c.keep.new.self c.keep.ensures (g.P.SectorView.space c.args.space.now) c.requires.stands) tells (settled_kept c.args.volume.now c.keep.new.self c.keep.ensures (g.P.SectorView.space c.args.space.now) (c.requires.settled tells)) there.0 there.1 there.3).file in
     if_so _ _ c.put_in_entry.result
     (λ said is so. record {
       file = file;
-      number = number_is c.keep.new.self (g.P.SectorView.space c.args.space.now) (stands_kept c.args.volume.now c.keep.new.self c.keep.ensures (g.P.SectorView.space c.args.space.now) c.requires.stands) tells (settled_kept c.args.volume.now c.keep.new.self c.keep.ensures (g.P.SectorView.space c.args.space.now) (c.requires.settled tells)) there.0 there.1 there.3 file refl ∙ there.2;
-      stands = has_it c.keep.new.self (g.P.SectorView.space c.args.space.now) (stands_kept c.args.volume.now c.keep.new.self c.keep.ensures (g.P.SectorView.space c.args.space.now) c.requires.stands) tells (settled_kept c.args.volume.now c.keep.new.self c.keep.ensures (g.P.SectorView.space c.args.space.now) (c.requires.settled tells)) there.0 there.1 there.3 file refl;
-      puts = puts_alike c.args.volume.now c.entry.new.self (alike_both c.args.volume.now c.keep.new.self c.entry.new.self (alike_kept c.args.volume.now c.keep.new.self c.keep.ensures) (alike_read c.keep.new.self c.entry.new.self (g.P.SectorView.space c.args.space.now) (g.P.SectorView.space c.entry.new.space) c.entry.ensures.looked.reads)) file c.args.from c.args.value.now c.put_in_entry.new.volume (g.P.SectorView.space c.entry.new.space).content (g.P.SectorView.space c.args.space.now).content (g.P.SectorView.space c.put_in_entry.new.space).content (c.entry.ensures.looked.reads.looks.content tells) (is so);
+      number = number_is (kind_of c.args.kind) (kind_is c.args.kind) c.keep.new.self (g.P.SectorView.space c.args.space.now) (stands_kept c.args.volume.now c.keep.new.self c.keep.ensures (g.P.SectorView.space c.args.space.now) c.requires.stands) tells (settled_kept c.args.volume.now c.keep.new.self c.keep.ensures (g.P.SectorView.space c.args.space.now) (c.requires.settled tells)) there.0 there.1 there.3 file refl ∙ there.2;
+      stands = has_it (kind_of c.args.kind) (kind_is c.args.kind) c.keep.new.self (g.P.SectorView.space c.args.space.now) (stands_kept c.args.volume.now c.keep.new.self c.keep.ensures (g.P.SectorView.space c.args.space.now) c.requires.stands) tells (settled_kept c.args.volume.now c.keep.new.self c.keep.ensures (g.P.SectorView.space c.args.space.now) (c.requires.settled tells)) there.0 there.1 there.3 file refl;
+      puts = puts_alike c.args.volume.now c.entry.new.self (alike_both c.args.volume.now c.keep.new.self c.entry.new.self (alike_kept c.args.volume.now c.keep.new.self c.keep.ensures) (alike_read c.keep.new.self c.entry.new.self (g.P.SectorView.space c.args.space.now) (g.P.SectorView.space c.entry.new.space) c.entry.ensures.looked.reads)) (kind_of c.args.kind) file c.args.from c.args.value.now c.put_in_entry.new.volume (g.P.SectorView.space c.entry.new.space).content (g.P.SectorView.space c.args.space.now).content (g.P.SectorView.space c.put_in_entry.new.space).content (c.entry.ensures.looked.reads.looks.content tells) (is so);
     })
-    (c.put_in_entry.ensures.puts (c.entry.ensures.looked.reads.looks.same.tells ∙ tells) file (entry_is c.keep.new.self (g.P.SectorView.space c.args.space.now) (stands_kept c.args.volume.now c.keep.new.self c.keep.ensures (g.P.SectorView.space c.args.space.now) c.requires.stands) tells (settled_kept c.args.volume.now c.keep.new.self c.keep.ensures (g.P.SectorView.space c.args.space.now) (c.requires.settled tells)) there.0 there.1 there.3 c.args.id c.in-Some.entry there.2 it))
+    (c.put_in_entry.ensures.puts (c.entry.ensures.looked.reads.looks.same.tells ∙ tells) file (entry_is (kind_of c.args.kind) (kind_is c.args.kind) c.keep.new.self (g.P.SectorView.space c.args.space.now) (stands_kept c.args.volume.now c.keep.new.self c.keep.ensures (g.P.SectorView.space c.args.space.now) c.requires.stands) tells (settled_kept c.args.volume.now c.keep.new.self c.keep.ensures (g.P.SectorView.space c.args.space.now) (c.requires.settled tells)) there.0 there.1 there.3 c.args.id c.in-Some.entry there.2 it))
 
 pub returns-in-Some-clause-waits : goal.returns-in-Some-clause-waits
 returns-in-Some-clause-waits g c tells =

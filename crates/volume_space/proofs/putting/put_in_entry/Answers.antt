@@ -5,10 +5,11 @@ use Rattle.cat_records.specs.declared.record.FileRecord.{FileRecord}
 use Rattle.hfs_volume.specs.Records.{is_thread}
 use Rattle.file_io.specs.Places.{blocks_for}
 use Rattle.hfs_volume.specs.Content.{volume_of}
-use Rattle.volume_space.specs.Recording.{records_held}
+use Rattle.volume_space.specs.Recording.{records_in}
 use Rattle.volume_space.specs.Writing.{PutsValue, can_put, extents_in, has_more, is_put_met, put_load, spread_put_load}
 use Rattle.volume_base.proofs.Commanding.{touches_none}
 use Rattle.volume_space.proofs.PutFile.{not_folder, not_thread, same_file}
+use Rattle.volume_base.specs.Cutting.{fork_at, kind_of}
 use Rattle.volume_space.proofs.putting.put_in_entry.Goals as goal
 
 pub put_in_file-requires-clause-kind : goal.put_in_file-requires-clause-kind
@@ -22,21 +23,21 @@ put_in_file-requires-clause-told g c tells = c.requires.told tells c.in-File.fil
 
 pub returns-in-File-clause-exactly : goal.returns-in-File-clause-exactly
 returns-in-File-clause-exactly g c tells file is =
-    subst (λ (f : FileRecord). IfOk c.put_in_file.result (λ put. put ≡ false → can_put c.args.volume.now (g.P.SectorView.space c.args.space.now).spare (length (extents_in (g.P.SectorView.space c.args.space.now).content f)) f.data_fork.total_blocks f.data_fork.logical_size c.args.from (length c.args.value.now) ≡ false)) (same_file c.in-File.file file (sym c.in-File.is ∙ is)) (c.put_in_file.ensures.exactly tells)
+    subst (λ (f : FileRecord). IfOk c.put_in_file.result (λ put. put ≡ false → can_put c.args.volume.now (g.P.SectorView.space c.args.space.now).spare (length (extents_in (kind_of c.args.kind) (g.P.SectorView.space c.args.space.now).content f)) (fork_at (kind_of c.args.kind) f).total_blocks (fork_at (kind_of c.args.kind) f).logical_size c.args.from (length c.args.value.now) ≡ false)) (same_file c.in-File.file file (sym c.in-File.is ∙ is)) (c.put_in_file.ensures.exactly tells)
 
 pub returns-in-File-clause-puts : goal.returns-in-File-clause-puts
 returns-in-File-clause-puts g c tells file is =
-    subst (λ (f : FileRecord). IfOk c.put_in_file.result (λ put. IsTrue put → PutsValue f c.args.from c.args.value.now c.args.volume.now c.put_in_file.new.volume (g.P.SectorView.space c.args.space.now).content (g.P.SectorView.space c.put_in_file.new.space).content)) (same_file c.in-File.file file (sym c.in-File.is ∙ is)) (c.put_in_file.ensures.puts tells)
+    subst (λ (f : FileRecord). IfOk c.put_in_file.result (λ put. IsTrue put → PutsValue (kind_of c.args.kind) f c.args.from c.args.value.now c.args.volume.now c.put_in_file.new.volume (g.P.SectorView.space c.args.space.now).content (g.P.SectorView.space c.put_in_file.new.space).content)) (same_file c.in-File.file file (sym c.in-File.is ∙ is)) (c.put_in_file.ensures.puts tells)
 
 pub returns-in-File-clause-spent : goal.returns-in-File-clause-spent
 returns-in-File-clause-spent g c tells file is =
-    subst (λ (f : FileRecord). ((g.P.SectorView.space c.args.space.now).spare ≤ (g.P.SectorView.space c.put_in_file.new.space).spare) ⊎ ((has_more f.data_fork.logical_size (c.args.from + length c.args.value.now) (blocks_for c.args.volume.now.header.block_size f.data_fork.logical_size) f.data_fork.total_blocks ≡ false)
-    × ((g.P.SectorView.space c.args.space.now).spare ≤ (g.P.SectorView.space c.put_in_file.new.space).spare + put_load c.args.volume.now f.data_fork.logical_size c.args.from (length c.args.value.now)
-    + spread_put_load c.args.volume.now (records_held (volume_of (g.P.SectorView.space c.args.space.now).content) f.fields.id) (length (extents_in (g.P.SectorView.space c.args.space.now).content f)) f.data_fork.logical_size c.args.from (length c.args.value.now)))) (same_file c.in-File.file file (sym c.in-File.is ∙ is)) (c.put_in_file.ensures.spent tells)
+    subst (λ (f : FileRecord). ((g.P.SectorView.space c.args.space.now).spare ≤ (g.P.SectorView.space c.put_in_file.new.space).spare) ⊎ ((has_more (fork_at (kind_of c.args.kind) f).logical_size (c.args.from + length c.args.value.now) (blocks_for c.args.volume.now.header.block_size (fork_at (kind_of c.args.kind) f).logical_size) (fork_at (kind_of c.args.kind) f).total_blocks ≡ false)
+    × ((g.P.SectorView.space c.args.space.now).spare ≤ (g.P.SectorView.space c.put_in_file.new.space).spare + put_load c.args.volume.now (fork_at (kind_of c.args.kind) f).logical_size c.args.from (length c.args.value.now)
+    + spread_put_load c.args.volume.now (records_in (kind_of c.args.kind) (volume_of (g.P.SectorView.space c.args.space.now).content) f.fields.id) (length (extents_in (kind_of c.args.kind) (g.P.SectorView.space c.args.space.now).content f)) (fork_at (kind_of c.args.kind) f).logical_size c.args.from (length c.args.value.now)))) (same_file c.in-File.file file (sym c.in-File.is ∙ is)) (c.put_in_file.ensures.spent tells)
 
 pub returns-in-File-clause-met : goal.returns-in-File-clause-met
 returns-in-File-clause-met g c tells file is =
-    subst (λ (f : FileRecord). IfOk c.put_in_file.result (λ put. put ≡ false → is_put_met c.args.volume.now (volume_of (g.P.SectorView.space c.args.space.now).content) (g.P.SectorView.space c.args.space.now).spare (records_held (volume_of (g.P.SectorView.space c.args.space.now).content) f.fields.id) (length (extents_in (g.P.SectorView.space c.args.space.now).content f)) f.data_fork.total_blocks f.data_fork.logical_size c.args.from (length c.args.value.now) ≡ false)) (same_file c.in-File.file file (sym c.in-File.is ∙ is)) (c.put_in_file.ensures.met tells)
+    subst (λ (f : FileRecord). IfOk c.put_in_file.result (λ put. put ≡ false → is_put_met c.args.volume.now (volume_of (g.P.SectorView.space c.args.space.now).content) (g.P.SectorView.space c.args.space.now).spare (records_in (kind_of c.args.kind) (volume_of (g.P.SectorView.space c.args.space.now).content) f.fields.id) (length (extents_in (kind_of c.args.kind) (g.P.SectorView.space c.args.space.now).content f)) (fork_at (kind_of c.args.kind) f).total_blocks (fork_at (kind_of c.args.kind) f).logical_size c.args.from (length c.args.value.now) ≡ false)) (same_file c.in-File.file file (sym c.in-File.is ∙ is)) (c.put_in_file.ensures.met tells)
 
 pub returns-in-Folder-clause-met : goal.returns-in-Folder-clause-met
 returns-in-Folder-clause-met g c tells file is = absurd (not_folder c.in-Folder._folder file (sym c.in-Folder.is ∙ is))
@@ -88,7 +89,7 @@ returns-in-Thread-clause-cause g c = record { later = omega arith; failed = tt }
 
 pub returns-in-File-clause-no_cut : goal.returns-in-File-clause-no_cut
 returns-in-File-clause-no_cut g c tells file is =
-    subst (λ (f : FileRecord). IfOk c.put_in_file.result (λ put. IsTrue put → has_more f.data_fork.logical_size (c.args.from + length c.args.value.now) (blocks_for c.args.volume.now.header.block_size f.data_fork.logical_size) f.data_fork.total_blocks ≡ false)) (same_file c.in-File.file file (sym c.in-File.is ∙ is)) (c.put_in_file.ensures.no_cut tells)
+    subst (λ (f : FileRecord). IfOk c.put_in_file.result (λ put. IsTrue put → has_more (fork_at (kind_of c.args.kind) f).logical_size (c.args.from + length c.args.value.now) (blocks_for c.args.volume.now.header.block_size (fork_at (kind_of c.args.kind) f).logical_size) (fork_at (kind_of c.args.kind) f).total_blocks ≡ false)) (same_file c.in-File.file file (sym c.in-File.is ∙ is)) (c.put_in_file.ensures.no_cut tells)
 
 pub returns-in-Folder-clause-no_cut : goal.returns-in-Folder-clause-no_cut
 returns-in-Folder-clause-no_cut g c tells file is = absurd (not_folder c.in-Folder._folder file (sym c.in-Folder.is ∙ is))

@@ -10,34 +10,24 @@ use Rattle.hfs_volume.specs.TreeOf.{tree_of}
 use Rattle.volume_space.specs.Resizing.{IsShortened, SetsSize}
 use Rattle.volume_base.specs.Standing.{StandsOver, IsSettled}
 use Rattle.volume_base.specs.declared.entries.Entry.{Entry}
-use Rattle.volume_base.proofs.FoundEntry.{entry_there, not_none, settled_spelled, room_still, ok_both}
+use Rattle.volume_base.proofs.FoundEntry.{entry_there, not_none, settled_spelled, ok_both}
 use Rattle.volume_space.proofs.ShortenedCalls.{entry_file}
 use Rattle.volume_base.proofs.Still.{lists_still, settled_still}
 use Rattle.volume_space.proofs.Shortened.{size_set, trunc_file}
-use Rattle.volume_base.proofs.Framed.{looked_err, looked_ok, looked_then, node_looked}
+use Rattle.volume_base.proofs.Framed.{looked_err, looked_ok, looked_then, node_looked, found_ready}
 use Rattle.volume_space.proofs.resizing.set_size.Goals as goal
 
 pub entry-requires-clause-spelled : goal.entry-requires-clause-spelled
 entry-requires-clause-spelled g c tells = settled_spelled c.args.volume.now (g.P.SectorView.space c.args.space.now).content (c.requires.serves.settled tells)
 
-pub put_size-requires-clause-spelled : goal.put_size-requires-clause-spelled
-put_size-requires-clause-spelled g c tells = settled_spelled c.entry.new.self (g.P.SectorView.space c.entry.new.space).content (settled_still c.args.volume.now c.entry.new.self (g.P.SectorView.space c.args.space.now) (g.P.SectorView.space c.entry.new.space) c.entry.ensures.looked.reads (sym c.entry.ensures.looked.reads.looks.same.tells ∙ tells) (c.requires.serves.settled (sym c.entry.ensures.looked.reads.looks.same.tells ∙ tells)))
-
-pub put_size-requires-clause-name : goal.put_size-requires-clause-name
-put_size-requires-clause-name g c = subst (λ (o : Option Entry). IfSome o (λ entry. length entry.name ≤ 255)) c.in-Some.is c.in_ok-entry.ensures.name
+pub put_size-requires-clause-ready : goal.put_size-requires-clause-ready
+put_size-requires-clause-ready g c =
+    found_ready c.entry.ensures.looked (λ tells. settled_spelled c.args.volume.now (g.P.SectorView.space c.args.space.now).content (c.requires.serves.settled tells))
+    (subst (λ (o : Option Entry). IfSome o (λ entry. length entry.name ≤ 255)) c.in-Some.is c.in_ok-entry.ensures.name)
+    (λ tells. let there = c.requires.there tells in let it = entry_there c.args.volume.now (g.P.SectorView.space c.args.space.now).content (c.requires.serves.stands.stands tells).trees (c.requires.serves.settled tells) c.args.id there.0 there.1 there.2 c.in-Some.entry (sym c.in-Some.is ∙ c.in_ok-entry.ensures.found tells) in it.value) c.requires.room
 
 pub put_size-requires-clause-fits : goal.put_size-requires-clause-fits
 put_size-requires-clause-fits g c = subst (λ (o : Option Entry). IfSome o (λ entry. is_thread entry.rec ≡ false → FitsRecord entry.rec)) c.in-Some.is c.in_ok-entry.ensures.fits
-
-pub put_size-requires-clause-there : goal.put_size-requires-clause-there
-put_size-requires-clause-there g c tells =
-    let before = (sym c.entry.ensures.looked.reads.looks.same.tells ∙ tells) in
-    let there = c.requires.there (sym c.entry.ensures.looked.reads.looks.same.tells ∙ tells) in
-    let it = entry_there c.args.volume.now (g.P.SectorView.space c.args.space.now).content (c.requires.serves.stands.stands (sym c.entry.ensures.looked.reads.looks.same.tells ∙ tells)).trees (c.requires.serves.settled (sym c.entry.ensures.looked.reads.looks.same.tells ∙ tells)) c.args.id there.0 there.1 there.2 c.in-Some.entry (sym c.in-Some.is ∙ c.in_ok-entry.ensures.found (sym c.entry.ensures.looked.reads.looks.same.tells ∙ tells)) in
-    ap (λ (l : VolumeState). value_at l.catalog_pairs c.in-Some.entry.parent c.in-Some.entry.name) (lists_still c.args.volume.now c.entry.new.self (g.P.SectorView.space c.args.space.now) (g.P.SectorView.space c.entry.new.space) c.entry.ensures.looked.reads (sym c.entry.ensures.looked.reads.looks.same.tells ∙ tells)) ∙ it.value
-
-pub put_size-requires-clause-room : goal.put_size-requires-clause-room
-put_size-requires-clause-room g c = room_still c.args.volume.now c.entry.new.self (g.P.SectorView.space c.args.space.now) (g.P.SectorView.space c.entry.new.space) c.entry.ensures.looked.reads c.requires.room
 
 pub returns-in-Some-clause-does : goal.returns-in-Some-clause-does
 returns-in-Some-clause-does g c tells path node allowed number short =

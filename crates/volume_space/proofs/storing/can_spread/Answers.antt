@@ -15,6 +15,6 @@ returns-clause-full g c is = sym c.all_have_blocks.ensures ∙ c.if-not-all_have
 
 pub returns-clause-room : goal.returns-clause-room
 returns-clause-room g c is names tells has =
-    store_room_by (state_of names c.args.volume.now.extents.file (g.P.SectorView.space c.args.space.now)) c.args.id 0 c.args.records c.args.later.now c.in-Some.edits
+    store_room_by (state_of names c.args.volume.now.extents.file (g.P.SectorView.space c.args.space.now)) c.args.id c.args.kind c.args.records c.args.later.now c.in-Some.edits
     has (full_in_use c.args.later.now (sym c.all_have_blocks.ensures ∙ c.if-not-all_have_blocks.false))
     (omega (arith, c.len.ensures, subst (λ (o : Option ℕ). IfSome o (λ edits. edits ≡ max (c.args.records + parts_for (c.len.result - 8) 8) 1)) c.in-Some.is c.count_edits.ensures.exact)) tells (c.fits_extent_edits.ensures is names tells)

@@ -7,7 +7,7 @@ use Rattle.hfs_volume.specs.Blocks.{GoesOn}
 use Rattle.hfs_volume.specs.Forks.{extents_of}
 use Rattle.hfs_volume.specs.Records.{overflow_of}
 use Rattle.volume_base.specs.Cutting.{fork_at}
-use Rattle.volume_space.specs.Cutting.{kind_of}
+use Rattle.volume_base.specs.Cutting.{kind_of}
 use Rattle.volume_base.proofs.Extending.{extents_open, overflow_told}
 use Rattle.volume_base.proofs.Seeing.{if_so}
 use Rattle.volume_space.proofs.SpreadFile.{goes_on_told}

@@ -2,7 +2,7 @@ use Rattle.std.proofs.Common.{◌≡◌, ◌∙◌, ap, sym}
 use Rattle.std.specs.Prelude.{nat_lt, Option, None, Some, if◌then◌else◌}
 use Rattle.hfs_volume.specs.Forks.{parts_for}
 use Rattle.volume_space.specs.Cutting.{surplus_in}
-use Rattle.volume_space.specs.declared.cutting.ForkKind.TheVariants as kinds
+use Rattle.volume_base.specs.declared.forks.ForkKind.TheVariants as kinds
 use Rattle.volume_space.specs.declared.trimming.Surplus.{Surplus}
 use Rattle.volume_space.proofs.trimming.surplus_in.Goals as goal
 

@@ -6,7 +6,8 @@ use Rattle.cat_records.specs.Fits.{FitsRecord}
 use Rattle.catalog.specs.Pairs.{value_at}
 use Rattle.hfs_volume.specs.Content.{VolumeState}
 use Rattle.hfs_volume.specs.Records.{id_in, is_thread}
-use Rattle.volume_space.specs.Cutting.{IsNextCut, blocks_left, kind_of}
+use Rattle.volume_space.specs.Cutting.{IsNextCut, blocks_left}
+use Rattle.volume_base.specs.Cutting.{kind_of}
 use Rattle.volume_base.specs.Keeping.{shrunk_of}
 use Rattle.volume_base.specs.Lists.{lists_of}
 use Rattle.volume_base.specs.Room.{capacity_of}

@@ -1,4 +1,4 @@
-use Rattle.std.proofs.Common.{inl, arith, subst, ℕ}
+use Rattle.std.proofs.Common.{arith, subst, ℕ}
 use Rattle.std.specs.Prelude.{◌&&◌}
 use Rattle.hx_bytes.specs.declared.extents.ForkRecord.{ForkRecord}
 use Rattle.volume_base.specs.Cutting.{IsCutOf}
@@ -11,7 +11,7 @@ tidy_part-requires-clause-cut g c = subst (λ (f : ForkRecord). IsCutOf c.args.l
 -- ---- what it puts
 
 pub returns-in_err-cut-clause-spent : goal.returns-in_err-cut-clause-spent
-returns-in_err-cut-clause-spent g c tells = inl (omega arith)
+returns-in_err-cut-clause-spent g c tells = omega arith
 
 pub returns-in_err-cut-clause-frees : goal.returns-in_err-cut-clause-frees
 returns-in_err-cut-clause-frees g c = frees_err c.from_residual.ensures.1 (frees_wanting {T = ℕ} g.met.P.SectorView.follows_refl c.requires.serves.stands)

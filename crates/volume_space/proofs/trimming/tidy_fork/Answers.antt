@@ -1,16 +1,15 @@
-use Rattle.std.proofs.Common.{ℕ, false, inl, arith, sym, ◌∙◌, ap, subst}
-use Rattle.std.specs.Prelude.{Option, ◌&&◌}
+use Rattle.std.proofs.Common.{ℕ, false, arith, sym, ◌∙◌, ap, subst}
+use Rattle.std.specs.Prelude.{◌&&◌}
 use Rattle.std.proofs.lemmas.Bool.{true≢false, eq-eqb}
 use Rattle.sector_disk.specs.Lists.{Content}
-use Rattle.alloc_bitmap.specs.Map.{BlockMap, free_of}
 use Rattle.catalog.specs.Pairs.{value_at}
 use Rattle.hfs_volume.specs.Content.{VolumeState}
 use Rattle.hfs_volume.specs.Records.{id_in}
-use Rattle.volume_space.specs.Cutting.{IsNextCut, kind_of, IsForkOf}
-use Rattle.volume_base.specs.Keeping.{shrunk_of}
+use Rattle.volume_space.specs.Cutting.{IsForkOf, MayCut}
+use Rattle.volume_base.specs.Cutting.{kind_of}
 use Rattle.volume_base.specs.Room.{capacity_of}
-use Rattle.volume_space.proofs.StepSpent.{next_behind}
-use Rattle.volume_space.proofs.Affording.{tidied_behind}
+use Rattle.volume_space.proofs.StepSpent.{cut_behind}
+use Rattle.volume_space.proofs.CutNext.{cuts_to_behind}
 use Rattle.volume_space.proofs.SpreadFile.{has_file}
 use Rattle.volume_base.proofs.Still.{lists_still}
 use Rattle.volume_base.proofs.Freed.{frees_behind, frees_err, frees_looked, frees_wanting}
@@ -38,35 +37,34 @@ tidy_extents-requires-clause-list g c tells =
     let before = sym c.fork_extents.ensures.looked.reads.looks.same.tells ∙ tells in
     subst (λ (l : Content). IsForkOf c.in_ok-list.list (kind_of c.args.surplus.kind) c.args.file.now l) (sym (c.fork_extents.ensures.looked.reads.looks.content before)) (c.in_ok-list.ensures.found before)
 
-pub tidy_extents-requires-clause-next : goal.tidy_extents-requires-clause-next
-tidy_extents-requires-clause-next g c tells =
+pub tidy_extents-requires-clause-may : goal.tidy_extents-requires-clause-may
+tidy_extents-requires-clause-may g c tells =
     let before = sym c.fork_extents.ensures.looked.reads.looks.same.tells ∙ tells in
-    subst (λ (k : Option ℕ × Content). IsNextCut k.0 k.1 (id_in c.args.entry.now.rec) (kind_of c.args.surplus.kind) c.args.surplus.keep)
-    {x = (shrunk_of c.args.volume.now, (g.P.SectorView.space c.args.space.now).content)} {y = (shrunk_of c.fork_extents.new.volume, (g.P.SectorView.space c.fork_extents.new.space).content)} (λ i. (sym c.fork_extents.ensures.looked.reads.keeps.shrunk i, sym (c.fork_extents.ensures.looked.reads.looks.content before) i)) (c.requires.next before)
+    subst (λ (k : Content). MayCut k (id_in c.args.entry.now.rec) (kind_of c.args.surplus.kind) c.args.surplus.keep) (sym (c.fork_extents.ensures.looked.reads.looks.content before)) (c.requires.may before)
 
-pub returns-clause-tidied : goal.returns-clause-tidied
-returns-clause-tidied g c tells =
-    tidied_behind (g.P.SectorView.space c.args.space.now).content (g.P.SectorView.space c.fork_extents.new.space).content (g.P.SectorView.space c.tidy_extents.new.space).content (c.fork_extents.ensures.looked.reads.looks.content tells) (capacity_of c.args.volume.now) (capacity_of c.fork_extents.new.volume) c.fork_extents.ensures.looked.reads.keeps.capacity (shrunk_of c.args.volume.now) (shrunk_of c.fork_extents.new.volume) c.fork_extents.ensures.looked.reads.keeps.shrunk (free_of c.args.volume.now.map) (free_of c.fork_extents.new.volume.map) (ap (λ (m : BlockMap). free_of m) c.fork_extents.ensures.looked.reads.keeps.map) (g.P.SectorView.space c.args.space.now).spare (g.P.SectorView.space c.fork_extents.new.space).spare c.fork_extents.ensures.looked.reads.looks.spare c.tidy_extents.result
-    (c.tidy_extents.ensures.tidied (c.fork_extents.ensures.looked.reads.looks.same.tells ∙ tells))
+pub returns-clause-came : goal.returns-clause-came
+returns-clause-came g c tells =
+    cuts_to_behind (g.P.SectorView.space c.args.space.now).content (g.P.SectorView.space c.fork_extents.new.space).content (g.P.SectorView.space c.tidy_extents.new.space).content (c.fork_extents.ensures.looked.reads.looks.content tells) (capacity_of c.args.volume.now) (capacity_of c.fork_extents.new.volume) c.fork_extents.ensures.looked.reads.keeps.capacity (g.P.SectorView.space c.args.space.now).spare (g.P.SectorView.space c.fork_extents.new.space).spare c.fork_extents.ensures.looked.reads.looks.spare
+    (id_in c.args.entry.now.rec) (kind_of c.args.surplus.kind) c.args.surplus.keep c.tidy_extents.result (c.tidy_extents.ensures.came (c.fork_extents.ensures.looked.reads.looks.same.tells ∙ tells))
 
 -- ---- what it puts
 
 pub returns-then-is_link-clause-spent : goal.returns-then-is_link-clause-spent
-returns-then-is_link-clause-spent g c tells = inl (omega arith)
+returns-then-is_link-clause-spent g c tells = omega arith
 
 pub returns-then-is_own-clause-spent : goal.returns-then-is_own-clause-spent
-returns-then-is_own-clause-spent g c tells = inl (omega arith)
+returns-then-is_own-clause-spent g c tells = omega arith
 
 pub returns-then-not-is_user_id-clause-spent : goal.returns-then-not-is_user_id-clause-spent
-returns-then-not-is_user_id-clause-spent g c tells = inl (omega arith)
+returns-then-not-is_user_id-clause-spent g c tells = omega arith
 
 pub returns-in_err-list-clause-spent : goal.returns-in_err-list-clause-spent
-returns-in_err-list-clause-spent g c tells = inl (omega (arith, c.fork_extents.ensures.looked.reads.looks.spare))
+returns-in_err-list-clause-spent g c tells = omega (arith, c.fork_extents.ensures.looked.reads.looks.spare)
 
 pub returns-clause-spent : goal.returns-clause-spent
 returns-clause-spent g c tells =
-    next_behind (g.P.SectorView.space c.args.space.now).content (g.P.SectorView.space c.fork_extents.new.space).content (c.fork_extents.ensures.looked.reads.looks.content tells) (capacity_of c.args.volume.now) (capacity_of c.fork_extents.new.volume) c.fork_extents.ensures.looked.reads.keeps.capacity (shrunk_of c.args.volume.now) (shrunk_of c.fork_extents.new.volume) c.fork_extents.ensures.looked.reads.keeps.shrunk (g.P.SectorView.space c.args.space.now).spare (g.P.SectorView.space c.fork_extents.new.space).spare c.fork_extents.ensures.looked.reads.looks.spare (g.P.SectorView.space c.tidy_extents.new.space).spare
-    (c.tidy_extents.ensures.spent (c.fork_extents.ensures.looked.reads.looks.same.tells ∙ tells))
+    cut_behind (g.P.SectorView.space c.args.space.now).content (g.P.SectorView.space c.fork_extents.new.space).content (c.fork_extents.ensures.looked.reads.looks.content tells) (capacity_of c.args.volume.now) (capacity_of c.fork_extents.new.volume) c.fork_extents.ensures.looked.reads.keeps.capacity (g.P.SectorView.space c.args.space.now).spare (g.P.SectorView.space c.fork_extents.new.space).spare c.fork_extents.ensures.looked.reads.looks.spare
+    (g.P.SectorView.space c.tidy_extents.new.space).spare (c.tidy_extents.ensures.spent (c.fork_extents.ensures.looked.reads.looks.same.tells ∙ tells))
 
 pub returns-then-is_link-clause-frees : goal.returns-then-is_link-clause-frees
 returns-then-is_link-clause-frees g c = frees_wanting g.met.P.SectorView.follows_refl c.requires.serves.stands

@@ -1,20 +1,13 @@
-use Rattle.std.proofs.Common.{ℕ, false, true, List, inr, arith, sym, ◌∙◌, ap, subst, refl, inl, []}
-use Rattle.std.specs.Prelude.{Option}
+use Rattle.std.proofs.Common.{ℕ, false, true, List, arith, sym, ◌∙◌, ap, subst, refl, []}
 use Rattle.std.specs.List.{Contains}
-use Rattle.alloc_bitmap.specs.Map.{free_of}
 use Rattle.catalog.specs.Pairs.{value_at}
 use Rattle.hfs_volume.specs.Content.{VolumeState}
-use Rattle.hfs_volume.specs.Records.{id_in}
-use Rattle.volume_space.specs.Cutting.{IsNextCut, kind_of, CutsFile}
-use Rattle.volume_base.specs.Keeping.{shrunk_of}
-use Rattle.volume_base.specs.Room.{capacity_of}
 use Rattle.volume_base.specs.Touching.{Touches}
 use Rattle.volume_space.proofs.StepSpent.{cut_spent}
-use Rattle.volume_space.proofs.HeldUp.{rests_cut}
 use Rattle.volume_base.proofs.KeptUsed.{used_both}
 use Rattle.volume_base.proofs.KeptMarks.{own_kept, used_kept, lists_kept, settled_kept, stands_kept, unchanged_kept}
 use Rattle.volume_space.proofs.CutKept.{load_kept, may_kept}
-use Rattle.volume_space.proofs.Shorts.{short_cut, short_next}
+use Rattle.volume_space.proofs.Shorts.{short_cut}
 use Rattle.volume_base.proofs.Freed.{frees_err, frees_none}
 use Rattle.volume_space.proofs.trimming.tidy_part.Goals as goal
 
@@ -30,51 +23,38 @@ cut_fork-requires-clause-there g c tells = ap (λ (l : VolumeState). value_at l.
 pub cut_fork-requires-clause-gives : goal.cut_fork-requires-clause-gives
 cut_fork-requires-clause-gives g c = may_kept c.args.volume.now c.keep.new.self c.keep.ensures c.args.cut.now.goes c.requires.gives
 
-pub cut_fork-requires-clause-next : goal.cut_fork-requires-clause-next
-cut_fork-requires-clause-next g c tells = subst (λ (o : Option ℕ). IsNextCut o (g.P.SectorView.space c.args.space.now).content (id_in c.args.entry.now.rec) (kind_of c.args.surplus.kind) c.args.surplus.keep) (sym c.keep.ensures.same.shrunk) (c.requires.next tells)
-
 pub cut_fork-requires-clause-unchanged : goal.cut_fork-requires-clause-unchanged
 cut_fork-requires-clause-unchanged g c = unchanged_kept c.args.volume.now c.keep.new.self c.keep.ensures (g.P.SectorView.space c.args.space.now) c.requires.serves.stands.service
 
 pub cut_fork-requires-clause-room : goal.cut_fork-requires-clause-room
 cut_fork-requires-clause-room g c = omega (arith, load_kept c.args.volume.now c.keep.new.self c.keep.ensures, c.fits_cut.ensures.fits c.if-not-fits_cut.false)
 
-pub returns-clause-tidied : goal.returns-clause-tidied
-returns-clause-tidied g c tells =
-    let done = subst (λ (o : Option ℕ). CutsFile o (g.P.SectorView.space c.args.space.now).content (g.P.SectorView.space c.cut_fork.new.space).content) c.keep.ensures.same.shrunk (c.in_ok-cut_fork.ensures.cuts tells).1 in
-    inr (inr (record { cuts = done; affords = c.affords_cut.ensures.affords (g.P.SectorView.space c.args.space.now).content (c.requires.serves.settled tells) c.if-not-affords_cut.false done.step done.is_cut }))
+pub returns-clause-came : goal.returns-clause-came
+returns-clause-came g c tells = (c.affords_cut.ensures.affords (g.P.SectorView.space c.args.space.now).content (c.requires.serves.settled tells) c.if-not-affords_cut.false, (c.in_ok-cut_fork.ensures.cuts tells).1)
 
-pub returns-then-not-affords_cut-clause-tidied : goal.returns-then-not-affords_cut-clause-tidied
-returns-then-not-affords_cut-clause-tidied g c tells = (
-  refl,
-  rests_cut (capacity_of c.args.volume.now) (shrunk_of c.args.volume.now) (g.P.SectorView.space c.args.space.now).content (id_in c.args.entry.now.rec) (kind_of c.args.surplus.kind) c.args.surplus.keep (c.requires.next tells)
-      (λ step cut. c.affords_cut.ensures.held_up (g.P.SectorView.space c.args.space.now).content (c.requires.serves.settled tells) c.if-not-affords_cut.true step cut),
-)
+pub returns-then-not-affords_cut-clause-came : goal.returns-then-not-affords_cut-clause-came
+returns-then-not-affords_cut-clause-came g c tells = (refl, c.affords_cut.ensures.refused (g.P.SectorView.space c.args.space.now).content (c.requires.serves.settled tells) c.if-not-affords_cut.true)
 
-pub returns-then-not-fits_cut-clause-tidied : goal.returns-then-not-fits_cut-clause-tidied
-returns-then-not-fits_cut-clause-tidied g c tells = (
-  refl,
-  short_next (capacity_of c.args.volume.now) (shrunk_of c.args.volume.now) (free_of c.args.volume.now.map) (g.P.SectorView.space c.args.space.now).spare (g.P.SectorView.space c.args.space.now).content (id_in c.args.entry.now.rec) (kind_of c.args.surplus.kind) c.args.surplus.keep (c.requires.next tells)
-      (λ step cut. short_cut c.args.volume.now (g.P.SectorView.space c.args.space.now).content (c.requires.serves.settled tells) (g.P.SectorView.space c.args.space.now).spare (c.fits_cut.ensures.short c.if-not-fits_cut.true) step cut),
-)
+pub returns-then-not-fits_cut-clause-came : goal.returns-then-not-fits_cut-clause-came
+returns-then-not-fits_cut-clause-came g c tells = (refl, short_cut c.args.volume.now (g.P.SectorView.space c.args.space.now).content (c.requires.serves.settled tells) (g.P.SectorView.space c.args.space.now).spare (c.fits_cut.ensures.short c.if-not-fits_cut.true))
 
 -- ---- what it puts
 
 pub returns-then-not-affords_cut-clause-spent : goal.returns-then-not-affords_cut-clause-spent
-returns-then-not-affords_cut-clause-spent g c tells = inl (omega arith)
+returns-then-not-affords_cut-clause-spent g c tells = omega arith
 
 pub returns-then-not-fits_cut-clause-spent : goal.returns-then-not-fits_cut-clause-spent
-returns-then-not-fits_cut-clause-spent g c tells = inl (omega arith)
+returns-then-not-fits_cut-clause-spent g c tells = omega arith
 
 pub returns-clause-spent : goal.returns-clause-spent
 returns-clause-spent g c tells =
     cut_spent c.args.volume.now (g.P.SectorView.space c.args.space.now).content (c.requires.serves.settled tells) (g.P.SectorView.space c.args.space.now).spare (g.P.SectorView.space c.cut_fork.new.space).spare
-    (omega (arith, c.cut_fork.ensures.spent tells, load_kept c.args.volume.now c.keep.new.self c.keep.ensures)) (shrunk_of c.args.volume.now) (id_in c.args.entry.now.rec) (kind_of c.args.surplus.kind) c.args.surplus.keep (c.requires.next tells)
+    (omega (arith, c.cut_fork.ensures.spent tells, load_kept c.args.volume.now c.keep.new.self c.keep.ensures))
 
 pub returns-in_err-cut_fork-clause-spent : goal.returns-in_err-cut_fork-clause-spent
 returns-in_err-cut_fork-clause-spent g c tells =
     cut_spent c.args.volume.now (g.P.SectorView.space c.args.space.now).content (c.requires.serves.settled tells) (g.P.SectorView.space c.args.space.now).spare (g.P.SectorView.space c.cut_fork.new.space).spare
-    (omega (arith, c.cut_fork.ensures.spent tells, load_kept c.args.volume.now c.keep.new.self c.keep.ensures)) (shrunk_of c.args.volume.now) (id_in c.args.entry.now.rec) (kind_of c.args.surplus.kind) c.args.surplus.keep (c.requires.next tells)
+    (omega (arith, c.cut_fork.ensures.spent tells, load_kept c.args.volume.now c.keep.new.self c.keep.ensures))
 
 pub returns-then-not-affords_cut-clause-frees : goal.returns-then-not-affords_cut-clause-frees
 returns-then-not-affords_cut-clause-frees g c = frees_none g.met.P.SectorView.follows_refl c.requires.serves.stands

@@ -8,6 +8,7 @@ use Rattle.hfs_model.specs.Step.{is_refusal, refuses, step_line}
 use Rattle.hfs_volume.specs.Aside.{IsJournalSector}
 use Rattle.hfs_volume.specs.Content.{volume_of}
 use Rattle.hfs_volume.specs.TreeOf.{tree_of}
+use Rattle.hfs_volume.specs.Forks.{data_kind}
 use Rattle.hfs_volume.specs.Weight.{data_of, weight_with}
 use Rattle.alloc_bitmap.specs.Map.{free_of}
 use Rattle.volume_base.specs.Refusing.{facts_or}
@@ -62,13 +63,13 @@ returns-in-Ok-clause-waiting g c tells =
 pub returns-in-Ok-clause-exactly : goal.returns-in-Ok-clause-exactly
 returns-in-Ok-clause-exactly g c tells =
     subst (λ b. IfOk c.lengthen_told.result (λ said. IfNone said (b ≡ false)))
-    ((λ i. is_put_now c.facts.new.self (c.facts.ensures.looked.reads.looks.spare i) (volume_of (c.facts.ensures.looked.reads.looks.content tells i)) (data_of (tree_of (c.facts.ensures.looked.reads.looks.content tells i)) (command.Trunc c.args.path.now c.args.size))) ∙ now_alike c.args.volume.now c.facts.new.self (alike_read c.args.volume.now c.facts.new.self (g.P.SectorView.space c.args.space.now) (g.P.SectorView.space c.facts.new.space) c.facts.ensures.looked.reads) (g.P.SectorView.space c.args.space.now).spare (volume_of (g.P.SectorView.space c.args.space.now).content) (data_of (tree_of (g.P.SectorView.space c.args.space.now).content) (command.Trunc c.args.path.now c.args.size)))
+    ((λ i. is_put_now c.facts.new.self (c.facts.ensures.looked.reads.looks.spare i) (volume_of (c.facts.ensures.looked.reads.looks.content tells i)) (data_of (tree_of (c.facts.ensures.looked.reads.looks.content tells i)) (command.Trunc c.args.path.now c.args.size))) ∙ now_alike c.args.volume.now c.facts.new.self (alike_read c.args.volume.now c.facts.new.self (g.P.SectorView.space c.args.space.now) (g.P.SectorView.space c.facts.new.space) c.facts.ensures.looked.reads) data_kind (g.P.SectorView.space c.args.space.now).spare (volume_of (g.P.SectorView.space c.args.space.now).content) (data_of (tree_of (g.P.SectorView.space c.args.space.now).content) (command.Trunc c.args.path.now c.args.size)))
     (c.lengthen_told.ensures.exactly (c.facts.ensures.looked.reads.looks.same.tells ∙ tells))
 
 pub returns-in-Ok-clause-met : goal.returns-in-Ok-clause-met
 returns-in-Ok-clause-met g c tells =
     subst (λ b. IfOk c.lengthen_told.result (λ said. IfNone said (b ≡ false)))
-    ((λ i. is_data_met c.facts.new.self (c.facts.ensures.looked.reads.looks.spare i) (volume_of (c.facts.ensures.looked.reads.looks.content tells i)) (data_of (tree_of (c.facts.ensures.looked.reads.looks.content tells i)) (command.Trunc c.args.path.now c.args.size))) ∙ data_met_alike c.args.volume.now c.facts.new.self (alike_read c.args.volume.now c.facts.new.self (g.P.SectorView.space c.args.space.now) (g.P.SectorView.space c.facts.new.space) c.facts.ensures.looked.reads) c.facts.ensures.looked.reads.keeps.capacity (g.P.SectorView.space c.args.space.now).spare (volume_of (g.P.SectorView.space c.args.space.now).content) (data_of (tree_of (g.P.SectorView.space c.args.space.now).content) (command.Trunc c.args.path.now c.args.size)))
+    ((λ i. is_data_met c.facts.new.self (c.facts.ensures.looked.reads.looks.spare i) (volume_of (c.facts.ensures.looked.reads.looks.content tells i)) (data_of (tree_of (c.facts.ensures.looked.reads.looks.content tells i)) (command.Trunc c.args.path.now c.args.size))) ∙ data_met_alike data_kind c.args.volume.now c.facts.new.self (alike_read c.args.volume.now c.facts.new.self (g.P.SectorView.space c.args.space.now) (g.P.SectorView.space c.facts.new.space) c.facts.ensures.looked.reads) c.facts.ensures.looked.reads.keeps.capacity (g.P.SectorView.space c.args.space.now).spare (volume_of (g.P.SectorView.space c.args.space.now).content) (data_of (tree_of (g.P.SectorView.space c.args.space.now).content) (command.Trunc c.args.path.now c.args.size)))
     (c.lengthen_told.ensures.met (c.facts.ensures.looked.reads.looks.same.tells ∙ tells))
 
 pub returns-in-Ok-clause-loads : goal.returns-in-Ok-clause-loads

@@ -1,10 +1,11 @@
-use Rattle.std.proofs.Common.{◌≡◌, ◌⊎◌, ⊎_elim, ◌-◌, [], ◌∷◌, true, false, length, refl, sym, ◌∙◌, ap, subst, arith}
+use Rattle.std.proofs.Common.{◌≡◌, ◌⊎◌, inl, ⊎_elim, ◌-◌, [], ◌∷◌, true, false, length, refl, sym, ◌∙◌, ap, subst, arith}
 use Rattle.std.specs.Prelude.{Option, Some}
 use Rattle.std.proofs.lemmas.Bool.{true≢false}
 use Rattle.hfs_language.specs.declared.command.Command.TheVariants as command
 use Rattle.hfs_language.specs.declared.reply.Reply.TheVariants as reply
 use Rattle.hfs_model.specs.Step.{Step}
 use Rattle.hfs_volume.specs.Content.{volume_of}
+use Rattle.hfs_volume.specs.Forks.{data_kind}
 use Rattle.hfs_volume.specs.TreeOf.{tree_of}
 use Rattle.hfs_volume.specs.Weight.{Data}
 use Rattle.volume_space.specs.Writing.{PutsAt, is_data_met, is_put_now}
@@ -41,7 +42,7 @@ returns-then-put-clause-tree g c tells =
     let it = told_node (tree_of (g.P.SectorView.space c.args.space.now).content) c.args._path.now c.args.told.now (c.requires.told tells) in
     let about = trunc_told (tree_of (g.P.SectorView.space c.args.space.now).content) c.args._path.now c.args.told.now it c.args.size (sym c.in_default.is ∙ c.against_trunc.ensures) in
     let there = file_there (tree_of (g.P.SectorView.space c.args.space.now).content) c.args._path.now it.node about.0.file in
-    let does = trunc_done c.args.volume.now c.put_data.new.volume (g.P.SectorView.space c.args.space.now) (g.P.SectorView.space c.put_data.new.space).content c.requires.stands tells (c.requires.settled tells) it.node there.0 there.1 (c.args.size - 1) (0 ∷ []) (subst (λ id. PutsAt id (c.args.size - 1) (0 ∷ []) c.args.volume.now c.put_data.new.volume (g.P.SectorView.space c.args.space.now).content (g.P.SectorView.space c.put_data.new.space).content) (sym about.0.id) (c.in_ok-put.ensures.puts tells c.if-put.true)) c.args.size refl refl (omega (arith, about.0.size, (c.is_no_longer.ensures.long c.if-is_no_longer.false))) c.trunc_does_its_step.ensures c.args._path.now about.1 in
+    let does = trunc_done c.args.volume.now c.put_data.new.volume (g.P.SectorView.space c.args.space.now) (g.P.SectorView.space c.put_data.new.space).content c.requires.stands tells (c.requires.settled tells) it.node there.0 there.1 (c.args.size - 1) (0 ∷ []) (subst (λ id. PutsAt data_kind id (c.args.size - 1) (0 ∷ []) c.args.volume.now c.put_data.new.volume (g.P.SectorView.space c.args.space.now).content (g.P.SectorView.space c.put_data.new.space).content) (sym about.0.id) (c.in_ok-put.ensures.puts tells c.if-put.true)) c.args.size refl refl (omega (arith, about.0.size, (c.is_no_longer.ensures.long c.if-is_no_longer.false))) c.trunc_does_its_step.ensures c.args._path.now about.1 in
     does.1 ∙ trunc_tree (tree_of (g.P.SectorView.space c.args.space.now).content) c.args._path.now c.args.told.now it.node about.0 c.args.size
 
 pub returns-then-put-clause-settled : goal.returns-then-put-clause-settled
@@ -49,7 +50,7 @@ returns-then-put-clause-settled g c tells =
     let it = told_node (tree_of (g.P.SectorView.space c.args.space.now).content) c.args._path.now c.args.told.now (c.requires.told tells) in
     let about = trunc_told (tree_of (g.P.SectorView.space c.args.space.now).content) c.args._path.now c.args.told.now it c.args.size (sym c.in_default.is ∙ c.against_trunc.ensures) in
     let there = file_there (tree_of (g.P.SectorView.space c.args.space.now).content) c.args._path.now it.node about.0.file in
-    let does = trunc_done c.args.volume.now c.put_data.new.volume (g.P.SectorView.space c.args.space.now) (g.P.SectorView.space c.put_data.new.space).content c.requires.stands tells (c.requires.settled tells) it.node there.0 there.1 (c.args.size - 1) (0 ∷ []) (subst (λ id. PutsAt id (c.args.size - 1) (0 ∷ []) c.args.volume.now c.put_data.new.volume (g.P.SectorView.space c.args.space.now).content (g.P.SectorView.space c.put_data.new.space).content) (sym about.0.id) (c.in_ok-put.ensures.puts tells c.if-put.true)) c.args.size refl refl (omega (arith, about.0.size, (c.is_no_longer.ensures.long c.if-is_no_longer.false))) c.trunc_does_its_step.ensures c.args._path.now about.1 in
+    let does = trunc_done c.args.volume.now c.put_data.new.volume (g.P.SectorView.space c.args.space.now) (g.P.SectorView.space c.put_data.new.space).content c.requires.stands tells (c.requires.settled tells) it.node there.0 there.1 (c.args.size - 1) (0 ∷ []) (subst (λ id. PutsAt data_kind id (c.args.size - 1) (0 ∷ []) c.args.volume.now c.put_data.new.volume (g.P.SectorView.space c.args.space.now).content (g.P.SectorView.space c.put_data.new.space).content) (sym about.0.id) (c.in_ok-put.ensures.puts tells c.if-put.true)) c.args.size refl refl (omega (arith, about.0.size, (c.is_no_longer.ensures.long c.if-is_no_longer.false))) c.trunc_does_its_step.ensures c.args._path.now about.1 in
     does.0
 
 pub returns-then-put-clause-refused : goal.returns-then-put-clause-refused
@@ -60,7 +61,7 @@ returns-then-put-clause-lists g c tells said =
     let it = told_node (tree_of (g.P.SectorView.space c.args.space.now).content) c.args._path.now c.args.told.now (c.requires.told tells) in
     let about = trunc_told (tree_of (g.P.SectorView.space c.args.space.now).content) c.args._path.now c.args.told.now it c.args.size (sym c.in_default.is ∙ c.against_trunc.ensures) in
     let there = file_there (tree_of (g.P.SectorView.space c.args.space.now).content) c.args._path.now it.node about.0.file in
-    data_done c.args.volume.now c.put_data.new.volume (g.P.SectorView.space c.args.space.now) (g.P.SectorView.space c.put_data.new.space).content c.requires.stands tells (c.requires.settled tells) it.node there.0 there.1 (c.args.size - 1) (0 ∷ []) (subst (λ id. PutsAt id (c.args.size - 1) (0 ∷ []) c.args.volume.now c.put_data.new.volume (g.P.SectorView.space c.args.space.now).content (g.P.SectorView.space c.put_data.new.space).content) (sym about.0.id) (c.in_ok-put.ensures.puts tells c.if-put.true)) (put_by_trunc (tree_of (g.P.SectorView.space c.args.space.now).content) c.args._path.now c.args.told.now it.node about.0 c.args.size (c.is_no_longer.ensures.long c.if-is_no_longer.false)) ((trunc_id (tree_of (g.P.SectorView.space c.args.space.now).content) c.args._path.now c.args.told.now it.node about.0 c.args.size (c.is_no_longer.ensures.long c.if-is_no_longer.false)) ∙ sym about.0.id) (trunc_at (tree_of (g.P.SectorView.space c.args.space.now).content) c.args._path.now c.args.told.now it.node about.0 c.args.size (c.is_no_longer.ensures.long c.if-is_no_longer.false)) (c.in_ok-put.ensures.no_cut tells it.node there.0 about.0.id there.1 (put_by_trunc (tree_of (g.P.SectorView.space c.args.space.now).content) c.args._path.now c.args.told.now it.node about.0 c.args.size (c.is_no_longer.ensures.long c.if-is_no_longer.false)) (trunc_id (tree_of (g.P.SectorView.space c.args.space.now).content) c.args._path.now c.args.told.now it.node about.0 c.args.size (c.is_no_longer.ensures.long c.if-is_no_longer.false)) (trunc_at (tree_of (g.P.SectorView.space c.args.space.now).content) c.args._path.now c.args.told.now it.node about.0 c.args.size (c.is_no_longer.ensures.long c.if-is_no_longer.false)) c.if-put.true) c.rewrite_puts_its_blocks_alone.ensures (command.Trunc c.args._path.now c.args.size) (trunc_data (tree_of (g.P.SectorView.space c.args.space.now).content) c.args._path.now c.args.told.now it.node about.0 c.args.size (c.is_no_longer.ensures.long c.if-is_no_longer.false))
+    data_done c.args.volume.now c.put_data.new.volume (g.P.SectorView.space c.args.space.now) (g.P.SectorView.space c.put_data.new.space).content c.requires.stands tells (c.requires.settled tells) it.node there.0 there.1 (c.args.size - 1) (0 ∷ []) (subst (λ id. PutsAt data_kind id (c.args.size - 1) (0 ∷ []) c.args.volume.now c.put_data.new.volume (g.P.SectorView.space c.args.space.now).content (g.P.SectorView.space c.put_data.new.space).content) (sym about.0.id) (c.in_ok-put.ensures.puts tells c.if-put.true)) (put_by_trunc (tree_of (g.P.SectorView.space c.args.space.now).content) c.args._path.now c.args.told.now it.node about.0 c.args.size (c.is_no_longer.ensures.long c.if-is_no_longer.false)) ((trunc_id (tree_of (g.P.SectorView.space c.args.space.now).content) c.args._path.now c.args.told.now it.node about.0 c.args.size (c.is_no_longer.ensures.long c.if-is_no_longer.false)) ∙ sym about.0.id) (trunc_at (tree_of (g.P.SectorView.space c.args.space.now).content) c.args._path.now c.args.told.now it.node about.0 c.args.size (c.is_no_longer.ensures.long c.if-is_no_longer.false)) (c.in_ok-put.ensures.no_cut tells it.node there.0 about.0.id there.1 (put_by_trunc (tree_of (g.P.SectorView.space c.args.space.now).content) c.args._path.now c.args.told.now it.node about.0 c.args.size (c.is_no_longer.ensures.long c.if-is_no_longer.false)) (trunc_id (tree_of (g.P.SectorView.space c.args.space.now).content) c.args._path.now c.args.told.now it.node about.0 c.args.size (c.is_no_longer.ensures.long c.if-is_no_longer.false)) (trunc_at (tree_of (g.P.SectorView.space c.args.space.now).content) c.args._path.now c.args.told.now it.node about.0 c.args.size (c.is_no_longer.ensures.long c.if-is_no_longer.false)) c.if-put.true) c.rewrite_puts_its_blocks_alone.ensures (command.Trunc c.args._path.now c.args.size) (trunc_data (tree_of (g.P.SectorView.space c.args.space.now).content) c.args._path.now c.args.told.now it.node about.0 c.args.size (c.is_no_longer.ensures.long c.if-is_no_longer.false))
 
 pub returns-clause-waits : goal.returns-clause-waits
 returns-clause-waits g c tells = (c.in_ok-put.ensures.waits tells c.if-put.false).1
@@ -103,7 +104,7 @@ returns-then-put-clause-loads g c tells n grow is =
     (λ some_put. omega (
       arith,
       some_put.1,
-      trunc_loaded v a.content (c.requires.settled tells) v.capacity tree c.args._path.now put some_put.0 (records_are v a c.requires.stands tells (c.requires.settled tells) it.node there.0 there.1 put (c.args.size - 1) 1 (trunc_id tree c.args._path.now c.args.told.now it.node about.0 c.args.size (c.is_no_longer.ensures.long c.if-is_no_longer.false) ∙ sym about.0.id) at) (some_data v put (length it.node.bytes) (c.args.size - 1) 1 at (omega (arith, c.requires.stands.service.least)) (omega arith)) n grow c.args.size has is,
+      trunc_loaded v a.content (c.requires.settled tells) v.capacity tree c.args._path.now put some_put.0 (records_are data_kind (inl refl) v a c.requires.stands tells (c.requires.settled tells) it.node there.0 there.1 put (c.args.size - 1) 1 (trunc_id tree c.args._path.now c.args.told.now it.node about.0 c.args.size (c.is_no_longer.ensures.long c.if-is_no_longer.false) ∙ sym about.0.id) at) (some_data v put (length it.node.bytes) (c.args.size - 1) 1 at (omega (arith, c.requires.stands.service.least)) (omega arith)) n grow c.args.size has is,
     ))
     (c.put_data.ensures.spent tells it.node there.0 about.0.id there.1 put (trunc_id tree c.args._path.now c.args.told.now it.node about.0 c.args.size (c.is_no_longer.ensures.long c.if-is_no_longer.false)) at)
 
@@ -125,7 +126,7 @@ returns-clause-loads g c tells n grow is =
     (λ some_put. omega (
       arith,
       some_put.1,
-      trunc_loaded v a.content (c.requires.settled tells) v.capacity tree c.args._path.now put some_put.0 (records_are v a c.requires.stands tells (c.requires.settled tells) it.node there.0 there.1 put (c.args.size - 1) 1 (trunc_id tree c.args._path.now c.args.told.now it.node about.0 c.args.size (c.is_no_longer.ensures.long c.if-is_no_longer.false) ∙ sym about.0.id) at) (some_data v put (length it.node.bytes) (c.args.size - 1) 1 at (omega (arith, c.requires.stands.service.least)) (omega arith)) n grow c.args.size has is,
+      trunc_loaded v a.content (c.requires.settled tells) v.capacity tree c.args._path.now put some_put.0 (records_are data_kind (inl refl) v a c.requires.stands tells (c.requires.settled tells) it.node there.0 there.1 put (c.args.size - 1) 1 (trunc_id tree c.args._path.now c.args.told.now it.node about.0 c.args.size (c.is_no_longer.ensures.long c.if-is_no_longer.false) ∙ sym about.0.id) at) (some_data v put (length it.node.bytes) (c.args.size - 1) 1 at (omega (arith, c.requires.stands.service.least)) (omega arith)) n grow c.args.size has is,
     ))
     (c.put_data.ensures.spent tells it.node there.0 about.0.id there.1 put (trunc_id tree c.args._path.now c.args.told.now it.node about.0 c.args.size (c.is_no_longer.ensures.long c.if-is_no_longer.false)) at)
 
@@ -147,7 +148,7 @@ returns-in_err-put-clause-loads g c tells n grow is =
     (λ some_put. omega (
       arith,
       some_put.1,
-      trunc_loaded v a.content (c.requires.settled tells) v.capacity tree c.args._path.now put some_put.0 (records_are v a c.requires.stands tells (c.requires.settled tells) it.node there.0 there.1 put (c.args.size - 1) 1 (trunc_id tree c.args._path.now c.args.told.now it.node about.0 c.args.size (c.is_no_longer.ensures.long c.if-is_no_longer.false) ∙ sym about.0.id) at) (some_data v put (length it.node.bytes) (c.args.size - 1) 1 at (omega (arith, c.requires.stands.service.least)) (omega arith)) n grow c.args.size has is,
+      trunc_loaded v a.content (c.requires.settled tells) v.capacity tree c.args._path.now put some_put.0 (records_are data_kind (inl refl) v a c.requires.stands tells (c.requires.settled tells) it.node there.0 there.1 put (c.args.size - 1) 1 (trunc_id tree c.args._path.now c.args.told.now it.node about.0 c.args.size (c.is_no_longer.ensures.long c.if-is_no_longer.false) ∙ sym about.0.id) at) (some_data v put (length it.node.bytes) (c.args.size - 1) 1 at (omega (arith, c.requires.stands.service.least)) (omega arith)) n grow c.args.size has is,
     ))
     (c.put_data.ensures.spent tells it.node there.0 about.0.id there.1 put (trunc_id tree c.args._path.now c.args.told.now it.node about.0 c.args.size (c.is_no_longer.ensures.long c.if-is_no_longer.false)) at)
 

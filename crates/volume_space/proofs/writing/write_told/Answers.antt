@@ -1,10 +1,11 @@
-use Rattle.std.proofs.Common.{◌≡◌, ◌⊎◌, ⊎_elim, ◌-◌, true, false, length, refl, sym, ◌∙◌, ap, subst, arith}
+use Rattle.std.proofs.Common.{◌≡◌, ◌⊎◌, inl, ⊎_elim, ◌-◌, true, false, length, refl, sym, ◌∙◌, ap, subst, arith}
 use Rattle.std.specs.Prelude.{Option, Some}
 use Rattle.std.proofs.lemmas.Bool.{true≢false}
 use Rattle.hfs_language.specs.declared.command.Command.TheVariants as command
 use Rattle.hfs_language.specs.declared.reply.Reply.TheVariants as reply
 use Rattle.hfs_model.specs.Step.{Step}
 use Rattle.hfs_volume.specs.Content.{volume_of}
+use Rattle.hfs_volume.specs.Forks.{data_kind}
 use Rattle.hfs_volume.specs.TreeOf.{tree_of}
 use Rattle.hfs_volume.specs.Weight.{Data}
 use Rattle.volume_space.specs.Writing.{PutsAt, is_data_met, is_put_now}
@@ -40,7 +41,7 @@ returns-then-put-clause-tree g c tells =
     let it = told_node (tree_of (g.P.SectorView.space c.args.space.now).content) c.args._path.now c.args.told.now (c.requires.told tells) in
     let about = write_told (tree_of (g.P.SectorView.space c.args.space.now).content) c.args._path.now c.args.told.now it c.args.from c.args.value.now (sym c.in_default.is ∙ c.against_write.ensures) in
     let there = file_there (tree_of (g.P.SectorView.space c.args.space.now).content) c.args._path.now it.node about.0.file in
-    let does = write_done c.args.volume.now c.put_data.new.volume (g.P.SectorView.space c.args.space.now) (g.P.SectorView.space c.put_data.new.space).content c.requires.stands tells (c.requires.settled tells) it.node there.0 there.1 c.args.from c.args.value.now (subst (λ id. PutsAt id c.args.from c.args.value.now c.args.volume.now c.put_data.new.volume (g.P.SectorView.space c.args.space.now).content (g.P.SectorView.space c.put_data.new.space).content) (sym about.0.id) (c.in_ok-put.ensures.puts tells c.if-put.true)) c.write_does_its_step.ensures c.args._path.now (c.is_nothing.ensures.some c.if-is_nothing.false) about.1 in
+    let does = write_done c.args.volume.now c.put_data.new.volume (g.P.SectorView.space c.args.space.now) (g.P.SectorView.space c.put_data.new.space).content c.requires.stands tells (c.requires.settled tells) it.node there.0 there.1 c.args.from c.args.value.now (subst (λ id. PutsAt data_kind id c.args.from c.args.value.now c.args.volume.now c.put_data.new.volume (g.P.SectorView.space c.args.space.now).content (g.P.SectorView.space c.put_data.new.space).content) (sym about.0.id) (c.in_ok-put.ensures.puts tells c.if-put.true)) c.write_does_its_step.ensures c.args._path.now (c.is_nothing.ensures.some c.if-is_nothing.false) about.1 in
     does.1 ∙ write_tree (tree_of (g.P.SectorView.space c.args.space.now).content) c.args._path.now c.args.told.now it.node about.0 c.args.from c.args.value.now
 
 pub returns-then-put-clause-settled : goal.returns-then-put-clause-settled
@@ -48,7 +49,7 @@ returns-then-put-clause-settled g c tells =
     let it = told_node (tree_of (g.P.SectorView.space c.args.space.now).content) c.args._path.now c.args.told.now (c.requires.told tells) in
     let about = write_told (tree_of (g.P.SectorView.space c.args.space.now).content) c.args._path.now c.args.told.now it c.args.from c.args.value.now (sym c.in_default.is ∙ c.against_write.ensures) in
     let there = file_there (tree_of (g.P.SectorView.space c.args.space.now).content) c.args._path.now it.node about.0.file in
-    let does = write_done c.args.volume.now c.put_data.new.volume (g.P.SectorView.space c.args.space.now) (g.P.SectorView.space c.put_data.new.space).content c.requires.stands tells (c.requires.settled tells) it.node there.0 there.1 c.args.from c.args.value.now (subst (λ id. PutsAt id c.args.from c.args.value.now c.args.volume.now c.put_data.new.volume (g.P.SectorView.space c.args.space.now).content (g.P.SectorView.space c.put_data.new.space).content) (sym about.0.id) (c.in_ok-put.ensures.puts tells c.if-put.true)) c.write_does_its_step.ensures c.args._path.now (c.is_nothing.ensures.some c.if-is_nothing.false) about.1 in
+    let does = write_done c.args.volume.now c.put_data.new.volume (g.P.SectorView.space c.args.space.now) (g.P.SectorView.space c.put_data.new.space).content c.requires.stands tells (c.requires.settled tells) it.node there.0 there.1 c.args.from c.args.value.now (subst (λ id. PutsAt data_kind id c.args.from c.args.value.now c.args.volume.now c.put_data.new.volume (g.P.SectorView.space c.args.space.now).content (g.P.SectorView.space c.put_data.new.space).content) (sym about.0.id) (c.in_ok-put.ensures.puts tells c.if-put.true)) c.write_does_its_step.ensures c.args._path.now (c.is_nothing.ensures.some c.if-is_nothing.false) about.1 in
     does.0
 
 pub returns-then-put-clause-refused : goal.returns-then-put-clause-refused
@@ -59,7 +60,7 @@ returns-then-put-clause-lists g c tells said =
     let it = told_node (tree_of (g.P.SectorView.space c.args.space.now).content) c.args._path.now c.args.told.now (c.requires.told tells) in
     let about = write_told (tree_of (g.P.SectorView.space c.args.space.now).content) c.args._path.now c.args.told.now it c.args.from c.args.value.now (sym c.in_default.is ∙ c.against_write.ensures) in
     let there = file_there (tree_of (g.P.SectorView.space c.args.space.now).content) c.args._path.now it.node about.0.file in
-    data_done c.args.volume.now c.put_data.new.volume (g.P.SectorView.space c.args.space.now) (g.P.SectorView.space c.put_data.new.space).content c.requires.stands tells (c.requires.settled tells) it.node there.0 there.1 c.args.from c.args.value.now (subst (λ id. PutsAt id c.args.from c.args.value.now c.args.volume.now c.put_data.new.volume (g.P.SectorView.space c.args.space.now).content (g.P.SectorView.space c.put_data.new.space).content) (sym about.0.id) (c.in_ok-put.ensures.puts tells c.if-put.true)) (put_by_write (tree_of (g.P.SectorView.space c.args.space.now).content) c.args._path.now c.args.told.now it.node about.0 c.args.from c.args.value.now) ((write_id (tree_of (g.P.SectorView.space c.args.space.now).content) c.args._path.now c.args.told.now it.node about.0 c.args.from c.args.value.now) ∙ sym about.0.id) (write_at (tree_of (g.P.SectorView.space c.args.space.now).content) c.args._path.now c.args.told.now it.node about.0 c.args.from c.args.value.now (c.is_nothing.ensures.some c.if-is_nothing.false)) (c.in_ok-put.ensures.no_cut tells it.node there.0 about.0.id there.1 (put_by_write (tree_of (g.P.SectorView.space c.args.space.now).content) c.args._path.now c.args.told.now it.node about.0 c.args.from c.args.value.now) (write_id (tree_of (g.P.SectorView.space c.args.space.now).content) c.args._path.now c.args.told.now it.node about.0 c.args.from c.args.value.now) (write_at (tree_of (g.P.SectorView.space c.args.space.now).content) c.args._path.now c.args.told.now it.node about.0 c.args.from c.args.value.now (c.is_nothing.ensures.some c.if-is_nothing.false)) c.if-put.true) c.rewrite_puts_its_blocks_alone.ensures (command.Write c.args._path.now c.args.from c.args.value.now) (write_data (tree_of (g.P.SectorView.space c.args.space.now).content) c.args._path.now c.args.told.now it.node about.0 c.args.from c.args.value.now (c.is_nothing.ensures.some c.if-is_nothing.false))
+    data_done c.args.volume.now c.put_data.new.volume (g.P.SectorView.space c.args.space.now) (g.P.SectorView.space c.put_data.new.space).content c.requires.stands tells (c.requires.settled tells) it.node there.0 there.1 c.args.from c.args.value.now (subst (λ id. PutsAt data_kind id c.args.from c.args.value.now c.args.volume.now c.put_data.new.volume (g.P.SectorView.space c.args.space.now).content (g.P.SectorView.space c.put_data.new.space).content) (sym about.0.id) (c.in_ok-put.ensures.puts tells c.if-put.true)) (put_by_write (tree_of (g.P.SectorView.space c.args.space.now).content) c.args._path.now c.args.told.now it.node about.0 c.args.from c.args.value.now) ((write_id (tree_of (g.P.SectorView.space c.args.space.now).content) c.args._path.now c.args.told.now it.node about.0 c.args.from c.args.value.now) ∙ sym about.0.id) (write_at (tree_of (g.P.SectorView.space c.args.space.now).content) c.args._path.now c.args.told.now it.node about.0 c.args.from c.args.value.now (c.is_nothing.ensures.some c.if-is_nothing.false)) (c.in_ok-put.ensures.no_cut tells it.node there.0 about.0.id there.1 (put_by_write (tree_of (g.P.SectorView.space c.args.space.now).content) c.args._path.now c.args.told.now it.node about.0 c.args.from c.args.value.now) (write_id (tree_of (g.P.SectorView.space c.args.space.now).content) c.args._path.now c.args.told.now it.node about.0 c.args.from c.args.value.now) (write_at (tree_of (g.P.SectorView.space c.args.space.now).content) c.args._path.now c.args.told.now it.node about.0 c.args.from c.args.value.now (c.is_nothing.ensures.some c.if-is_nothing.false)) c.if-put.true) c.rewrite_puts_its_blocks_alone.ensures (command.Write c.args._path.now c.args.from c.args.value.now) (write_data (tree_of (g.P.SectorView.space c.args.space.now).content) c.args._path.now c.args.told.now it.node about.0 c.args.from c.args.value.now (c.is_nothing.ensures.some c.if-is_nothing.false))
 
 pub returns-clause-waits : goal.returns-clause-waits
 returns-clause-waits g c tells = (c.in_ok-put.ensures.waits tells c.if-put.false).1
@@ -102,7 +103,7 @@ returns-then-put-clause-loads g c tells n grow is =
     (λ some_put. omega (
       arith,
       some_put.1,
-      write_loaded v a.content (c.requires.settled tells) v.capacity tree c.args._path.now put some_put.0 (records_are v a c.requires.stands tells (c.requires.settled tells) it.node there.0 there.1 put c.args.from (length c.args.value.now) (write_id tree c.args._path.now c.args.told.now it.node about.0 c.args.from c.args.value.now ∙ sym about.0.id) at) (some_data v put (length it.node.bytes) c.args.from (length c.args.value.now) at (omega (arith, c.requires.stands.service.least)) (c.is_nothing.ensures.some c.if-is_nothing.false)) n grow c.args.from c.args.value.now has is,
+      write_loaded v a.content (c.requires.settled tells) v.capacity tree c.args._path.now put some_put.0 (records_are data_kind (inl refl) v a c.requires.stands tells (c.requires.settled tells) it.node there.0 there.1 put c.args.from (length c.args.value.now) (write_id tree c.args._path.now c.args.told.now it.node about.0 c.args.from c.args.value.now ∙ sym about.0.id) at) (some_data v put (length it.node.bytes) c.args.from (length c.args.value.now) at (omega (arith, c.requires.stands.service.least)) (c.is_nothing.ensures.some c.if-is_nothing.false)) n grow c.args.from c.args.value.now has is,
     ))
     (c.put_data.ensures.spent tells it.node there.0 about.0.id there.1 put (write_id tree c.args._path.now c.args.told.now it.node about.0 c.args.from c.args.value.now) at)
 
@@ -124,7 +125,7 @@ returns-clause-loads g c tells n grow is =
     (λ some_put. omega (
       arith,
       some_put.1,
-      write_loaded v a.content (c.requires.settled tells) v.capacity tree c.args._path.now put some_put.0 (records_are v a c.requires.stands tells (c.requires.settled tells) it.node there.0 there.1 put c.args.from (length c.args.value.now) (write_id tree c.args._path.now c.args.told.now it.node about.0 c.args.from c.args.value.now ∙ sym about.0.id) at) (some_data v put (length it.node.bytes) c.args.from (length c.args.value.now) at (omega (arith, c.requires.stands.service.least)) (c.is_nothing.ensures.some c.if-is_nothing.false)) n grow c.args.from c.args.value.now has is,
+      write_loaded v a.content (c.requires.settled tells) v.capacity tree c.args._path.now put some_put.0 (records_are data_kind (inl refl) v a c.requires.stands tells (c.requires.settled tells) it.node there.0 there.1 put c.args.from (length c.args.value.now) (write_id tree c.args._path.now c.args.told.now it.node about.0 c.args.from c.args.value.now ∙ sym about.0.id) at) (some_data v put (length it.node.bytes) c.args.from (length c.args.value.now) at (omega (arith, c.requires.stands.service.least)) (c.is_nothing.ensures.some c.if-is_nothing.false)) n grow c.args.from c.args.value.now has is,
     ))
     (c.put_data.ensures.spent tells it.node there.0 about.0.id there.1 put (write_id tree c.args._path.now c.args.told.now it.node about.0 c.args.from c.args.value.now) at)
 
@@ -146,7 +147,7 @@ returns-in_err-put-clause-loads g c tells n grow is =
     (λ some_put. omega (
       arith,
       some_put.1,
-      write_loaded v a.content (c.requires.settled tells) v.capacity tree c.args._path.now put some_put.0 (records_are v a c.requires.stands tells (c.requires.settled tells) it.node there.0 there.1 put c.args.from (length c.args.value.now) (write_id tree c.args._path.now c.args.told.now it.node about.0 c.args.from c.args.value.now ∙ sym about.0.id) at) (some_data v put (length it.node.bytes) c.args.from (length c.args.value.now) at (omega (arith, c.requires.stands.service.least)) (c.is_nothing.ensures.some c.if-is_nothing.false)) n grow c.args.from c.args.value.now has is,
+      write_loaded v a.content (c.requires.settled tells) v.capacity tree c.args._path.now put some_put.0 (records_are data_kind (inl refl) v a c.requires.stands tells (c.requires.settled tells) it.node there.0 there.1 put c.args.from (length c.args.value.now) (write_id tree c.args._path.now c.args.told.now it.node about.0 c.args.from c.args.value.now ∙ sym about.0.id) at) (some_data v put (length it.node.bytes) c.args.from (length c.args.value.now) at (omega (arith, c.requires.stands.service.least)) (c.is_nothing.ensures.some c.if-is_nothing.false)) n grow c.args.from c.args.value.now has is,
     ))
     (c.put_data.ensures.spent tells it.node there.0 about.0.id there.1 put (write_id tree c.args._path.now c.args.told.now it.node about.0 c.args.from c.args.value.now) at)
 

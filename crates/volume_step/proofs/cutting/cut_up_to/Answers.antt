@@ -17,7 +17,7 @@ returns-clause-answered g c tells =
     let b = g.P.SectorView.space c.cut_for.new.space in
     let later = (c.cut_for.ensures.frees.ran.touches []).same.tells ∙ tells in
     subst (λ (o : Outcome). StepsTo o (capacity_of c.args.volume.now) c.args._number c.args.command.now a.content b.content) (sym c.outcome_of.ensures)
-    (steps_by (capacity_of c.args.volume.now) c.args._number c.args.command.now a.content b.content (c.requires.waits tells) c.soundness_has_two_halves.ensures c.requires.changes (sound_here c.args.volume.now a (c.requires.stands.stands tells) (c.requires.settled tells)) c.args.end c.requires.end c.in_ok-came.came
+    (steps_by (capacity_of c.args.volume.now) c.args._number c.args.command.now a.content b.content (c.requires.waits tells) c.requires.changes (sound_here c.args.volume.now a (c.requires.stands.stands tells) (c.requires.settled tells)) c.args.end c.requires.end c.in_ok-came.came
     (sound_here c.cut_for.new.volume b (c.in_ok-came.ensures.serves.stands.stands later) (c.in_ok-came.ensures.serves.settled later)) (c.in_ok-came.ensures.came tells))
 
 pub returns-clause-place : goal.returns-clause-place
@@ -25,7 +25,7 @@ returns-clause-place g c tells =
     let a = (g.P.SectorView.space c.args.space.now) in
     let b = g.P.SectorView.space c.cut_for.new.space in
     let later = (c.cut_for.ensures.frees.ran.touches []).same.tells ∙ tells in
-    place_by (capacity_of c.args.volume.now) c.args._number c.args.command.now a.content b.content (c.requires.waits tells) c.soundness_has_two_halves.ensures c.requires.changes (sound_here c.args.volume.now a (c.requires.stands.stands tells) (c.requires.settled tells)) c.args.end c.requires.end c.in_ok-came.came
+    place_by (capacity_of c.args.volume.now) c.args._number c.args.command.now a.content b.content (c.requires.waits tells) c.requires.changes (sound_here c.args.volume.now a (c.requires.stands.stands tells) (c.requires.settled tells)) c.args.end c.requires.end c.in_ok-came.came
     (sound_here c.cut_for.new.volume b (c.in_ok-came.ensures.serves.stands.stands later) (c.in_ok-came.ensures.serves.settled later)) (c.in_ok-came.ensures.came tells)
 
 pub returns-clause-shrunk : goal.returns-clause-shrunk

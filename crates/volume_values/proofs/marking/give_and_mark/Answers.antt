@@ -1,4 +1,4 @@
-use Rattle.std.proofs.Common.{◌≡◌, ◌≤◌, ◌+◌, ℕ, List, sym, ◌∙◌, ap, subst, arith}
+use Rattle.std.proofs.Common.{◌≡◌, ℕ, List, sym, ◌∙◌, ap, subst, arith}
 use Rattle.std.specs.Prelude.{⊤, Some}
 use Rattle.btree_node.specs.Levels.{Pair}
 use Rattle.catalog.specs.Pairs.{value_at}
@@ -14,26 +14,21 @@ use Rattle.volume_base.proofs.Running.{ran_short, ran_then, ran_traded}
 use Rattle.volume_values.proofs.GivenTraded.{moment_traded, pairs_traded}
 use Rattle.volume_values.proofs.marking.give_and_mark.Goals as goal
 
-pub put_mark-requires-clause-stands : goal.put_mark-requires-clause-stands
-put_mark-requires-clause-stands g c = c.in_ok-trade_blocks.ensures.stands
-
-pub put_mark-requires-clause-spelled : goal.put_mark-requires-clause-spelled
-put_mark-requires-clause-spelled g c told =
-    let tells = sym c.in_ok-trade_blocks.ensures.within.same.tells ∙ told in
-    subst (λ (l : List Pair). AreSpelled l)
-    (sym (pairs_traded (takes_some c.args.touched) c.args.old.now c.args.volume.now c.trade_blocks.new.self (g.P.SectorView.space c.args.space.now).content (g.P.SectorView.space c.trade_blocks.new.space).content (c.in_ok-trade_blocks.ensures.trades tells) (c.in_ok-trade_blocks.ensures.put tells)))
-    (c.requires.spelled tells)
-
-pub put_mark-requires-clause-there : goal.put_mark-requires-clause-there
-put_mark-requires-clause-there g c told =
-    let tells = sym c.in_ok-trade_blocks.ensures.within.same.tells ∙ told in
-    subst (λ (l : List Pair). value_at l c.args.entry.now.parent c.args.entry.now.name ≡ Some c.args.entry.now.rec)
-    (sym (pairs_traded (takes_some c.args.touched) c.args.old.now c.args.volume.now c.trade_blocks.new.self (g.P.SectorView.space c.args.space.now).content (g.P.SectorView.space c.trade_blocks.new.space).content (c.in_ok-trade_blocks.ensures.trades tells) (c.in_ok-trade_blocks.ensures.put tells)))
-    (c.requires.there tells)
-
-pub put_mark-requires-clause-room : goal.put_mark-requires-clause-room
-put_mark-requires-clause-room g c = record {
-  told = λ told. omega (arith, c.requires.room (sym c.in_ok-trade_blocks.ensures.within.same.tells ∙ told), c.in_ok-trade_blocks.ensures.spent, ap (λ (x : Volume). catalog_node x) c.in_ok-trade_blocks.ensures.rest);
+pub put_mark-requires-clause-ready : goal.put_mark-requires-clause-ready
+put_mark-requires-clause-ready g c = record {
+  stands = c.in_ok-trade_blocks.ensures.stands;
+  spelled = λ told.
+      let tells = sym c.in_ok-trade_blocks.ensures.within.same.tells ∙ told in
+      subst (λ (l : List Pair). AreSpelled l)
+      (sym (pairs_traded (takes_some c.args.touched) c.args.old.now c.args.volume.now c.trade_blocks.new.self (g.P.SectorView.space c.args.space.now).content (g.P.SectorView.space c.trade_blocks.new.space).content (c.in_ok-trade_blocks.ensures.trades tells) (c.in_ok-trade_blocks.ensures.put tells)))
+      (c.requires.spelled tells);
+  name = c.requires.name;
+  there = λ told.
+      let tells = sym c.in_ok-trade_blocks.ensures.within.same.tells ∙ told in
+      subst (λ (l : List Pair). value_at l c.args.entry.now.parent c.args.entry.now.name ≡ Some c.args.entry.now.rec)
+      (sym (pairs_traded (takes_some c.args.touched) c.args.old.now c.args.volume.now c.trade_blocks.new.self (g.P.SectorView.space c.args.space.now).content (g.P.SectorView.space c.trade_blocks.new.space).content (c.in_ok-trade_blocks.ensures.trades tells) (c.in_ok-trade_blocks.ensures.put tells)))
+      (c.requires.there tells);
+  room = record { told = λ told. omega (arith, c.requires.room (sym c.in_ok-trade_blocks.ensures.within.same.tells ∙ told), c.in_ok-trade_blocks.ensures.spent, ap (λ (x : Volume). catalog_node x) c.in_ok-trade_blocks.ensures.rest) };
 }
 
 pub returns-clause-gives : goal.returns-clause-gives

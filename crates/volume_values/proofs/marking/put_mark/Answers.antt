@@ -29,4 +29,4 @@ pub returns-in_default-clause-marks : goal.returns-in_default-clause-marks
 returns-in_default-clause-marks g c tells kind = absurd (mark_some c.args.has c.args.volume.now.header.modify_date c.args.entry.now.rec kind (sym c.with_mark.ensures.same ∙ c.in_default.is))
 
 pub returns-in_default-clause-edits : goal.returns-in_default-clause-edits
-returns-in_default-clause-edits g c = edits_none _ g.met.P.SectorView.follows_refl c.requires.stands
+returns-in_default-clause-edits g c = edits_none _ g.met.P.SectorView.follows_refl c.requires.ready.stands

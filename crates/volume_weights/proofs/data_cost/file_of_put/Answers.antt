@@ -5,6 +5,8 @@ use Rattle.cat_records.specs.declared.record.FileRecord.{FileRecord}
 use Rattle.hfs_volume.specs.Content.{volume_of}
 use Rattle.hfs_volume.specs.Records.{is_thread}
 use Rattle.volume_weights.specs.DataWeighing.{IsFileOfPut}
+use Rattle.volume_base.specs.Cutting.{kind_of}
+use Rattle.volume_base.proofs.ForkKinds.{kind_is}
 use Rattle.volume_base.specs.declared.entries.Entry.{Entry}
 use Rattle.volume_weights.proofs.DataFork.{file_told, some_told}
 use Rattle.volume_base.proofs.FoundEntry.{not_none, settled_spelled}
@@ -16,11 +18,11 @@ entry-requires-clause-spelled g c tells = settled_spelled c.args.volume.now (g.P
 
 pub returns-in-Some-clause-found : goal.returns-in-Some-clause-found
 returns-in-Some-clause-found g c tells =
-    subst (λ (o : Option FileRecord). IfSome o (λ file. IsFileOfPut (volume_of (g.P.SectorView.space c.args.space.now).content) file c.args.put)) (sym c.file_of_record.ensures)
-    (file_told c.args.volume.now (g.P.SectorView.space c.args.space.now).content (c.requires.serves.stands.stands tells).trees (c.requires.serves.settled tells) c.args.put (c.requires.there tells).0 (c.requires.there tells).1 (c.requires.there tells).2 (c.requires.there tells).3 (c.requires.there tells).4 c.in-Some.entry (sym c.in-Some.is ∙ c.in_ok-entry.ensures.found tells) (subst (λ (o : Option Entry). IfSome o (λ entry. is_thread entry.rec ≡ false → FitsRecord entry.rec)) c.in-Some.is c.in_ok-entry.ensures.fits))
+    subst (λ (o : Option FileRecord). IfSome o (λ file. IsFileOfPut (kind_of c.args.kind) (volume_of (g.P.SectorView.space c.args.space.now).content) file c.args.put)) (sym c.file_of_record.ensures)
+    (file_told (kind_of c.args.kind) (kind_is c.args.kind) c.args.volume.now (g.P.SectorView.space c.args.space.now).content (c.requires.serves.stands.stands tells).trees (c.requires.serves.settled tells) c.args.put (c.requires.there tells).0 (c.requires.there tells).1 (c.requires.there tells).2 (c.requires.there tells).3 (c.requires.there tells).4 c.in-Some.entry (sym c.in-Some.is ∙ c.in_ok-entry.ensures.found tells) (subst (λ (o : Option Entry). IfSome o (λ entry. is_thread entry.rec ≡ false → FitsRecord entry.rec)) c.in-Some.is c.in_ok-entry.ensures.fits))
 
 pub returns-in-Some-clause-some : goal.returns-in-Some-clause-some
-returns-in-Some-clause-some g c tells = ap (λ (o : Option FileRecord). is_some o) c.file_of_record.ensures ∙ some_told c.args.volume.now (g.P.SectorView.space c.args.space.now).content (c.requires.serves.stands.stands tells).trees (c.requires.serves.settled tells) c.args.put (c.requires.there tells).0 (c.requires.there tells).1 (c.requires.there tells).2 (c.requires.there tells).3 (c.requires.there tells).4 c.in-Some.entry (sym c.in-Some.is ∙ c.in_ok-entry.ensures.found tells)
+returns-in-Some-clause-some g c tells = ap (λ (o : Option FileRecord). is_some o) c.file_of_record.ensures ∙ some_told (kind_of c.args.kind) (kind_is c.args.kind) c.args.volume.now (g.P.SectorView.space c.args.space.now).content (c.requires.serves.stands.stands tells).trees (c.requires.serves.settled tells) c.args.put (c.requires.there tells).0 (c.requires.there tells).1 (c.requires.there tells).2 (c.requires.there tells).3 (c.requires.there tells).4 c.in-Some.entry (sym c.in-Some.is ∙ c.in_ok-entry.ensures.found tells)
 
 pub returns-in-Some-clause-serves : goal.returns-in-Some-clause-serves
 returns-in-Some-clause-serves g c = serves_still c.entry.ensures.looked c.requires.serves

@@ -7,7 +7,7 @@ pub returns-then-is_empty-clause-kept : goal.returns-then-is_empty-clause-kept
 returns-then-is_empty-clause-kept c = kept_none c.self.inside.names.items c.self.inside.bytes.items c.args.self.now c.args.at c.args.from.now c.self.view_is (omega (arith, eqb-true _ 0 (sym c.if-is_empty.ensures), c.self.inside.names.ok.0)) c.told-from
 
 pub returns-clause-kept : goal.returns-clause-kept
-returns-clause-kept c = kept_slot c.self.inside.names.items c.self.inside.bytes.items c.args.self.now c.len.result c.args.at c.args.from.now c.self.invariant c.self.view_is (omega (arith, c.len.ensures, c.self.inside.names.ok.0)) c.told-from
+returns-clause-kept c = kept_slot c.self.inside.names.items c.self.inside.bytes.items c.args.self.now c.len.result c.args.at c.args.from.now c.self.invariant.slots c.self.view_is (omega (arith, c.len.ensures, c.self.inside.names.ok.0)) c.told-from
 
 pub returns-clause-holds : goal.returns-clause-holds
 returns-clause-holds c some = kept_holds c.args.self.now _ c.args.at c.args.from.now (returns-clause-kept c) some

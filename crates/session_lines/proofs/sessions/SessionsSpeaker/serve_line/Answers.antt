@@ -4,7 +4,7 @@ use Rattle.std.proofs.lemmas.Bool.{eqb-true}
 use Rattle.hfs_serving.specs.Going.{line_if}
 use Rattle.hfs_serving.specs.Speaking.{SpeaksLine, StopsSpeaking}
 use Rattle.hfs_serving.proofs.Batches.{goes_none, stops_there}
-use Rattle.hfs_serving.proofs.Caused.{causes_more, on_ok}
+use Rattle.hfs_serving.proofs.Caused.{causes_more, no_commit}
 use Rattle.hfs_serving.proofs.Hearing.{err_then}
 use Rattle.hfs_serving.proofs.Speeches.{stops_unspoken}
 use Rattle.hfs_serving.proofs.Tries.{if_ok}
@@ -18,7 +18,7 @@ returns-then-not-is_empty-clause-stops g c tells capacity committed now shrunk s
     let from = spoke_with c.args.self.now.table c.args.self.now.left.items in
     let nothing = goes_none capacity shrunk committed now old space stands.below stands.reads stands.leaves in
     let stopped = stops_there capacity shrunk committed now old [] committed now space old nothing in
-    (false, stops_unspoken capacity shrunk committed now old old c.args.number from BrokenSessions (λ start all spoke. spoke.spoken) (record { more = []; asked = refl; stops = stopped }))
+    (false, stops_unspoken capacity shrunk committed now old old c.args.number from BrokenSessions (λ start all spoke. spoke.spoken) (record { more = []; plain = tt; asked = refl; stops = stopped }))
 
 -- nothing is left where no file is
 none_left : (files : List ℕ) → (length files == 0) ≡ true → files ≡ []
@@ -49,4 +49,7 @@ returns-clause-stops g c tells capacity committed now shrunk stands =
     (c.serve.ensures.stops tells capacity committed now shrunk stands)
 
 pub returns-clause-caused : goal.returns-clause-caused
-returns-clause-caused g c tells = on_ok _ _ c.serve.result (λ made. causes_more _ 37008 (144 * 2 ^ 32) _ _ made (omega arith)) (c.serve.ensures.caused tells)
+returns-clause-caused g c tells = causes_more _ 37008 (144 * 2 ^ 32) _ _ (c.serve.ensures.caused tells) (omega arith)
+
+pub returns-then-not-is_empty-clause-caused : goal.returns-then-not-is_empty-clause-caused
+returns-then-not-is_empty-clause-caused g c tells = no_commit _ (144 * 2 ^ 32) _ _ (omega arith)

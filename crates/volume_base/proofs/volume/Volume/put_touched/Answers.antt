@@ -27,7 +27,7 @@ returns-clause-counts g c tells folder fits =
     ok_so (ReplacesRecord c.args.entry.now c.in-Some.rec c.args.self.now c.replace.new.self (g.P.SectorView.space c.args.space.now).content (g.P.SectorView.space c.replace.new.space).content)
     (TouchesFolder (id_in c.args.entry.now.rec) c.args.up c.args.down c.args.self.now c.replace.new.self (g.P.SectorView.space c.args.space.now).content (g.P.SectorView.space c.replace.new.space).content)
     c.replace.result (c.replace.ensures.replaces tells)
-    (λ r. touches_folder c.args.self.now.header.modify_date c.args.up c.args.down c.args.self.now c.replace.new.self (g.P.SectorView.space c.args.space.now).content (g.P.SectorView.space c.replace.new.space).content c.args.entry.now c.in-Some.rec refl (c.requires.there tells) folder
+    (λ r. touches_folder c.args.self.now.header.modify_date c.args.up c.args.down c.args.self.now c.replace.new.self (g.P.SectorView.space c.args.space.now).content (g.P.SectorView.space c.replace.new.space).content c.args.entry.now c.in-Some.rec refl (c.requires.ready.there tells) folder
     (sym (c.touched.ensures.same fits) ∙ c.in-Some.is) r)
 
 pub returns-in_default-clause-counts : goal.returns-in_default-clause-counts
@@ -37,7 +37,7 @@ pub returns-in_default-clause-room : goal.returns-in_default-clause-room
 returns-in_default-clause-room g c many room = room_less many c.args.self.now (g.P.SectorView.space c.args.space.now) room
 
 pub returns-in_default-clause-edits : goal.returns-in_default-clause-edits
-returns-in_default-clause-edits g c = edits_none _ g.met.P.SectorView.follows_refl c.requires.stands
+returns-in_default-clause-edits g c = edits_none _ g.met.P.SectorView.follows_refl c.requires.ready.stands
 
 pub returns-in_default-clause-updates : goal.returns-in_default-clause-updates
 returns-in_default-clause-updates g c names = updates_none 0 1 516 (state_of names c.args.self.now.catalog.file (g.P.SectorView.space c.args.space.now))

@@ -28,7 +28,7 @@ returns-in_ok-read_file-in-Ok-clause-reply g c tells =
     let old = g.P.SectorView.space c.args.space.now in
     told_content c.sound_has_plain_tree.ensures c.args.self.now old.content (c.requires.serves.stands.stands tells).trees (c.requires.serves.settled tells) c.args.path.now c.args.from c.args.long (sym c.is_private_path.ensures ∙ c.if-is_private_path.false) c.requires.fits
     c.in_ok-file.field-0 (c.in_ok-file.ensures.found tells) c.in-Ok.file _ c.in-Ok.is
-    (c.in_ok-read_file-in-Ok.ensures.bytes (c.file_to_read.ensures.looked.reads.looks.same.tells ∙ tells) ∙ ap (λ (content : Content). take c.args.long (drop c.args.from (file_bytes content c.in-Ok.file))) (c.file_to_read.ensures.looked.reads.looks.content tells))
+    (c.in_ok-read_file-in-Ok.ensures.bytes (c.file_to_read.ensures.looked.reads.looks.same.tells ∙ tells) ∙ ap (λ (content : Content). take c.args.long (drop c.args.from (file_bytes content c.in-Ok.file).data_bytes)) (c.file_to_read.ensures.looked.reads.looks.content tells))
 
 pub returns-in-Err-clause-reply : goal.returns-in-Err-clause-reply
 returns-in-Err-clause-reply g c tells =

@@ -36,7 +36,7 @@ pub returns-in_ok-read_file-in-Some-clause-bytes : goal.returns-in_ok-read_file-
 returns-in_ok-read_file-in-Some-clause-bytes g c tells =
     let old = (g.P.SectorView.space c.args.space.now).content in
     bytes_some c.args.self.now old (c.requires.serves.stands.stands tells).trees (c.requires.serves.settled tells) c.args.id c.args.from c.args.long c.in_ok-found.found (c.in_ok-found.ensures.found tells) c.in-Some.file (sym c.in-Some.is ∙ c.file_of.ensures) _
-    (c.in_ok-read_file-in-Some.ensures.bytes (c.entry.ensures.looked.reads.looks.same.tells ∙ tells) ∙ (λ i. take (c.from.ensures i) (drop c.args.from (file_bytes (c.entry.ensures.looked.reads.looks.content tells i) c.in-Some.file))))
+    (c.in_ok-read_file-in-Some.ensures.bytes (c.entry.ensures.looked.reads.looks.same.tells ∙ tells) ∙ (λ i. take (c.from.ensures i) (drop c.args.from (file_bytes (c.entry.ensures.looked.reads.looks.content tells i) c.in-Some.file).data_bytes)))
 
 pub returns-in_ok-read_file-in-Some-clause-seen : goal.returns-in_ok-read_file-in-Some-clause-seen
 returns-in_ok-read_file-in-Some-clause-seen g c tells file there kind =

@@ -11,21 +11,21 @@ use Rattle.volume_base.proofs.volume.Volume.replace.Goals as goal
 
 pub update-requires-clause-same_kind : goal.update-requires-clause-same_kind
 update-requires-clause-same_kind g c tells =
-    kind_there (pairs_in (sectors_of_tree c.args.self.now.catalog.file) (g.P.SectorView.space c.args.space.now).content) c.args.entry.now.parent c.args.entry.now.name c.args.entry.now.rec c.args.rec.now (c.requires.there tells) c.requires.same_kind
+    kind_there (pairs_in (sectors_of_tree c.args.self.now.catalog.file) (g.P.SectorView.space c.args.space.now).content) c.args.entry.now.parent c.args.entry.now.name c.args.entry.now.rec c.args.rec.now (c.requires.ready.there tells) c.requires.same_kind
 
 pub update-requires-clause-room : goal.update-requires-clause-room
 update-requires-clause-room g c =
     let large : 4096 ≤ c.args.self.now.catalog.file.shape.node_size = omega (arith, c.if-shape-lt4096.false, ap (λ (s : TreeShape). s.node_size) c.shape.ensures) in
-    update_room c.args.self.now (g.P.SectorView.space c.args.space.now) large c.requires.room
+    update_room c.args.self.now (g.P.SectorView.space c.args.space.now) large c.requires.ready.room
 
 pub returns-clause-replaces : goal.returns-clause-replaces
 returns-clause-replaces g c tells =
-    replaces c.args.self.now c.update.new.self (g.P.SectorView.space c.args.space.now) (g.P.SectorView.space c.update.new.space) c.args.entry.now c.args.rec.now c.requires.stands tells c.update.ensures.frame.space.same.tells
-    c.update.ensures.frame c.update.ensures.rest (c.requires.there tells) (Ok c.in_ok-update.field-0) c.in_ok-update.ensures.edits.ran.stands (c.in_ok-update.ensures.answer tells) (c.in_ok-update.ensures.updated tells)
+    replaces c.args.self.now c.update.new.self (g.P.SectorView.space c.args.space.now) (g.P.SectorView.space c.update.new.space) c.args.entry.now c.args.rec.now c.requires.ready.stands tells c.update.ensures.frame.space.same.tells
+    c.update.ensures.frame c.update.ensures.rest (c.requires.ready.there tells) (Ok c.in_ok-update.field-0) c.in_ok-update.ensures.edits.ran.stands (c.in_ok-update.ensures.answer tells) (c.in_ok-update.ensures.updated tells)
 
 pub returns-then-shape-lt4096-clause-replaces : goal.returns-then-shape-lt4096-clause-replaces
 returns-then-shape-lt4096-clause-replaces g c tells =
-    absurd (omega (arith, c.if-shape-lt4096.true, ap (λ (s : TreeShape). s.node_size) c.shape.ensures, node_large c.args.self.now (g.P.SectorView.space c.args.space.now) c.requires.stands tells))
+    absurd (omega (arith, c.if-shape-lt4096.true, ap (λ (s : TreeShape). s.node_size) c.shape.ensures, node_large c.args.self.now (g.P.SectorView.space c.args.space.now) c.requires.ready.stands tells))
 
 pub returns-clause-room : goal.returns-clause-room
 returns-clause-room g c many room =
@@ -47,7 +47,7 @@ pub returns-clause-updates : goal.returns-clause-updates
 returns-clause-updates g c = c.in_ok-update.ensures.updates
 
 pub returns-then-shape-lt4096-clause-edits : goal.returns-then-shape-lt4096-clause-edits
-returns-then-shape-lt4096-clause-edits g c = edits_none _ g.met.P.SectorView.follows_refl c.requires.stands
+returns-then-shape-lt4096-clause-edits g c = edits_none _ g.met.P.SectorView.follows_refl c.requires.ready.stands
 
 pub returns-in_err-update-clause-edits : goal.returns-in_err-update-clause-edits
 returns-in_err-update-clause-edits g c =

@@ -1,0 +1,38 @@
+use Rattle.std.proofs.Common.{◌≡◌, Result, subst}
+use Rattle.std.specs.Prelude.{IfErr, IfOk, None, Some}
+use Rattle.sector_disk.specs.Disk.{content}
+use Rattle.volume_header.specs.Refusal.{header_refusal}
+use Rattle.volume_header.specs.declared.header.VolumeHeader.{VolumeHeader}
+use Rattle.volume_header.specs.declared.refusal.HeaderRefusal.{HeaderRefusal}
+use Rattle.jnl_format.specs.Recovery.{header_of_volume}
+use Rattle.jnl_replay.proofs.Checks.{length-content}
+use Rattle.jnl_replay.proofs.Found.{header_refused, place_fits, place_found, place_refused}
+use Rattle.jnl_replay.proofs.finding.find_place.Goals as goal
+
+pub returns-in-Ok-clause-found : goal.returns-in-Ok-clause-found
+returns-in-Ok-clause-found g c tells =
+    let s0 = g.D.SectorDisk.state c.args.disk.now in
+    let accepted = subst (λ (r : Result VolumeHeader HeaderRefusal). IfOk r (λ head. header_refusal head s0.sectors ≡ None)) c.in-Ok.is c.in_ok-found.ensures.accepted in
+    let is = subst (λ (r : Result VolumeHeader HeaderRefusal). IfOk r (λ head. head ≡ header_of_volume (content s0))) c.in-Ok.is (c.in_ok-found.ensures.header tells) in
+    place_found c.in-Ok.header s0.sectors accepted (content s0) is (length-content s0 (g.met.D.SectorDisk.well_formed c.args.disk.now) tells)
+    c.unlocked_place.result c.unlocked_place.ensures.unlocked c.unlocked_place.ensures.place
+
+pub returns-in-Ok-clause-refused : goal.returns-in-Ok-clause-refused
+returns-in-Ok-clause-refused g c tells =
+    let s0 = g.D.SectorDisk.state c.args.disk.now in
+    let accepted = subst (λ (r : Result VolumeHeader HeaderRefusal). IfOk r (λ head. header_refusal head s0.sectors ≡ None)) c.in-Ok.is c.in_ok-found.ensures.accepted in
+    let is = subst (λ (r : Result VolumeHeader HeaderRefusal). IfOk r (λ head. head ≡ header_of_volume (content s0))) c.in-Ok.is (c.in_ok-found.ensures.header tells) in
+    place_refused c.in-Ok.header s0.sectors accepted (content s0) is (length-content s0 (g.met.D.SectorDisk.well_formed c.args.disk.now) tells)
+    c.unlocked_place.result c.unlocked_place.ensures.locked
+
+pub returns-in-Ok-clause-fits : goal.returns-in-Ok-clause-fits
+returns-in-Ok-clause-fits g c =
+    let s0 = g.D.SectorDisk.state c.args.disk.now in
+    let accepted = subst (λ (r : Result VolumeHeader HeaderRefusal). IfOk r (λ head. header_refusal head s0.sectors ≡ None)) c.in-Ok.is c.in_ok-found.ensures.accepted in
+    place_fits c.in-Ok.header s0.sectors accepted c.unlocked_place.result c.unlocked_place.ensures.place
+
+pub returns-in-Err-clause-refused : goal.returns-in-Err-clause-refused
+returns-in-Err-clause-refused g c tells =
+    let s0 = g.D.SectorDisk.state c.args.disk.now in
+    let refused = subst (λ (r : Result VolumeHeader HeaderRefusal). IfErr r (λ why. header_refusal (header_of_volume (content s0)) s0.sectors ≡ Some why)) c.in-Err.is (c.in_ok-found.ensures.refused tells) in
+    header_refused (content s0) s0.sectors c.in-Err.why (length-content s0 (g.met.D.SectorDisk.well_formed c.args.disk.now) tells) refused

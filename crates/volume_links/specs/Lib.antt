@@ -1,0 +1,5 @@
+pub mod Judging
+pub mod Links
+pub mod Resources
+pub mod Steps
+pub mod Wanting
